@@ -1,0 +1,245 @@
+-- Six bytes say each request whose numbers are in range, and say no other; a request that was decoded is packed into its bytes again.
+-- Assumes nothing.
+use Prim.Native.Nat.{ℕ, zero, suc, _^_, _<_}
+use native.Mathlib.Omega.{arith}
+use mathlib.Core.Path.{_≡_, refl, sym, ap, _∙_, subst}
+use mathlib.Core.Bool.{Bool, true, false, cond, _&&_, _||_}
+use mathlib.Core.List.{List}
+use lib.ListN.{length}
+use lib.Dec.{eqb, ltb, leb}
+use borrow.Author.Tests.{lt-ltb, ltb-true, eqb-true, eq-eqb, leb-true}
+use Rattle.bits.specs.Bits.{Bytes}
+use Rattle.model.specs.declared.Mode.{Mode}
+use Rattle.model.specs.declared.Mode.the-variants.{Read, Write, Append, Execute}
+use Rattle.model.specs.declared.Fields.{Fields}
+use Rattle.model.specs.declared.Request.{Request}
+use Rattle.model.specs.declared.Request.the-variants.{Get, Release, Give, Rescind, Create, Delete, ChangeLevel}
+use Rattle.model.specs.declared.Decoded.{Decoded}
+use Rattle.model.specs.declared.Decoded.the-variants.{Malformed, Says}
+use Rattle.model.specs.Requests.{requestSize, fields, modeNumber, modeOf, modeAllowed, unusedZero, wellFormed, request, decodeFields, decode, fieldsOf, pack, encode, InRange}
+use Rattle.model.proofs.Tests.{and-left, and-right, and-both, or-cases, split, clash, apart, cond-true, cond-false}
+use Rattle.model.proofs.Packing.{FieldsFit, fields-fit, pack-length, fields-packed, packed-fields}
+
+-- ---- what a request says, and back
+
+mode-back : (x : Mode) → modeOf (modeNumber x) ≡ x
+mode-back Read = refl
+mode-back Write = refl
+mode-back Append = refl
+mode-back Execute = refl
+
+mode-moded : (x : Mode) → (leb 1 (modeNumber x) && leb (modeNumber x) 4) ≡ true
+mode-moded Read = refl
+mode-moded Write = refl
+mode-moded Append = refl
+mode-moded Execute = refl
+
+mode-below : (x : Mode) → modeNumber x < 2 ^ 3
+mode-below Read = omega arith
+mode-below Write = omega arith
+mode-below Append = omega arith
+mode-below Execute = omega arith
+
+mode-number : (x : ℕ) → (leb 1 x && leb x 4) ≡ true → modeNumber (modeOf x) ≡ x
+mode-number zero e = clash (sym e)
+mode-number (suc zero) e = refl
+mode-number (suc (suc zero)) e = refl
+mode-number (suc (suc (suc zero))) e = refl
+mode-number (suc (suc (suc (suc zero)))) e = refl
+mode-number (suc (suc (suc (suc (suc x))))) e = absurd (omega (arith, leb-true (suc (suc (suc (suc (suc x))))) 4 (and-right (leb 1 (suc (suc (suc (suc (suc x)))))) (leb (suc (suc (suc (suc (suc x))))) 4) e)))
+
+create-number : (x : ℕ) → (eqb x 0 || eqb x 4) ≡ true → cond (eqb x 4) 4 0 ≡ x
+create-number x e =
+    or-cases (eqb x 0) (eqb x 4) e
+    (λ q. let z : x ≡ 0 = eqb-true x 0 q in ap (λ (y : ℕ). cond (eqb y 4) 4 0) z ∙ sym z)
+    (λ q. let z : x ≡ 4 = eqb-true x 4 q in ap (λ (y : ℕ). cond (eqb y 4) 4 0) z ∙ sym z)
+
+-- the parts of the test of the fields
+module _ (f : Fields) (e : wellFormed f ≡ true) where
+  in-kinds : (leb 1 (f .kind) && leb (f .kind) 7) ≡ true
+  unfolding wellFormed
+  in-kinds = and-left (leb 1 (f .kind) && leb (f .kind) 7) _ e
+
+  pub actor-in : f .actor < 16
+  unfolding wellFormed
+  actor-in = ltb-true _ _ (and-left (ltb (f .actor) 16) _ (and-right (leb 1 (f .kind) && leb (f .kind) 7) _ e))
+
+  after-actor : (ltb (f .other) 16 && (ltb (f .object) 64 && (modeAllowed (f .kind) (f .mode) && unusedZero f))) ≡ true
+  unfolding wellFormed
+  after-actor = and-right (ltb (f .actor) 16) _ (and-right (leb 1 (f .kind) && leb (f .kind) 7) _ e)
+
+  pub other-in : f .other < 16
+  other-in = ltb-true _ _ (and-left (ltb (f .other) 16) _ after-actor)
+
+  pub object-in : f .object < 64
+  object-in = ltb-true _ _ (and-left (ltb (f .object) 64) _ (and-right (ltb (f .other) 16) _ after-actor))
+
+  last-two : (modeAllowed (f .kind) (f .mode) && unusedZero f) ≡ true
+  last-two = and-right (ltb (f .object) 64) _ (and-right (ltb (f .other) 16) _ after-actor)
+
+-- the parts of the test of unused fields, where its kind is known
+module _ (k a t o x c n z : ℕ) where
+  abbrev it : Fields
+  it = record { kind = k; actor = a; other = t; object = o; mode = x; class = c; needs = n; spare = z }
+
+  spare-zero : unusedZero it ≡ true → z ≡ 0
+  unfolding unusedZero
+  spare-zero e =
+      eqb-true z 0
+      (and-right (eqb k 7 || (eqb c 0 && eqb n 0)) (eqb z 0) (and-right (eqb k 3 || (eqb k 4 || eqb t 0)) _ e))
+
+  other-zero : eqb k 3 ≡ false → eqb k 4 ≡ false → unusedZero it ≡ true → t ≡ 0
+  unfolding unusedZero
+  other-zero p q e =
+      or-cases (eqb k 3) (eqb k 4 || eqb t 0) (and-left (eqb k 3 || (eqb k 4 || eqb t 0)) _ e) (λ w. apart w p)
+      (λ w. or-cases (eqb k 4) (eqb t 0) w (λ v. apart v q) (λ v. eqb-true t 0 v))
+
+  level-zero : eqb k 7 ≡ false → unusedZero it ≡ true → (c ≡ 0) × (n ≡ 0)
+  unfolding unusedZero
+  level-zero p e =
+      or-cases (eqb k 7) (eqb c 0 && eqb n 0) (and-left (eqb k 7 || (eqb c 0 && eqb n 0)) _ (and-right (eqb k 3 || (eqb k 4 || eqb t 0)) _ e)) (λ w. apart w p)
+      (λ w. (eqb-true c 0 (and-left (eqb c 0) _ w), eqb-true n 0 (and-right (eqb c 0) _ w)))
+
+  -- of a kind that has no level
+  plain-back : (u y : ℕ) → eqb k 7 ≡ false → unusedZero it ≡ true → u ≡ t → y ≡ x
+      → _≡_ {A = Fields} (record { kind = k; actor = a; other = u; object = o; mode = y; class = 0; needs = 0; spare = 0 }) it
+  plain-back u y e h p q =
+      let r = sym (level-zero e h .0) in
+      let s = sym (level-zero e h .1) in
+      let v = sym (spare-zero h) in
+      λ i. record { kind = k; actor = a; other = p i; object = o; mode = q i; class = r i; needs = s i; spare = v i }
+
+beyond-seven : {P : Type 0} (k : ℕ) → (leb 1 k && leb k 7) ≡ true → 7 < k → P
+beyond-seven k h g = absurd (omega (arith, g, leb-true k 7 (and-right (leb 1 k) (leb k 7) h)))
+
+-- the fields of the request that well-formed fields say
+request-fields : (k a t o x c n z : ℕ) → (leb 1 k && leb k 7) ≡ true → modeAllowed k x ≡ true → unusedZero (it k a t o x c n z) ≡ true
+    → fieldsOf (request (it k a t o x c n z)) ≡ it k a t o x c n z
+unfolding request modeAllowed
+request-fields zero a t o x c n z h m u = clash (sym h)
+request-fields (suc zero) a t o x c n z h m u =
+    plain-back 1 a t o x c n z 0 _ refl u (sym (other-zero 1 a t o x c n z refl refl u)) (mode-number x m)
+request-fields (suc (suc zero)) a t o x c n z h m u =
+    plain-back 2 a t o x c n z 0 _ refl u (sym (other-zero 2 a t o x c n z refl refl u)) (mode-number x m)
+request-fields (suc (suc (suc zero))) a t o x c n z h m u = plain-back 3 a t o x c n z t _ refl u refl (mode-number x m)
+request-fields (suc (suc (suc (suc zero)))) a t o x c n z h m u = plain-back 4 a t o x c n z t _ refl u refl (mode-number x m)
+request-fields (suc (suc (suc (suc (suc zero))))) a t o x c n z h m u =
+    plain-back 5 a t o x c n z 0 _ refl u (sym (other-zero 5 a t o x c n z refl refl u)) (create-number x m)
+request-fields (suc (suc (suc (suc (suc (suc zero)))))) a t o x c n z h m u =
+    plain-back 6 a t o x c n z 0 0 refl u (sym (other-zero 6 a t o x c n z refl refl u)) (sym (eqb-true x 0 m))
+request-fields (suc (suc (suc (suc (suc (suc (suc zero))))))) a t o x c n z h m u =
+    let p = other-zero 7 a t o x c n z refl refl u in
+    let q = eqb-true x 0 m in
+    let r = spare-zero 7 a t o x c n z u in
+    λ i. record { kind = 7; actor = a; other = sym p i; object = o; mode = sym q i; class = c; needs = n; spare = sym r i }
+request-fields (suc (suc (suc (suc (suc (suc (suc (suc k)))))))) a t o x c n z h m u =
+    beyond-seven (suc (suc (suc (suc (suc (suc (suc (suc k)))))))) h (omega arith)
+
+-- what the fields say is in range
+request-in : (f : Fields) → FieldsFit f → wellFormed f ≡ true → InRange (request f)
+unfolding request
+request-in f F e =
+    let a = actor-in f e in
+    let t = other-in f e in
+    let o = object-in f e in
+    pick (eqb (f .kind) 1) _ _ (a, o)
+    (pick (eqb (f .kind) 2) _ _ (a, o)
+    (pick (eqb (f .kind) 3) _ _ (a, t, o)
+    (pick (eqb (f .kind) 4) _ _ (a, t, o)
+    (pick (eqb (f .kind) 5) _ _ (a, o)
+    (pick (eqb (f .kind) 6) _ _ (a, o) (a, o, (F .class, F .needs)))))))
+  where
+    pick : (b : Bool) (x y : Request) → InRange x → InRange y → InRange (cond b x y)
+    pick true x y p q = p
+    pick false x y p q = q
+
+-- ---- decoding
+
+-- what a byte string that is not malformed says: its length, its fields, the request
+pub decode-says : (b : List ℕ) (q : Request) → decode b ≡ Says q → (length b ≡ requestSize) × (wellFormed (fields b) ≡ true) × (request (fields b) ≡ q)
+unfolding decode decodeFields
+decode-says b q e =
+    split (eqb (length b) 6)
+    (λ w. split (wellFormed (fields b))
+    (λ v. (eqb-true (length b) 6 w, v, says-inj (sym (cond-true _ _ _ v) ∙ sym (cond-true _ _ _ w) ∙ e)))
+    (λ v. says-not (sym (cond-false _ _ _ v) ∙ sym (cond-true _ _ _ w) ∙ e)))
+    (λ w. says-not (sym (cond-false _ _ _ w) ∙ e))
+  where
+    said : Decoded → Request
+    said Malformed = q
+    said (Says r) = r
+
+    says-inj : {r : Request} → Says r ≡ Says q → r ≡ q
+    says-inj p = ap said p
+
+    isSays : Decoded → Bool
+    isSays Malformed = false
+    isSays (Says r) = true
+
+    says-not : {P : Type 0} → Malformed ≡ Says q → P
+    says-not p = clash (sym (ap isSays p))
+
+pub says-decode : (b : List ℕ) → length b ≡ requestSize → wellFormed (fields b) ≡ true → decode b ≡ Says (request (fields b))
+unfolding decode decodeFields
+says-decode b l w = cond-true _ _ _ (eq-eqb (length b) 6 l) ∙ cond-true _ _ _ w
+
+pub decode-range : (b : List ℕ) (q : Request) → decode b ≡ Says q → InRange q
+decode-range b q e =
+    let d = decode-says b q e in
+    subst InRange (d .2) (request-in (fields b) (fields-fit b) (d .1))
+
+-- a request that decodes encodes back to its bytes
+pub decode-encode : (b : List ℕ) (q : Request) → Bytes b → decode b ≡ Says q → encode q ≡ b
+decode-encode b q hb e =
+    let d = decode-says b q e in
+    let f = fields b in
+    let back : fieldsOf (request f) ≡ f =
+    request-fields (f .kind) (f .actor) (f .other) (f .object) (f .mode) (f .class) (f .needs) (f .spare)
+    (in-kinds f (d .1)) (and-left (modeAllowed (f .kind) (f .mode)) _ (last-two f (d .1))) (and-right (modeAllowed (f .kind) (f .mode)) _ (last-two f (d .1))) in
+    ap encode (sym (d .2)) ∙ ap pack back ∙ packed-fields b hb (d .0)
+
+-- ---- encoding
+
+fieldsOf-fit : (q : Request) → InRange q → FieldsFit (fieldsOf q)
+fieldsOf-fit (Get s o x) r = omega (arith, r .0, r .1, mode-below x)
+fieldsOf-fit (Release s o x) r = omega (arith, r .0, r .1, mode-below x)
+fieldsOf-fit (Give s t o x) r = omega (arith, r .0, r .1, r .2, mode-below x)
+fieldsOf-fit (Rescind s t o x) r = omega (arith, r .0, r .1, r .2, mode-below x)
+fieldsOf-fit (Create s o true) r = omega (arith, r .0, r .1)
+fieldsOf-fit (Create s o false) r = omega (arith, r .0, r .1)
+fieldsOf-fit (Delete s o) r = omega (arith, r .0, r .1)
+fieldsOf-fit (ChangeLevel s o l) r = omega (arith, r .0, r .1, r .2 .0, r .2 .1)
+
+in-range : (f : Fields) → (leb 1 (f .kind) && leb (f .kind) 7) ≡ true → f .actor < 16 → f .other < 16 → f .object < 64
+    → modeAllowed (f .kind) (f .mode) ≡ true → unusedZero f ≡ true → wellFormed f ≡ true
+unfolding wellFormed
+in-range f k a t o m u =
+    and-both k (and-both (lt-ltb _ _ a) (and-both (lt-ltb _ _ t) (and-both (lt-ltb _ _ o) (and-both m u))))
+
+fieldsOf-formed : (q : Request) → InRange q → wellFormed (fieldsOf q) ≡ true
+unfolding modeAllowed unusedZero
+fieldsOf-formed (Get s o x) r = in-range _ refl (r .0) (omega arith) (r .1) (mode-moded x) refl
+fieldsOf-formed (Release s o x) r = in-range _ refl (r .0) (omega arith) (r .1) (mode-moded x) refl
+fieldsOf-formed (Give s t o x) r = in-range _ refl (r .0) (r .1) (r .2) (mode-moded x) refl
+fieldsOf-formed (Rescind s t o x) r = in-range _ refl (r .0) (r .1) (r .2) (mode-moded x) refl
+fieldsOf-formed (Create s o true) r = in-range _ refl (r .0) (omega arith) (r .1) refl refl
+fieldsOf-formed (Create s o false) r = in-range _ refl (r .0) (omega arith) (r .1) refl refl
+fieldsOf-formed (Delete s o) r = in-range _ refl (r .0) (omega arith) (r .1) refl refl
+fieldsOf-formed (ChangeLevel s o l) r = in-range _ refl (r .0) (omega arith) (r .1) refl refl
+
+request-back : (q : Request) → request (fieldsOf q) ≡ q
+unfolding request
+request-back (Get s o x) = ap (Get s o) (mode-back x)
+request-back (Release s o x) = ap (Release s o) (mode-back x)
+request-back (Give s t o x) = ap (Give s t o) (mode-back x)
+request-back (Rescind s t o x) = ap (Rescind s t o) (mode-back x)
+request-back (Create s o true) = refl
+request-back (Create s o false) = refl
+request-back (Delete s o) = refl
+request-back (ChangeLevel s o l) = refl
+
+-- six bytes say each request in range
+pub encode-decode : (q : Request) → InRange q → decode (encode q) ≡ Says q
+encode-decode q r =
+    let f = fields-packed (fieldsOf q) (fieldsOf-fit q r) in
+    says-decode (encode q) (pack-length (fieldsOf q)) (ap wellFormed f ∙ fieldsOf-formed q r) ∙ ap (λ (g : Fields). Says (request g)) f ∙ ap Says (request-back q)

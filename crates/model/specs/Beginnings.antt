@@ -1,0 +1,41 @@
+-- Beginnings, and the monitors that they and lists of requests after them reach (demands 2 and 3).
+-- Assumes nothing.
+use Prim.Native.Nat.{ℕ}
+use mathlib.Core.Path.{_≡_}
+use mathlib.Core.List.{List, [], _∷_}
+use Rattle.bits.specs.Bits.{Bytes}
+use Rattle.model.specs.declared.Monitor.{Monitor}
+use Rattle.model.specs.declared.Decision.the-variants.{Granted}
+use Rattle.model.specs.declared.Response.{Response}
+use Rattle.model.specs.Runs.{after}
+use Rattle.model.specs.Reading.{readTable, readImage}
+
+-- "begun from an accepted table or image"
+pub data Beginning : Type 0 where
+  table : List ℕ → Beginning
+  image : List ℕ → Beginning
+
+-- what the reader returns
+abbrev pub begun : Beginning → Response
+begun (table b) = readTable b
+begun (image b) = readImage b
+
+-- "A table is accepted exactly when none of its checks refuses it"
+abbrev pub Accepted : Beginning → Type 0
+Accepted b = begun b .decision ≡ Granted
+
+-- the monitor that a list of requests leaves
+abbrev pub left : Beginning → List (List ℕ) → Monitor
+left b qs = after qs (begun b .monitor)
+
+-- a monitor "begun from an accepted table or image" and "after its own list of requests"
+pub record Reached (m : Monitor) : Type 0 where
+  pub beginning : Beginning
+  pub accepted : Accepted beginning
+  pub requests : List (List ℕ)
+  pub reaches : left beginning requests ≡ m
+
+-- lists of byte strings: each element of each is a byte
+abbrev pub AllBytes : List (List ℕ) → Type 0
+AllBytes [] = Unit {0}
+AllBytes (b ∷ bs) = Bytes b × AllBytes bs

@@ -1,0 +1,41 @@
+-- The number of each answer ("Reply 0", "Reply 1" and "Refused causes" in the scope).
+-- Assumes nothing.
+use Prim.Native.Nat.{ℕ}
+use mathlib.Core.Bool.{Bool, true, false}
+use lib.Dec.{leb}
+use Rattle.model.specs.declared.Decision.{Decision}
+use Rattle.model.specs.declared.Decision.the-variants.{Granted, Already, MalformedRequest, NotEnrolled, NotLive, AlreadyLive, NoRight, NoLabel, SimpleBroken, StarBroken, WrongLength, StrayBits, AbsentSubject, ShortBuffer}
+
+abbrev pub number : Decision → ℕ
+-- "granted and the state changed"; "An accepted table or image returns 0", "a writing returns 0"
+number Granted = 0
+-- "granted and the state was so already"
+number Already = 1
+-- "request not 6 bytes; kind not 1 to 7; ..; an unused field not 0"
+number MalformedRequest = 2
+-- "actor, or in kinds 3 and 4 the other subject, not enrolled"
+number NotEnrolled = 3
+-- "object not live"
+number NotLive = 4
+-- "create on a live object"
+number AlreadyLive = 5
+-- "right or ownership missing; image: access outside the matrix"
+number NoRight = 6
+-- "no label; image: r, w or a held on such an object"
+number NoLabel = 7
+-- "simple property would break; image: is broken"
+number SimpleBroken = 8
+-- "star property would break; image: is broken"
+number StarBroken = 9
+-- "table or image of another length"
+number WrongLength = 10
+-- "an absent table record, object record or label with another of its own bits set"
+number StrayBits = 11
+-- "an absent subject owns, has a right or holds"
+number AbsentSubject = 12
+-- "buffer under the image's size"
+number ShortBuffer = 13
+
+-- every number from 2 on is a refusal
+abbrev pub refuses : Decision → Bool
+refuses d = leb 2 (number d)

@@ -1,0 +1,80 @@
+-- The layout of table and image ("Image and table" in the scope): every size and offset once, and the bits of each record.
+-- Assumes nothing.
+use Prim.Native.Nat.{ℕ}
+use mathlib.Core.Bool.{Bool, true, false}
+use mathlib.Core.List.{List, [], _∷_, _++_, map}
+use lib.ListN.{replicate}
+use Rattle.bits.specs.Bits.{toBits, bitsToBytes, join}
+use Rattle.model.specs.declared.Label.{Label}
+use Rattle.model.specs.declared.Label.the-variants.{Absent, Present}
+use Rattle.model.specs.declared.Subject.{Subject}
+use Rattle.model.specs.declared.Object.{Object}
+use Rattle.model.specs.declared.Monitor.{Monitor}
+
+-- "subject records of 21 bits (enrolled 1, class 4, needs 16)"; a label has the same form
+abbrev pub labelWidth : ℕ
+labelWidth = 21
+
+abbrev pub classWidth : ℕ
+classWidth = 4
+
+abbrev pub needsWidth : ℕ
+needsWidth = 16
+
+-- "object records of 154 bits: live 1, owner 4, label present 1, class 4, needs 16, then for subjects 0 to 15 four right bits and four access bits"
+abbrev pub objectWidth : ℕ
+objectWidth = 154
+
+abbrev pub ownerWidth : ℕ
+ownerWidth = 4
+
+abbrev pub setWidth : ℕ
+setWidth = 4
+
+-- where the label and the sets of an object record begin
+abbrev pub labelOffset : ℕ
+labelOffset = 5
+
+abbrev pub setsOffset : ℕ
+setsOffset = 26
+
+-- "42 bytes"; "The object records begin at byte 42"; "In all 1,274 bytes"
+abbrev pub tableSize : ℕ
+tableSize = 42
+
+abbrev pub imageSize : ℕ
+imageSize = 1274
+
+-- present 1, class 4, needs 16; "What is absent .. has all its other bits 0"
+unfoldable pub labelBits : Label → List Bool
+labelBits Absent = replicate labelWidth false
+labelBits (Present l) = true ∷ (toBits classWidth (l .class) ++ toBits needsWidth (l .needs))
+
+-- "a subject's table record"
+abbrev pub subjectBits : Subject → List Bool
+subjectBits s = labelBits (s .clearance)
+
+-- "for subjects 0 to 15 four right bits and four access bits"
+unfoldable pub setsBits : List ℕ → List ℕ → List Bool
+setsBits [] hs = []
+setsBits (r ∷ rs) [] = []
+setsBits (r ∷ rs) (h ∷ hs) = (toBits setWidth r ++ toBits setWidth h) ++ setsBits rs hs
+
+-- "live 1, owner 4", the label, the sets
+unfoldable pub objectBits : Object → List Bool
+objectBits ob = ob .live ∷ (toBits ownerWidth (ob .owner) ++ (labelBits (ob .label) ++ setsBits (ob .rights) (ob .held)))
+
+-- "The table is 16 subject records"
+abbrev pub tableBits : List Subject → List Bool
+tableBits l = join (map subjectBits l)
+
+-- "64 object records", "a part of their own"
+abbrev pub objectsBits : List Object → List Bool
+objectsBits l = join (map objectBits l)
+
+-- "The image is the table and then 64 object records", "no padding, fields packed most significant bit first"
+unfoldable pub imageBits : Monitor → List Bool
+imageBits m = tableBits (m .subjects) ++ objectsBits (m .objects)
+
+unfoldable pub imageOf : Monitor → List ℕ
+imageOf m = bitsToBytes imageSize (imageBits m)

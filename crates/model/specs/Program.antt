@@ -1,0 +1,36 @@
+-- The program `circmon`: from the bytes on standard input to the bytes on standard output.
+-- Assumes nothing.
+use Prim.Native.Nat.{ℕ, _+_, _*_, _/_, _%_}
+use mathlib.Core.Bool.{Bool, cond}
+use mathlib.Core.List.{List, [], _∷_, _++_, map}
+use lib.ListN.{length, take, drop}
+use lib.Dec.{ltb}
+use Rattle.bits.specs.Bits.{cut, join}
+use Rattle.model.specs.declared.Response.{Response}
+use Rattle.model.specs.Decisions.{number, refuses}
+use Rattle.model.specs.Requests.{requestSize}
+use Rattle.model.specs.Runs.{replies}
+use Rattle.model.specs.Layout.{tableSize}
+use Rattle.model.specs.Reading.{readTable}
+
+-- "at most 4,096 six-byte requests"
+abbrev pub mostRequests : ℕ
+mostRequests = 4096
+
+-- six-byte pieces, "a last short piece" among them
+unfoldable pub pieces : List ℕ → List (List ℕ)
+pieces b = cut ((length b + 5) / requestSize) requestSize b
+
+-- "one line for each request, the reply in decimal": digits, then a newline
+unfoldable pub line : ℕ → List ℕ
+line n = cond (ltb n 10) ((48 + n) ∷ 10 ∷ []) ((48 + n / 10) ∷ (48 + n % 10) ∷ 10 ∷ [])
+
+-- the replies to the requests in a row, or what the table's reader answered
+unfoldable pub linesAfter : Response → List ℕ → List ℕ
+linesAfter r requests =
+    cond (refuses (r .decision)) (line (number (r .decision)))
+    (join (map line (replies (pieces requests) (r .monitor))))
+
+-- "reads from standard input 42 bytes of table, then at most 4,096 six-byte requests, with bytes after these unread"
+unfoldable pub program : List ℕ → List ℕ
+program input = linesAfter (readTable (take tableSize input)) (take (requestSize * mostRequests) (drop tableSize input))

@@ -1,0 +1,142 @@
+-- Reading a table and an image: what the bits say, their form, and the checks in order.
+-- Assumes nothing.
+use Prim.Native.Nat.{ℕ}
+use mathlib.Core.Bool.{Bool, true, false, cond, _&&_, _||_}
+use mathlib.Core.List.{List, map}
+use lib.ListN.{length, take, drop}
+use lib.Dec.{eqb}
+use Rattle.bits.specs.Bits.{fromBits, bytesToBits, cut, first, allZero}
+use Rattle.model.specs.declared.Label.{Label}
+use Rattle.model.specs.declared.Label.the-variants.{Absent, Present}
+use Rattle.model.specs.declared.Subject.{Subject}
+use Rattle.model.specs.declared.Object.{Object}
+use Rattle.model.specs.declared.Monitor.{Monitor}
+use Rattle.model.specs.declared.Decision.{Decision}
+use Rattle.model.specs.declared.Decision.the-variants.{Granted, NoRight, NoLabel, SimpleBroken, StarBroken, WrongLength, StrayBits, AbsentSubject}
+use Rattle.model.specs.declared.Response.{Response}
+use Rattle.model.specs.Tests.{allBelow, allOf, implies, unless}
+use Rattle.model.specs.Levels.{subset, present}
+use Rattle.model.specs.Modes.{anyNeedsLabel}
+use Rattle.model.specs.State.{subjectCount, objectCount, noObject, clearanceAt, rightsOf, heldBy, fresh, emptyMonitor}
+use Rattle.model.specs.Decisions.{refuses}
+use Rattle.model.specs.Rules.{simpleAll, starAll}
+use Rattle.model.specs.Layout.{labelWidth, classWidth, needsWidth, objectWidth, ownerWidth, setWidth, labelOffset, setsOffset, tableSize, imageSize}
+
+-- ---- what the bits of a record say
+
+-- w bits of a record from bit i on, as a number
+abbrev pub fieldOf : List Bool → ℕ → ℕ → ℕ
+fieldOf b i w = fromBits (take w (drop i b))
+
+-- present 1, class 4, needs 16
+unfoldable pub labelFrom : List Bool → Label
+labelFrom b = cond (first b) (Present (record { class = fieldOf b 1 classWidth; needs = fieldOf b 5 needsWidth })) Absent
+
+abbrev pub subjectFrom : List Bool → Subject
+subjectFrom b = record { clearance = labelFrom b }
+
+-- "four right bits and four access bits"
+abbrev pub rightsFrom : List Bool → ℕ
+rightsFrom b = fieldOf b 0 setWidth
+
+abbrev pub heldFrom : List Bool → ℕ
+heldFrom b = fieldOf b setWidth setWidth
+
+-- the sets of the sixteen subjects, eight bits each
+abbrev pub setsIn : List Bool → List (List Bool)
+setsIn b = cut subjectCount 8 (drop setsOffset b)
+
+abbrev pub liveFrom : List Bool → Object
+liveFrom b =
+    record {
+      live = true;
+      owner = fieldOf b 1 ownerWidth;
+      label = labelFrom (take labelWidth (drop labelOffset b));
+      rights = map rightsFrom (setsIn b);
+      held = map heldFrom (setsIn b);
+    }
+
+unfoldable pub objectFrom : List Bool → Object
+objectFrom b = cond (first b) (liveFrom b) noObject
+
+-- ---- "What is absent (a subject's table record, an object's whole record, a label) has all its other bits 0"
+
+unfoldable pub labelForm : List Bool → Bool
+labelForm b = first b || allZero b
+
+unfoldable pub objectForm : List Bool → Bool
+objectForm b = cond (first b) (labelForm (take labelWidth (drop labelOffset b))) (allZero b)
+
+-- ---- the records in bytes
+
+abbrev pub tableRecords : List ℕ → List (List Bool)
+tableRecords b = cut subjectCount labelWidth (bytesToBits b)
+
+abbrev pub objectRecords : List ℕ → List (List Bool)
+objectRecords b = cut objectCount objectWidth (bytesToBits b)
+
+unfoldable pub tableFrom : List ℕ → List Subject
+tableFrom b = map subjectFrom (tableRecords b)
+
+unfoldable pub tableForm : List ℕ → Bool
+tableForm b = allOf labelForm (tableRecords b)
+
+-- from the bytes of the object records alone
+unfoldable pub objectsFrom : List ℕ → List Object
+objectsFrom b = map objectFrom (objectRecords b)
+
+unfoldable pub objectsForm : List ℕ → Bool
+objectsForm b = allOf objectForm (objectRecords b)
+
+-- "The object records begin at byte 42 and are read as a part of their own"
+unfoldable pub monitorFrom : List ℕ → Monitor
+monitorFrom b = record { subjects = tableFrom (take tableSize b); objects = objectsFrom (drop tableSize b) }
+
+unfoldable pub imageForm : List ℕ → Bool
+imageForm b = tableForm (take tableSize b) && objectsForm (drop tableSize b)
+
+-- ---- the checks of a state, at one object
+
+-- "an absent subject owns, has a right or holds"
+unfoldable pub onlyEnrolled : List Subject → Object → Bool
+onlyEnrolled l ob =
+    implies (ob .live) (present (clearanceAt l (ob .owner)))
+    && allBelow subjectCount (λ (s : ℕ). present (clearanceAt l s) || (eqb (rightsOf ob s) 0 && eqb (heldBy ob s) 0))
+
+-- "access outside the matrix"
+unfoldable pub withinMatrix : Object → Bool
+withinMatrix ob = allBelow subjectCount (λ (s : ℕ). subset setWidth (heldBy ob s) (rightsOf ob s))
+
+-- "r, w or a held on such an object"
+unfoldable pub heldLabelled : Object → Bool
+heldLabelled ob = allBelow subjectCount (λ (s : ℕ). implies (anyNeedsLabel (heldBy ob s)) (present (ob .label)))
+
+-- "12, 6, 7, 8, 9, each over the whole image before the next"
+unfoldable pub stateChecks : Monitor → Decision
+stateChecks m =
+    unless (allOf (onlyEnrolled (m .subjects)) (m .objects)) AbsentSubject
+    (unless (allOf withinMatrix (m .objects)) NoRight
+    (unless (allOf heldLabelled (m .objects)) NoLabel
+    (unless (allOf (simpleAll (m .subjects)) (m .objects)) SimpleBroken
+    (unless (starAll (m .objects)) StarBroken
+    Granted))))
+
+-- "Tables are checked 10, 11"
+unfoldable pub tableChecks : List ℕ → Decision
+tableChecks b = unless (eqb (length b) tableSize) WrongLength (unless (tableForm b) StrayBits Granted)
+
+-- "images 10, 11, 12, 6, 7, 8, 9"
+unfoldable pub imageChecks : List ℕ → Decision
+imageChecks b = unless (eqb (length b) imageSize) WrongLength (unless (imageForm b) StrayBits (stateChecks (monitorFrom b)))
+
+-- ---- the answers
+
+-- "returns 0 and its monitor"; refused: "the number and the empty monitor, nobody enrolled"
+unfoldable pub begin : Decision → Monitor → Response
+begin d m = record { decision = d; monitor = cond (refuses d) emptyMonitor m }
+
+unfoldable pub readTable : List ℕ → Response
+readTable b = begin (tableChecks b) (fresh (tableFrom b))
+
+unfoldable pub readImage : List ℕ → Response
+readImage b = begin (imageChecks b) (monitorFrom b)

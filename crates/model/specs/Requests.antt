@@ -1,0 +1,118 @@
+-- A request's six bytes ("Requests" in the scope): its fields, the rules for unused ones, what it says, and how it is packed.
+-- Assumes nothing.
+use Prim.Native.Nat.{ℕ, _<_}
+use mathlib.Core.Bool.{Bool, true, false, cond, _&&_, _||_}
+use mathlib.Core.List.{List, _++_}
+use lib.ListN.{length}
+use lib.Dec.{leb, ltb, eqb}
+use Rattle.bits.specs.Bits.{field, toBits, bitsToBytes}
+use Rattle.model.specs.declared.Level.{Level}
+use Rattle.model.specs.declared.Mode.{Mode}
+use Rattle.model.specs.declared.Mode.the-variants.{Read, Write, Append, Execute}
+use Rattle.model.specs.declared.Fields.{Fields}
+use Rattle.model.specs.declared.Request.{Request}
+use Rattle.model.specs.declared.Request.the-variants.{Get, Release, Give, Rescind, Create, Delete, ChangeLevel}
+use Rattle.model.specs.declared.Decoded.{Decoded}
+use Rattle.model.specs.declared.Decoded.the-variants.{Malformed, Says}
+use Rattle.model.specs.State.{subjectCount, objectCount, LevelFits}
+
+-- "Six bytes"
+abbrev pub requestSize : ℕ
+requestSize = 6
+
+-- "kind 4 bits, actor 5, other subject 5, object 7, mode 3, class 4, needs 16, spare 4"
+unfoldable pub fields : List ℕ → Fields
+fields b =
+    record {
+      kind = field b 0 4;
+      actor = field b 4 5;
+      other = field b 9 5;
+      object = field b 14 7;
+      mode = field b 21 3;
+      class = field b 24 4;
+      needs = field b 28 16;
+      spare = field b 44 4;
+    }
+
+-- "Modes: 0 none, 1 r, 2 w, 3 a, 4 e"
+abbrev pub modeNumber : Mode → ℕ
+modeNumber Read = 1
+modeNumber Write = 2
+modeNumber Append = 3
+modeNumber Execute = 4
+
+abbrev pub modeOf : ℕ → Mode
+modeOf x = cond (eqb x 1) Read (cond (eqb x 2) Write (cond (eqb x 3) Append Execute))
+
+-- "mode 1 to 4" for kinds 1 to 4, "mode 0 or 4" for create, "mode 0" for kinds 6 and 7
+unfoldable pub modeAllowed : ℕ → ℕ → Bool
+modeAllowed kind mode =
+    cond (leb kind 4) (leb 1 mode && leb mode 4)
+    (cond (eqb kind 5) (eqb mode 0 || eqb mode 4)
+    (eqb mode 0))
+
+-- "A field that the kind does not use is 0, and so is spare; the other subject stands in kinds 3 and 4, class and needs in kind 7 only"
+unfoldable pub unusedZero : Fields → Bool
+unusedZero f =
+    (eqb (f .kind) 3 || (eqb (f .kind) 4 || eqb (f .other) 0))
+    && ((eqb (f .kind) 7 || (eqb (f .class) 0 && eqb (f .needs) 0))
+    && eqb (f .spare) 0)
+
+-- the first row of "Refused causes", but for the length: what must be so of the fields
+unfoldable pub wellFormed : Fields → Bool
+wellFormed f =
+    (leb 1 (f .kind) && leb (f .kind) 7)
+    && (ltb (f .actor) subjectCount
+    && (ltb (f .other) subjectCount
+    && (ltb (f .object) objectCount
+    && (modeAllowed (f .kind) (f .mode)
+    && unusedZero f))))
+
+-- the table of kinds
+unfoldable pub request : Fields → Request
+request f =
+    cond (eqb (f .kind) 1) (Get (f .actor) (f .object) (modeOf (f .mode)))
+    (cond (eqb (f .kind) 2) (Release (f .actor) (f .object) (modeOf (f .mode)))
+    (cond (eqb (f .kind) 3) (Give (f .actor) (f .other) (f .object) (modeOf (f .mode)))
+    (cond (eqb (f .kind) 4) (Rescind (f .actor) (f .other) (f .object) (modeOf (f .mode)))
+    (cond (eqb (f .kind) 5) (Create (f .actor) (f .object) (eqb (f .mode) 4))
+    (cond (eqb (f .kind) 6) (Delete (f .actor) (f .object))
+    (ChangeLevel (f .actor) (f .object) (record { class = f .class; needs = f .needs })))))))
+
+unfoldable pub decodeFields : Fields → Decoded
+decodeFields f = cond (wellFormed f) (Says (request f)) Malformed
+
+-- what a byte string of any length says
+unfoldable pub decode : List ℕ → Decoded
+decode b = cond (eqb (length b) requestSize) (decodeFields (fields b)) Malformed
+
+-- ---- the other way: the bytes of a request
+
+abbrev pub fieldsOf : Request → Fields
+fieldsOf (Get s o x) = record { kind = 1; actor = s; other = 0; object = o; mode = modeNumber x; class = 0; needs = 0; spare = 0 }
+fieldsOf (Release s o x) = record { kind = 2; actor = s; other = 0; object = o; mode = modeNumber x; class = 0; needs = 0; spare = 0 }
+fieldsOf (Give s t o x) = record { kind = 3; actor = s; other = t; object = o; mode = modeNumber x; class = 0; needs = 0; spare = 0 }
+fieldsOf (Rescind s t o x) = record { kind = 4; actor = s; other = t; object = o; mode = modeNumber x; class = 0; needs = 0; spare = 0 }
+fieldsOf (Create s o e) = record { kind = 5; actor = s; other = 0; object = o; mode = cond e 4 0; class = 0; needs = 0; spare = 0 }
+fieldsOf (Delete s o) = record { kind = 6; actor = s; other = 0; object = o; mode = 0; class = 0; needs = 0; spare = 0 }
+fieldsOf (ChangeLevel s o l) = record { kind = 7; actor = s; other = 0; object = o; mode = 0; class = l .class; needs = l .needs; spare = 0 }
+
+-- "bit-packed, most significant first"
+unfoldable pub pack : Fields → List ℕ
+pack f =
+    bitsToBytes requestSize
+    (toBits 4 (f .kind) ++ (toBits 5 (f .actor) ++ (toBits 5 (f .other) ++ (toBits 7 (f .object)
+    ++ (toBits 3 (f .mode) ++ (toBits 4 (f .class) ++ (toBits 16 (f .needs) ++ toBits 4 (f .spare))))))))
+
+abbrev pub encode : Request → List ℕ
+encode q = pack (fieldsOf q)
+
+-- "Sixteen subjects, 0 to 15", "Sixty-four objects, 0 to 63": the numbers of a request are in range
+abbrev pub InRange : Request → Type 0
+InRange (Get s o x) = (s < subjectCount) × (o < objectCount)
+InRange (Release s o x) = (s < subjectCount) × (o < objectCount)
+InRange (Give s t o x) = (s < subjectCount) × (t < subjectCount) × (o < objectCount)
+InRange (Rescind s t o x) = (s < subjectCount) × (t < subjectCount) × (o < objectCount)
+InRange (Create s o e) = (s < subjectCount) × (o < objectCount)
+InRange (Delete s o) = (s < subjectCount) × (o < objectCount)
+InRange (ChangeLevel s o l) = (s < subjectCount) × (o < objectCount) × LevelFits l

@@ -1,0 +1,153 @@
+-- The seven rules ("Requests" in the scope): the checks of each kind in order, the record after it, and when the state was so already.
+-- Assumes nothing.
+use Prim.Native.Nat.{ℕ}
+use mathlib.Core.Bool.{Bool, true, false, cond, not, _&&_}
+use mathlib.Core.List.{List}
+use lib.Dec.{eqb}
+use lib.ListN.{set}
+use Rattle.model.specs.declared.Label.the-variants.{Absent, Present}
+use Rattle.model.specs.declared.Subject.{Subject}
+use Rattle.model.specs.declared.Object.{Object}
+use Rattle.model.specs.declared.Monitor.{Monitor}
+use Rattle.model.specs.declared.Mode.{Mode}
+use Rattle.model.specs.declared.Request.{Request}
+use Rattle.model.specs.declared.Request.the-variants.{Get, Release, Give, Rescind, Create, Delete, ChangeLevel}
+use Rattle.model.specs.declared.Decision.{Decision}
+use Rattle.model.specs.declared.Decision.the-variants.{Granted, Already, NotEnrolled, NotLive, AlreadyLive, NoRight, NoLabel, SimpleBroken, StarBroken}
+use Rattle.model.specs.declared.Response.{Response}
+use Rattle.model.specs.Tests.{allBelow, allOf, implies, unless}
+use Rattle.model.specs.Levels.{dominates, present, sameLabel}
+use Rattle.model.specs.Modes.{has, add, remove, observes, needsLabel, anyObserves, anyAlters}
+use Rattle.model.specs.State.{subjectCount, noModes, noObject, clearanceAt, clearance, enrolled, object, rightsOf, heldBy, withRights, withHeld, withLabel, withObject}
+use Rattle.model.specs.Decisions.{refuses}
+
+-- ---- the tests of the simple and the star property
+
+-- simple, at one object for all subjects: who holds r or w has a clearance that dominates its label
+unfoldable pub simpleAll : List Subject → Object → Bool
+simpleAll l ob = allBelow subjectCount (λ (s : ℕ). implies (anyObserves (heldBy ob s)) (dominates (clearanceAt l s) (ob .label)))
+
+-- star, for one subject and two objects: where it alters q, the label of q dominates that of p
+unfoldable pub starPair : ℕ → Object → Object → Bool
+starPair s p q = implies (anyAlters (heldBy q s)) (dominates (q .label) (p .label))
+
+-- where it observes p, this for every q
+unfoldable pub starFrom : ℕ → List Object → Object → Bool
+starFrom s l p = implies (anyObserves (heldBy p s)) (allOf (starPair s p) l)
+
+-- star, for one subject over all objects
+unfoldable pub starFor : ℕ → List Object → Bool
+starFor s l = allOf (starFrom s l) l
+
+-- star, for all subjects
+unfoldable pub starAll : List Object → Bool
+starAll l = allBelow subjectCount (λ (s : ℕ). starFor s l)
+
+-- ---- the effect of each kind
+
+-- the object that a request is about
+abbrev pub target : Request → ℕ
+target (Get s o x) = o
+target (Release s o x) = o
+target (Give s t o x) = o
+target (Rescind s t o x) = o
+target (Create s o e) = o
+target (Delete s o) = o
+target (ChangeLevel s o l) = o
+
+-- "live, unlabelled, owned by the actor, who gains r, w, a, and e if mode is 4"
+abbrev pub created : ℕ → Bool → Object
+created s e = record { live = true; owner = s; label = Absent; rights = set noModes s (cond e 15 14); held = noModes }
+
+-- the record of the object after the request
+unfoldable pub changed : Request → Object → Object
+-- "the actor then holds the access"
+changed (Get s o x) ob = withHeld ob s (add x (heldBy ob s))
+-- "the actor's access is dropped, held or not"
+changed (Release s o x) ob = withHeld ob s (remove x (heldBy ob s))
+-- "the other subject gains the right"
+changed (Give s t o x) ob = withRights ob t (add x (rightsOf ob t))
+-- "the other subject loses the right and the access"
+changed (Rescind s t o x) ob = withHeld (withRights ob t (remove x (rightsOf ob t))) t (remove x (heldBy ob t))
+changed (Create s o e) ob = created s e
+-- "no longer live, its rights and accesses gone"
+changed (Delete s o) ob = noObject
+-- "the label becomes class and needs"
+changed (ChangeLevel s o l) ob = withLabel ob (Present l)
+
+-- the state after it
+abbrev pub afterwards : Request → Monitor → Monitor
+afterwards q m = withObject m (target q) (changed q (object m (target q)))
+
+-- "the state was so already"
+unfoldable pub already : Request → Object → Bool
+already (Get s o x) ob = has x (heldBy ob s)
+already (Release s o x) ob = not (has x (heldBy ob s))
+already (Give s t o x) ob = has x (rightsOf ob t)
+already (Rescind s t o x) ob = not (has x (rightsOf ob t)) && not (has x (heldBy ob t))
+already (Create s o e) ob = false
+already (Delete s o) ob = false
+already (ChangeLevel s o l) ob = sameLabel (ob .label) (Present l)
+
+-- ---- the checks of each kind, "in the order 2, 3, then 4 or 5, then 6, 7, 8, 9"; 2 is in decoding
+
+abbrev pub owns : ℕ → Object → Bool
+owns s ob = eqb (ob .owner) s
+
+-- the first check that fails gives its answer, Granted where none does
+unfoldable pub checks : Request → Monitor → Decision
+-- "checks 4, 6 (the actor's right); 7 (not e); 8 (r, w); 9 (r, w, a)"
+checks (Get s o x) m =
+    unless (enrolled m s) NotEnrolled
+    (unless (object m o .live) NotLive
+    (unless (has x (rightsOf (object m o) s)) NoRight
+    (unless (implies (needsLabel x) (present (object m o .label))) NoLabel
+    (unless (implies (observes x) (dominates (clearance m s) (object m o .label))) SimpleBroken
+    (unless (implies (needsLabel x) (starFor s (afterwards (Get s o x) m .objects))) StarBroken
+    Granted)))))
+-- "check 4"
+checks (Release s o x) m =
+    unless (enrolled m s) NotEnrolled
+    (unless (object m o .live) NotLive
+    Granted)
+-- "checks 4, 6: the actor is owner and has that right itself"
+checks (Give s t o x) m =
+    unless (enrolled m s && enrolled m t) NotEnrolled
+    (unless (object m o .live) NotLive
+    (unless (owns s (object m o) && has x (rightsOf (object m o) s)) NoRight
+    Granted))
+-- "checks as give"
+checks (Rescind s t o x) m =
+    unless (enrolled m s && enrolled m t) NotEnrolled
+    (unless (object m o .live) NotLive
+    (unless (owns s (object m o) && has x (rightsOf (object m o) s)) NoRight
+    Granted))
+-- "check 5"
+checks (Create s o e) m =
+    unless (enrolled m s) NotEnrolled
+    (unless (not (object m o .live)) AlreadyLive
+    Granted)
+-- "checks 4, 6: owner"
+checks (Delete s o) m =
+    unless (enrolled m s) NotEnrolled
+    (unless (object m o .live) NotLive
+    (unless (owns s (object m o)) NoRight
+    Granted))
+-- "checks 4, 6: owner; 8, 9 over all subjects in the state after the change"
+checks (ChangeLevel s o l) m =
+    unless (enrolled m s) NotEnrolled
+    (unless (object m o .live) NotLive
+    (unless (owns s (object m o)) NoRight
+    (unless (simpleAll (m .subjects) (changed (ChangeLevel s o l) (object m o))) SimpleBroken
+    (unless (starAll (afterwards (ChangeLevel s o l) m .objects)) StarBroken
+    Granted))))
+
+-- a refusal leaves "the whole state"; "Reply 0: granted and the state changed. Reply 1: granted and the state was so already."
+unfoldable pub answer : Decision → Bool → Monitor → Monitor → Response
+answer d was m n =
+    cond (refuses d) (record { decision = d; monitor = m })
+    (record { decision = cond was Already Granted; monitor = n })
+
+-- one well-formed request
+unfoldable pub step : Request → Monitor → Response
+step q m = answer (checks q m) (already q (object m (target q))) m (afterwards q m)

@@ -1,0 +1,93 @@
+// The types of the reference monitor. What they mean is said in specs/, in the order of specs/Lib.antt.
+
+// A class, 0 to 15, and a set of needs-to-know, 0 to 15, where need k weighs 2^k.
+pub struct Level {
+    pub class: u8,
+    pub needs: u16,
+}
+
+// The label of an object, or none; the clearance of a subject, or absent. Absent is no level: it differs from class 0 with no needs.
+pub enum Label {
+    Absent,
+    Present(Level),
+}
+
+// A subject is enrolled exactly where its clearance is present.
+pub struct Subject {
+    pub clearance: Label,
+}
+
+pub enum Mode {
+    Read,
+    Write,
+    Append,
+    Execute,
+}
+
+// Rights and held accesses: for each of the sixteen subjects a set of modes, r 8, w 4, a 2, e 1.
+pub struct Object {
+    pub live: bool,
+    pub owner: u8,
+    pub label: Label,
+    pub rights: [u8; 16],
+    pub held: [u8; 16],
+}
+
+pub struct Monitor {
+    pub subjects: [Subject; 16],
+    pub objects: [Object; 64],
+}
+
+// The fields of a request's six bytes.
+pub struct Fields {
+    pub kind: u8,
+    pub actor: u8,
+    pub other: u8,
+    pub object: u8,
+    pub mode: u8,
+    pub class: u8,
+    pub needs: u16,
+    pub spare: u8,
+}
+
+// A well-formed request: the actor, in give and rescind the other subject, the object, then what the kind uses beside them.
+// In create the last says whether the actor gains e too.
+pub enum Request {
+    Get(u8, u8, Mode),
+    Release(u8, u8, Mode),
+    Give(u8, u8, u8, Mode),
+    Rescind(u8, u8, u8, Mode),
+    Create(u8, u8, bool),
+    Delete(u8, u8),
+    ChangeLevel(u8, u8, Level),
+}
+
+// What a byte string says.
+pub enum Decoded {
+    Malformed,
+    Says(Request),
+}
+
+// Every answer of the monitor, in the order of its number (specs/Decisions.antt).
+pub enum Decision {
+    Granted,
+    Already,
+    MalformedRequest,
+    NotEnrolled,
+    NotLive,
+    AlreadyLive,
+    NoRight,
+    NoLabel,
+    SimpleBroken,
+    StarBroken,
+    WrongLength,
+    StrayBits,
+    AbsentSubject,
+    ShortBuffer,
+}
+
+// The answer to a request or to a beginning, and the monitor after it.
+pub struct Response {
+    pub decision: Decision,
+    pub monitor: Monitor,
+}

@@ -1,0 +1,131 @@
+-- Frame laws: what one request leaves as it was, and what alone changes it.
+-- Assumes nothing.
+use Prim.Native.Nat.{ℕ, _<_}
+use native.Mathlib.Omega.{arith}
+use mathlib.Core.Path.{_≡_, refl, sym, ap, _∙_, subst}
+use mathlib.Core.Logic.{_≢_, _⊎_, inl, inr}
+use mathlib.Core.Bool.{Bool, true, false, not, _&&_}
+use mathlib.Core.List.{List, [], _∷_}
+use lib.ListN.{length, getD, set}
+use lib.Seq.{getD-set-other, getD-set-same}
+use Rattle.model.specs.declared.Object.{Object}
+use Rattle.model.specs.declared.Monitor.{Monitor}
+use Rattle.model.specs.declared.Label.{Label}
+use Rattle.model.specs.declared.Label.the-variants.{Absent, Present}
+use Rattle.model.specs.declared.Mode.{Mode}
+use Rattle.model.specs.declared.Request.{Request}
+use Rattle.model.specs.declared.Request.the-variants.{Get, Release, Give, Rescind, Create, Delete, ChangeLevel}
+use Rattle.model.specs.declared.Decision.the-variants.{Granted, NotEnrolled, AlreadyLive}
+use Rattle.model.specs.declared.Response.{Response}
+use Rattle.model.specs.Modes.{has, add, remove}
+use Rattle.model.specs.State.{noObject, object, rightsOf, WellFormed}
+use Rattle.model.specs.Requests.{decode, InRange}
+use Rattle.model.specs.Rules.{target, changed, afterwards, checks, created, step}
+use Rattle.model.specs.Runs.{respond, after}
+use Rattle.model.proofs.Tests.{set-all, split, apart, clash, passed, not-on}
+use Rattle.model.proofs.Modes.{held-add, held-remove}
+use Rattle.security.specs.Access.{GivesRight, ChangesLabel}
+use Rattle.security.proofs.Steps.{step-all, step-granted, respond-all}
+use Rattle.security.proofs.Form.{no-modes}
+use Rattle.security.proofs.Secure.{none-held}
+
+-- no request changes a subject
+pub subjects-kept : (q : Request) (m : Monitor) → step q m .monitor .subjects ≡ m .subjects
+subjects-kept q m = step-all (λ n. n .subjects ≡ m .subjects) q m refl (λ e. refl)
+
+-- and no list of byte strings does
+pub subjects-kept-after : (bs : List (List ℕ)) (m : Monitor) → after bs m .subjects ≡ m .subjects
+unfolding after
+subjects-kept-after [] m = refl
+subjects-kept-after (b ∷ bs) m =
+    subjects-kept-after bs (respond b m .monitor)
+    ∙ respond-all (λ (r : Response). r .monitor .subjects ≡ m .subjects) b m (λ e. refl) (λ q e. subjects-kept q m)
+
+-- what holds of the record of object o, and of the record that a granted request on it makes, holds of it afterwards
+frame : (P : Object → Type 0) (q : Request) (m : Monitor) (o : ℕ) → P (object m o)
+    → (checks q m ≡ Granted → target q ≡ o → P (changed q (object m (target q)))) → P (object (step q m .monitor) o)
+frame P q m o p f =
+    step-all (λ n. P (object n o)) q m p
+    (λ g. set-all (λ j ob. j ≡ o → P ob) (m .objects) (target q) _ noObject (λ j e. subst (λ (k : ℕ). P (object m k)) (sym e) p) (f g) o refl)
+
+-- no record but that of the request's object changes
+pub others-kept : (q : Request) (m : Monitor) (o : ℕ) → o ≢ target q → object (step q m .monitor) o ≡ object m o
+others-kept q m o h = frame (λ (ob : Object). ob ≡ object m o) q m o refl (λ g e. absurd (h (sym e)))
+
+-- a granted create finds an object that is not live
+create-finds : (s o : ℕ) (w : Bool) (m : Monitor) → checks (Create s o w) m ≡ Granted → object m o .live ≡ false
+unfolding checks
+create-finds s o w m g =
+    let a = passed _ NotEnrolled _ refl g in
+    not-on _ (passed _ AlreadyLive _ refl (a .1) .0)
+
+-- what a granted request on a live object that stays live leaves of its record
+changed-owner : (q : Request) (m : Monitor) → object m (target q) .live ≡ true → checks q m ≡ Granted
+    → changed q (object m (target q)) .live ≡ true → changed q (object m (target q)) .owner ≡ object m (target q) .owner
+unfolding changed
+changed-owner (Get s o x) m live g e = refl
+changed-owner (Release s o x) m live g e = refl
+changed-owner (Give s t o x) m live g e = refl
+changed-owner (Rescind s t o x) m live g e = refl
+changed-owner (Create s o w) m live g e = apart live (create-finds s o w m g)
+changed-owner (Delete s o) m live g e = clash (sym e)
+changed-owner (ChangeLevel s o l) m live g e = refl
+
+changed-rights : (q : Request) (m : Monitor) → WellFormed m → object m (target q) .live ≡ true → checks q m ≡ Granted
+    → (t : ℕ) (x : Mode) → has x (rightsOf (changed q (object m (target q))) t) ≡ true
+    → (has x (rightsOf (object m (target q)) t) ≡ true) ⊎ GivesRight q t (target q) x
+unfolding changed
+changed-rights (Get s o y) m W live g t x e = inl e
+changed-rights (Release s o y) m W live g t x e = inl e
+changed-rights (Give s u o y) m W live g t x e =
+    set-all (λ j k. has x k ≡ true → (has x (rightsOf (object m o) j) ≡ true) ⊎ ((u ≡ j) × (o ≡ o) × (y ≡ x))) (object m o .rights) u _ 0
+    (λ j w. inl w) (λ w. held-add y x _ (W .objects-formed o .rights-fit u) w (λ p. inr (refl, refl, sym p)) (λ p. inl p)) t e
+changed-rights (Rescind s u o y) m W live g t x e =
+    inl
+    (set-all (λ j k. has x k ≡ true → has x (rightsOf (object m o) j) ≡ true) (object m o .rights) u _ 0
+    (λ j w. w) (λ w. held-remove y x _ (W .objects-formed o .rights-fit u) w) t e)
+changed-rights (Create s o w) m W live g t x e = apart live (create-finds s o w m g)
+changed-rights (Delete s o) m W live g t x e = absurd (none-held x _ (no-modes t) e)
+changed-rights (ChangeLevel s o l) m W live g t x e = inl e
+
+changed-label : (q : Request) (m : Monitor) → object m (target q) .live ≡ true → checks q m ≡ Granted → changed q (object m (target q)) .live ≡ true
+    → (changed q (object m (target q)) .label ≡ object m (target q) .label) ⊎ ChangesLabel q (target q) (changed q (object m (target q)) .label)
+unfolding changed
+changed-label (Get s o x) m live g e = inl refl
+changed-label (Release s o x) m live g e = inl refl
+changed-label (Give s t o x) m live g e = inl refl
+changed-label (Rescind s t o x) m live g e = inl refl
+changed-label (Create s o w) m live g e = apart live (create-finds s o w m g)
+changed-label (Delete s o) m live g e = clash (sym e)
+changed-label (ChangeLevel s o l) m live g e = inr (refl, refl)
+
+module _ (q : Request) (m : Monitor) (W : WellFormed m) (o : ℕ) (live : object m o .live ≡ true) (stays : object (step q m .monitor) o .live ≡ true) where
+  at-target : target q ≡ o → object m (target q) .live ≡ true
+  at-target e = subst (λ (k : ℕ). object m k .live ≡ true) (sym e) live
+
+  -- an object that stays live keeps its owner
+  pub owner-kept : object (step q m .monitor) o .owner ≡ object m o .owner
+  owner-kept =
+      frame (λ (ob : Object). ob .live ≡ true → ob .owner ≡ object m o .owner) q m o (λ e. refl)
+      (λ g e h. changed-owner q m (at-target e) g h ∙ ap (λ (k : ℕ). object m k .owner) e) stays
+
+  -- gains a right only by give
+  pub right-by-give : (t : ℕ) (x : Mode) → has x (rightsOf (object (step q m .monitor) o) t) ≡ true
+      → (has x (rightsOf (object m o) t) ≡ true) ⊎ GivesRight q t o x
+  right-by-give t x =
+      frame (λ (ob : Object). has x (rightsOf ob t) ≡ true → (has x (rightsOf (object m o) t) ≡ true) ⊎ GivesRight q t o x) q m o (λ e. inl e)
+      (λ g e h. subst (λ (k : ℕ). (has x (rightsOf (object m k) t) ≡ true) ⊎ GivesRight q t k x) e (changed-rights q m W (at-target e) g t x h))
+
+  -- and changes its label only by change of level
+  pub label-by-change : (object (step q m .monitor) o .label ≡ object m o .label) ⊎ ChangesLabel q o (object (step q m .monitor) o .label)
+  label-by-change =
+      frame (λ (ob : Object). ob .live ≡ true → (ob .label ≡ object m o .label) ⊎ ChangesLabel q o (ob .label)) q m o (λ e. inl refl)
+      (λ g e h. subst (λ (k : ℕ). (changed q (object m (target q)) .label ≡ object m k .label) ⊎ ChangesLabel q k (changed q (object m (target q)) .label)) e
+      (changed-label q m (at-target e) g h)) stays
+
+-- after a granted create the record is what create says, whatever the slot held before
+pub create-fresh : (s o : ℕ) (w : Bool) (m : Monitor) → WellFormed m → o < 64 → checks (Create s o w) m ≡ Granted
+    → object (step (Create s o w) m .monitor) o ≡ created s w
+unfolding changed
+create-fresh s o w m W h g =
+    ap (λ (r : Response). object (r .monitor) o) (step-granted (Create s o w) m g) ∙ getD-set-same (m .objects) o _ noObject (omega (arith, W .objects-length, h))

@@ -1,0 +1,79 @@
+-- A get by an enrolled subject on a live object is refused exactly when the state with that access added breaks one of the four properties.
+-- Assumes nothing.
+use Prim.Native.Nat.{ℕ, zero, suc, _<_, _≤_}
+use native.Mathlib.Omega.{arith}
+use mathlib.Core.Path.{_≡_, refl, sym, ap, _∙_, subst}
+use mathlib.Core.Logic.{_↔_}
+use mathlib.Core.Bool.{Bool, true, false}
+use mathlib.Core.List.{List, [], _∷_}
+use lib.ListN.{length, getD, set}
+use lib.Seq.{getD-set-same}
+use Rattle.model.specs.declared.Object.{Object}
+use Rattle.model.specs.declared.Monitor.{Monitor}
+use Rattle.model.specs.declared.Mode.{Mode}
+use Rattle.model.specs.declared.Request.the-variants.{Get}
+use Rattle.model.specs.declared.Decision.the-variants.{Granted, NotEnrolled, NotLive, NoRight, NoLabel, SimpleBroken, StarBroken}
+use Rattle.model.specs.Levels.{Dominates, present}
+use Rattle.model.specs.Modes.{has, add, observes, needsLabel}
+use Rattle.model.specs.State.{noObject, clearance, enrolled, objectAt, object, rightsOf, heldBy, withHeld}
+use Rattle.model.specs.Properties.{Secure, Holds}
+use Rattle.model.specs.Decisions.{number}
+use Rattle.model.specs.Rules.{changed, afterwards, checks, step}
+use Rattle.model.proofs.Tests.{pass, implies-in, clash}
+use Rattle.model.proofs.Modes.{add-has}
+use Rattle.model.proofs.Levels.{dominates-decides}
+use Rattle.security.specs.Access.{withAccess}
+use Rattle.security.proofs.Form.{enrolled-below}
+use Rattle.security.proofs.Secure.{star-in, star-for}
+use Rattle.security.proofs.Steps.{Sound, sound-afterwards}
+use Rattle.security.proofs.Replies.{reply-granted}
+
+-- a live object is one of the monitor's objects
+pub live-below : (l : List Object) (o : ℕ) → objectAt l o .live ≡ true → o < length l
+live-below [] o e = clash (sym e)
+live-below (x ∷ xs) zero e = omega arith
+live-below (x ∷ xs) (suc o) e = let h : o < length xs = live-below xs o e in omega arith
+
+module _ (m : Monitor) (S : Sound m) (s o : ℕ) (x : Mode) (there : enrolled m s ≡ true) (live : object m o .live ≡ true) where
+  s-below : s < 16
+  s-below = omega (arith, S .formed .subjects-length, enrolled-below (m .subjects) s there)
+
+  o-below : o < 64
+  o-below = omega (arith, S .formed .objects-length, live-below (m .objects) o live)
+
+  -- the object in the state with the access added
+  there-now : object (withAccess m s o x) o ≡ withHeld (object m o) s (add x (heldBy (object m o) s))
+  there-now = getD-set-same (m .objects) o _ noObject (omega (arith, o-below, S .formed .objects-length))
+
+  holds-now : Holds (withAccess m s o x) s o x
+  holds-now =
+      ap (λ (b : Object). has x (heldBy b s)) there-now
+      ∙ ap (has x) (getD-set-same (object m o .held) s _ 0 (omega (arith, s-below, S .formed .objects-formed o .held-length)))
+      ∙ add-has x _ (S .formed .objects-formed o .held-fit s)
+
+  -- where the state with the access added is secure, every check passes
+  secure-granted : Secure (withAccess m s o x) → checks (Get s o x) m ≡ Granted
+  unfolding checks changed
+  secure-granted T =
+      pass _ NotEnrolled _ there ∙ pass _ NotLive _ live
+      ∙ pass _ NoRight _ (sym (ap (λ (b : Object). has x (rightsOf b s)) there-now) ∙ T .discretionary s o x holds-now)
+      ∙ pass _ NoLabel _ (implies-in _ _ (λ n. sym (ap (λ (b : Object). present (b .label)) there-now) ∙ T .labelled s o x holds-now n))
+      ∙ pass _ SimpleBroken _
+      (implies-in _ _ (λ n. dominates-decides _ _ .1 (subst (λ (b : Object). Dominates (clearance m s) (b .label)) there-now (T .simple s o x holds-now n))))
+      ∙ pass _ StarBroken _ (implies-in _ _ (λ n. star-in s _ (star-for (withAccess m s o x) (T .star) s)))
+
+  pub granted-secure : (checks (Get s o x) m ≡ Granted) ↔ Secure (withAccess m s o x)
+  unfolding changed
+  granted-secure = (λ g. sound-afterwards (Get s o x) m (s-below, o-below) S g .secure, secure-granted)
+
+  pub get-refused-exactly : (2 ≤ number (step (Get s o x) m .decision)) ↔ (Secure (withAccess m s o x) → ⊥)
+  get-refused-exactly =
+      let g = reply-granted (Get s o x) m in (
+        λ h T. absurd (omega (arith, h, g .1 (granted-secure .1 T))),
+        λ n. refused (number (step (Get s o x) m .decision)) (λ h. n (granted-secure .0 (g .0 h))),
+      )
+    where
+      refused : (k : ℕ) → (k < 2 → ⊥) → 2 ≤ k
+      refused zero h = absurd (h (omega arith))
+      refused (suc zero) h = absurd (h (omega arith))
+      refused (suc (suc k)) h = omega arith

@@ -1,0 +1,164 @@
+-- Reply 0 exactly where a granted request changes the state, 1 exactly where it leaves it; a refusal leaves it.
+-- Assumes nothing.
+use Prim.Native.Nat.{ℕ, _<_, _≤_}
+use native.Mathlib.Omega.{arith}
+use mathlib.Core.Path.{_≡_, refl, sym, ap, _∙_, subst}
+use mathlib.Core.Logic.{_↔_, _≢_}
+use mathlib.Core.Bool.{Bool, true, false, not, _&&_, cond}
+use mathlib.Core.List.{List}
+use lib.ListN.{length, getD, set}
+use borrow.Author.Tests.{leb-true}
+use lib.Seq.{set-getD, getD-set-same}
+use Rattle.model.specs.declared.Object.{Object}
+use Rattle.model.specs.declared.Monitor.{Monitor}
+use Rattle.model.specs.declared.Label.{Label}
+use Rattle.model.specs.declared.Label.the-variants.{Absent, Present}
+use Rattle.model.specs.declared.Request.{Request}
+use Rattle.model.specs.declared.Request.the-variants.{Get, Release, Give, Rescind, Create, Delete, ChangeLevel}
+use Rattle.model.specs.declared.Decision.the-variants.{Granted, Already, NotEnrolled, NotLive, AlreadyLive}
+use Rattle.model.specs.declared.Response.{Response}
+use Rattle.model.specs.Modes.{has, add, remove}
+use Rattle.model.specs.State.{noObject, object, heldBy, rightsOf, withHeld, withRights, WellFormed}
+use Rattle.model.specs.Decisions.{number, refuses}
+use Rattle.model.specs.Requests.{InRange}
+use Rattle.model.specs.Rules.{target, changed, already, afterwards, checks, step}
+use Rattle.model.proofs.Tests.{passed, split, apart, clash, and-left, and-right, and-both, not-on, not-off, cond-true, cond-false}
+use Rattle.model.proofs.Modes.{add-same, remove-same, add-has, remove-has}
+use Rattle.model.proofs.Levels.{same-label, label-same}
+use Rattle.security.proofs.Steps.{Sound, granted-or-refused, step-granted, step-refused}
+
+-- ---- the state was so already
+
+held-back : (ob : Object) (s n : ℕ) → n ≡ heldBy ob s → withHeld ob s n ≡ ob
+held-back ob s n e =
+    let p : set (ob .held) s n ≡ ob .held = ap (λ (k : ℕ). set (ob .held) s k) e ∙ set-getD (ob .held) s 0 in
+    λ i. record { live = ob .live; owner = ob .owner; label = ob .label; rights = ob .rights; held = p i }
+
+rights-back : (ob : Object) (s n : ℕ) → n ≡ rightsOf ob s → withRights ob s n ≡ ob
+rights-back ob s n e =
+    let p : set (ob .rights) s n ≡ ob .rights = ap (λ (k : ℕ). set (ob .rights) s k) e ∙ set-getD (ob .rights) s 0 in
+    λ i. record { live = ob .live; owner = ob .owner; label = ob .label; rights = p i; held = ob .held }
+
+record-same : (q : Request) (ob : Object) → already q ob ≡ true → changed q ob ≡ ob
+unfolding already changed
+record-same (Get s o x) ob e = held-back ob s _ (add-same x _ e)
+record-same (Release s o x) ob e = held-back ob s _ (remove-same x _ (not-on _ e))
+record-same (Give s t o x) ob e = rights-back ob t _ (add-same x _ e)
+record-same (Rescind s t o x) ob e =
+    let p = not-on _ (and-left (not (has x (rightsOf ob t))) _ e) in
+    let q = not-on _ (and-right (not (has x (rightsOf ob t))) _ e) in
+    held-back (withRights ob t (remove x (rightsOf ob t))) t _ (remove-same x _ q) ∙ rights-back ob t _ (remove-same x _ p)
+record-same (Create s o w) ob e = clash (sym e)
+record-same (Delete s o) ob e = clash (sym e)
+record-same (ChangeLevel s o l) ob e =
+    let p : Present l ≡ ob .label = sym (same-label (ob .label) (Present l) e) in
+    λ i. record { live = ob .live; owner = ob .owner; label = p i; rights = ob .rights; held = ob .held }
+
+pub state-same : (q : Request) (m : Monitor) → already q (object m (target q)) ≡ true → afterwards q m ≡ m
+state-same q m e =
+    let p : set (m .objects) (target q) (changed q (object m (target q))) ≡ m .objects =
+    ap (set (m .objects) (target q)) (record-same q _ e) ∙ set-getD (m .objects) (target q) noObject in
+    λ i. record { subjects = m .subjects; objects = p i }
+
+-- ---- and where it was not, it changes
+
+module _ (m : Monitor) (W : WellFormed m) where
+  -- what a row has at s after a store there, where the store made no difference
+  held-now : (o s n : ℕ) → s < 16 → withHeld (object m o) s n ≡ object m o → n ≡ heldBy (object m o) s
+  held-now o s n h w =
+      sym (getD-set-same (object m o .held) s n 0 (omega (arith, W .objects-formed o .held-length, h))) ∙ ap (λ (b : Object). heldBy b s) w
+
+  rights-now : (o s n : ℕ) → s < 16 → withRights (object m o) s n ≡ object m o → n ≡ rightsOf (object m o) s
+  rights-now o s n h w =
+      sym (getD-set-same (object m o .rights) s n 0 (omega (arith, W .objects-formed o .rights-length, h))) ∙ ap (λ (b : Object). rightsOf b s) w
+
+  record-differs : (q : Request) → InRange q → checks q m ≡ Granted → already q (object m (target q)) ≡ false
+      → changed q (object m (target q)) ≡ object m (target q) → ⊥
+  unfolding already changed checks
+  record-differs (Get s o x) r g e w =
+      apart (sym (ap (has x) (held-now o s _ (r .0) w)) ∙ add-has x _ (W .objects-formed o .held-fit s)) e
+  record-differs (Release s o x) r g e w =
+      apart (not-off _ e) (sym (ap (has x) (held-now o s _ (r .0) w)) ∙ remove-has x _ (W .objects-formed o .held-fit s))
+  record-differs (Give s t o x) r g e w =
+      apart (sym (ap (has x) (rights-now o t _ (r .1) w)) ∙ add-has x _ (W .objects-formed o .rights-fit t)) e
+  record-differs (Rescind s t o x) r g e w =
+      let F = W .objects-formed o in
+      let rights : remove x (rightsOf (object m o) t) ≡ rightsOf (object m o) t =
+      sym (getD-set-same (object m o .rights) t _ 0 (omega (arith, F .rights-length, r .1))) ∙ ap (λ (b : Object). rightsOf b t) w in
+      let held : remove x (heldBy (object m o) t) ≡ heldBy (object m o) t =
+      sym (getD-set-same (object m o .held) t _ 0 (omega (arith, F .held-length, r .1))) ∙ ap (λ (b : Object). heldBy b t) w in
+      apart
+      (and-both (ap not (sym (ap (has x) rights) ∙ remove-has x _ (F .rights-fit t))) (ap not (sym (ap (has x) held) ∙ remove-has x _ (F .held-fit t))))
+      e
+  record-differs (Create s o v) r g e w =
+      let a = passed _ NotEnrolled _ refl g in
+      let b = passed _ AlreadyLive _ refl (a .1) in
+      apart (ap (λ (k : Object). k .live) (sym w)) (not-on _ (b .0))
+  record-differs (Delete s o) r g e w =
+      let a = passed _ NotEnrolled _ refl g in
+      let b = passed _ NotLive _ refl (a .1) in
+      apart (b .0) (ap (λ (k : Object). k .live) (sym w))
+  record-differs (ChangeLevel s o l) r g e w = apart (label-same _ (Present l) (ap (λ (k : Object). k .label) (sym w))) e
+
+pub target-below : (q : Request) → InRange q → target q < 64
+target-below (Get s o x) r = r .1
+target-below (Release s o x) r = r .1
+target-below (Give s t o x) r = r .2
+target-below (Rescind s t o x) r = r .2
+target-below (Create s o e) r = r .1
+target-below (Delete s o) r = r .1
+target-below (ChangeLevel s o l) r = r .1
+
+pub state-differs : (q : Request) (m : Monitor) → WellFormed m → InRange q → checks q m ≡ Granted → already q (object m (target q)) ≡ false → afterwards q m ≢ m
+state-differs q m W r g e w =
+    record-differs m W q r g e
+    (sym (getD-set-same (m .objects) (target q) (changed q (object m (target q))) noObject (omega (arith, W .objects-length, target-below q r)))
+    ∙ ap (λ (n : Monitor). object n (target q)) w)
+
+-- ---- the replies
+
+-- the three cases of a step: its reply and the state that it leaves
+pub step-cases : {P : Type 0} (q : Request) (m : Monitor)
+    → (checks q m ≡ Granted → already q (object m (target q)) ≡ true → number (step q m .decision) ≡ 1 → step q m .monitor ≡ m → P)
+    → (checks q m ≡ Granted → already q (object m (target q)) ≡ false → number (step q m .decision) ≡ 0 → step q m .monitor ≡ afterwards q m → P)
+    → (2 ≤ number (step q m .decision) → step q m .decision ≡ checks q m → step q m .monitor ≡ m → P)
+    → P
+step-cases q m f g h =
+    granted-or-refused q m
+    (λ e.
+    let answer = ap (λ (r : Response). number (r .decision)) (step-granted q m e) in
+    let state = ap (λ (r : Response). r .monitor) (step-granted q m e) in
+    split (already q (object m (target q)))
+    (λ a. f e a (answer ∙ ap (λ (b : Bool). number (cond b Already Granted)) a) (state ∙ state-same q m a))
+    (λ a. g e a (answer ∙ ap (λ (b : Bool). number (cond b Already Granted)) a) state))
+    (λ e.
+    let same = ap (λ (r : Response). r .decision) (step-refused q m e) in
+    h (subst (λ (n : ℕ). 2 ≤ n) (sym (ap number same)) (leb-true 2 (number (checks q m)) e)) same (ap (λ (r : Response). r .monitor) (step-refused q m e)))
+
+-- "Reply 0: granted and the state changed"
+pub reply-zero : (q : Request) (m : Monitor) → WellFormed m → InRange q
+    → (number (step q m .decision) ≡ 0) ↔ ((checks q m ≡ Granted) × (step q m .monitor ≢ m))
+reply-zero q m W r = (
+  λ e. step-cases q m (λ g a n s. absurd (omega (arith, e, n))) (λ g a n s. (g, λ w. state-differs q m W r g a (sym s ∙ w))) (λ h d s. absurd (omega (arith, e, h))),
+  λ p. step-cases q m (λ g a n s. absurd (p .1 s)) (λ g a n s. n) (λ h d s. absurd (p .1 s)),
+)
+
+-- "Reply 1: granted and the state was so already"
+pub reply-one : (q : Request) (m : Monitor) → WellFormed m → InRange q
+    → (number (step q m .decision) ≡ 1) ↔ ((checks q m ≡ Granted) × (step q m .monitor ≡ m))
+reply-one q m W r = (
+  λ e. step-cases q m (λ g a n s. (g, s)) (λ g a n s. absurd (omega (arith, e, n))) (λ h d s. absurd (omega (arith, e, h))),
+  λ p. step-cases q m (λ g a n s. n) (λ g a n s. absurd (state-differs q m W r g a (sym s ∙ p .1)))
+  (λ h d s. absurd (omega (arith, h, ap number (d ∙ p .0)))),
+)
+
+-- a refusal leaves "the whole state"
+pub refusal-leaves : (q : Request) (m : Monitor) → 2 ≤ number (step q m .decision) → step q m .monitor ≡ m
+refusal-leaves q m h = step-cases q m (λ g a n s. s) (λ g a n s. absurd (omega (arith, h, n))) (λ k d s. s)
+
+-- the reply is a refusal, or the request is granted
+pub reply-granted : (q : Request) (m : Monitor) → (number (step q m .decision) < 2) ↔ (checks q m ≡ Granted)
+reply-granted q m = (
+  λ e. step-cases q m (λ g a n s. g) (λ g a n s. g) (λ h d s. absurd (omega (arith, h, e))),
+  λ g. step-cases q m (λ g a n s. omega (arith, n)) (λ g a n s. omega (arith, n)) (λ h d s. absurd (omega (arith, h, ap number (d ∙ g)))),
+)

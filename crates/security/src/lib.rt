@@ -1,0 +1,1 @@
+// Theorems about the definitions of `model`, and no code: the statements are listed in docs/THEOREMS.md.
