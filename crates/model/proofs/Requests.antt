@@ -56,7 +56,7 @@ create-number x e =
 
 -- the parts of the test of the fields
 module _ (f : Fields) (e : wellFormed f ≡ true) where
-  in-kinds : (leb 1 (f .kind) && leb (f .kind) 7) ≡ true
+  pub in-kinds : (leb 1 (f .kind) && leb (f .kind) 7) ≡ true
   unfolding wellFormed
   in-kinds = and-left (leb 1 (f .kind) && leb (f .kind) 7) _ e
 
@@ -74,7 +74,7 @@ module _ (f : Fields) (e : wellFormed f ≡ true) where
   pub object-in : f .object < 64
   object-in = ltb-true _ _ (and-left (ltb (f .object) 64) _ (and-right (ltb (f .other) 16) _ after-actor))
 
-  last-two : (modeAllowed (f .kind) (f .mode) && unusedZero f) ≡ true
+  pub last-two : (modeAllowed (f .kind) (f .mode) && unusedZero f) ≡ true
   last-two = and-right (ltb (f .object) 64) _ (and-right (ltb (f .other) 16) _ after-actor)
 
 -- the parts of the test of unused fields, where its kind is known

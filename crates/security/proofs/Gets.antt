@@ -13,14 +13,15 @@ use Rattle.model.specs.declared.Monitor.{Monitor}
 use Rattle.model.specs.declared.Mode.{Mode}
 use Rattle.model.specs.declared.Request.the-variants.{Get}
 use Rattle.model.specs.declared.Decision.the-variants.{Granted, NotEnrolled, NotLive, NoRight, NoLabel, SimpleBroken, StarBroken}
-use Rattle.model.specs.Levels.{Dominates, present}
+use Rattle.model.specs.Tests.{implies}
+use Rattle.model.specs.Levels.{Dominates, dominates, present}
 use Rattle.model.specs.Modes.{has, add, observes, needsLabel}
 use Rattle.model.specs.State.{noObject, clearance, enrolled, objectAt, object, rightsOf, heldBy, withHeld}
-use Rattle.model.specs.Properties.{Secure, Holds}
+use Rattle.model.specs.Properties.{Secure, Simple, Holds}
 use Rattle.model.specs.Decisions.{number}
 use Rattle.model.specs.Rules.{changed, afterwards, checks, step}
-use Rattle.model.proofs.Tests.{pass, implies-in, clash}
-use Rattle.model.proofs.Modes.{add-has}
+use Rattle.model.proofs.Tests.{set-all, pass, implies-in, implies-out, clash}
+use Rattle.model.proofs.Modes.{add-has, held-add}
 use Rattle.model.proofs.Levels.{dominates-decides}
 use Rattle.security.specs.Access.{withAccess}
 use Rattle.security.proofs.Form.{enrolled-below}
@@ -34,13 +35,7 @@ live-below [] o e = clash (sym e)
 live-below (x ∷ xs) zero e = omega arith
 live-below (x ∷ xs) (suc o) e = let h : o < length xs = live-below xs o e in omega arith
 
-module _ (m : Monitor) (S : Sound m) (s o : ℕ) (x : Mode) (there : enrolled m s ≡ true) (live : object m o .live ≡ true) where
-  s-below : s < 16
-  s-below = omega (arith, S .formed .subjects-length, enrolled-below (m .subjects) s there)
-
-  o-below : o < 64
-  o-below = omega (arith, S .formed .objects-length, live-below (m .objects) o live)
-
+module _ (m : Monitor) (S : Sound m) (s o : ℕ) (x : Mode) (s-below : s < 16) (o-below : o < 64) where
   -- the object in the state with the access added
   there-now : object (withAccess m s o x) o ≡ withHeld (object m o) s (add x (heldBy (object m o) s))
   there-now = getD-set-same (m .objects) o _ noObject (omega (arith, o-below, S .formed .objects-length))
@@ -51,20 +46,41 @@ module _ (m : Monitor) (S : Sound m) (s o : ℕ) (x : Mode) (there : enrolled m 
       ∙ ap (has x) (getD-set-same (object m o .held) s _ 0 (omega (arith, s-below, S .formed .objects-formed o .held-length)))
       ∙ add-has x _ (S .formed .objects-formed o .held-fit s)
 
+  -- the simple property of that state, tested at the actor and the object
+  pub simple-get-out : Simple (withAccess m s o x) → implies (observes x) (dominates (clearance m s) (object m o .label)) ≡ true
+  simple-get-out T =
+      implies-in _ _ (λ n. dominates-decides _ _ .1 (subst (λ (b : Object). Dominates (clearance m s) (b .label)) there-now (T s o x holds-now n)))
+
+  pub simple-get-in : implies (observes x) (dominates (clearance m s) (object m o .label)) ≡ true → Simple (withAccess m s o x)
+  simple-get-in e t p y =
+      set-all (λ j ob. has y (heldBy ob t) ≡ true → observes y ≡ true → Dominates (clearance m t) (ob .label)) (m .objects) o _ noObject
+      (λ j. S .secure .simple t j y)
+      (set-all (λ u k. has y k ≡ true → observes y ≡ true → Dominates (clearance m u) (object m o .label)) (object m o .held) s _ 0
+      (λ u. S .secure .simple u o y)
+      (λ w n. held-add x y _ (S .formed .objects-formed o .held-fit s) w
+      (λ q. dominates-decides _ _ .0 (implies-out _ _ e (sym (ap observes q) ∙ n))) (λ q. S .secure .simple s o y q n)) t)
+      p
+
   -- where the state with the access added is secure, every check passes
-  secure-granted : Secure (withAccess m s o x) → checks (Get s o x) m ≡ Granted
+  secure-granted : enrolled m s ≡ true → object m o .live ≡ true → Secure (withAccess m s o x) → checks (Get s o x) m ≡ Granted
   unfolding checks changed
-  secure-granted T =
+  secure-granted there live T =
       pass _ NotEnrolled _ there ∙ pass _ NotLive _ live
       ∙ pass _ NoRight _ (sym (ap (λ (b : Object). has x (rightsOf b s)) there-now) ∙ T .discretionary s o x holds-now)
       ∙ pass _ NoLabel _ (implies-in _ _ (λ n. sym (ap (λ (b : Object). present (b .label)) there-now) ∙ T .labelled s o x holds-now n))
-      ∙ pass _ SimpleBroken _
-      (implies-in _ _ (λ n. dominates-decides _ _ .1 (subst (λ (b : Object). Dominates (clearance m s) (b .label)) there-now (T .simple s o x holds-now n))))
+      ∙ pass _ SimpleBroken _ (simple-get-out (T .simple))
       ∙ pass _ StarBroken _ (implies-in _ _ (λ n. star-in s _ (star-for (withAccess m s o x) (T .star) s)))
+
+module _ (m : Monitor) (S : Sound m) (s o : ℕ) (x : Mode) (there : enrolled m s ≡ true) (live : object m o .live ≡ true) where
+  s-below : s < 16
+  s-below = omega (arith, S .formed .subjects-length, enrolled-below (m .subjects) s there)
+
+  o-below : o < 64
+  o-below = omega (arith, S .formed .objects-length, live-below (m .objects) o live)
 
   pub granted-secure : (checks (Get s o x) m ≡ Granted) ↔ Secure (withAccess m s o x)
   unfolding changed
-  granted-secure = (λ g. sound-afterwards (Get s o x) m (s-below, o-below) S g .secure, secure-granted)
+  granted-secure = (λ g. sound-afterwards (Get s o x) m (s-below, o-below) S g .secure, secure-granted m S s o x s-below o-below there live)
 
   pub get-refused-exactly : (2 ≤ number (step (Get s o x) m .decision)) ↔ (Secure (withAccess m s o x) → ⊥)
   get-refused-exactly =

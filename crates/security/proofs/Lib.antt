@@ -5,3 +5,16 @@ pub mod Steps
 pub mod Replies
 pub mod Gets
 pub mod Frames
+pub mod First
+pub mod RequestCauses
+pub mod Malformed
+pub mod Shapes
+pub mod StateTests
+pub mod Images
+pub mod Trips
+pub mod Probes
+pub mod Objects
+pub mod ObjectProbes
+pub mod Clearances
+pub mod Demand3
+pub mod MarkedRun

@@ -226,6 +226,20 @@ pub star-of : (m : Monitor) → ((s : ℕ) → StarFor s (m .objects)) → Star 
 unfolding StarFor
 star-of m h s = h s
 
+-- after a get: the actor's star is tested where the mode flows, and nobody else's changes
+pub star-get : (s o : ℕ) (x : Mode) (m : Monitor) → WellFormed m → Star m → implies (needsLabel x) (starFor s (afterwards (Get s o x) m .objects)) ≡ true
+    → (j : ℕ) → StarFor j (afterwards (Get s o x) m .objects)
+unfolding changed
+star-get s o x m W T e j =
+    let before = star-for m T j in
+    elim (ℕ-discrete j s) [
+      | yes q ↦ split (needsLabel x)
+          (λ w. subst (λ (i : ℕ). StarFor i (afterwards (Get s o x) m .objects)) (sym q) (star-out s _ (implies-out _ _ e w)))
+          (λ w. star-less j (m .objects) o _ before
+          (less-held (object m o) s _ (λ y f r. held-add x y _ (W .objects-formed o .held-fit s) r (λ p. apart (sym (ap needsLabel p) ∙ f) w) (λ p. p)) j))
+      | no h ↦ star-less j (m .objects) o _ before (less-other (object m o) s _ j h)
+    ]
+
 pub changed-star : (q : Request) (m : Monitor) → WellFormed m → Secure m → ((o : ℕ) → length (objectAt (afterwards q m .objects) o .held) ≡ 16)
     → checks q m ≡ Granted → (j : ℕ) → StarFor j (afterwards q m .objects)
 unfolding checks changed
@@ -236,14 +250,7 @@ changed-star (Get s o x) m W S n e j =
     let d = passed _ NoLabel _ refl (c .1) in
     let g = passed _ SimpleBroken _ refl (d .1) in
     let k = passed _ StarBroken _ refl (g .1) in
-    let before = star-for m (S .star) j in
-    elim (ℕ-discrete j s) [
-      | yes q ↦ split (needsLabel x)
-          (λ w. subst (λ (i : ℕ). StarFor i (afterwards (Get s o x) m .objects)) (sym q) (star-out s _ (implies-out _ _ (k .0) w)))
-          (λ w. star-less j (m .objects) o _ before
-          (less-held (object m o) s _ (λ y f r. held-add x y _ (W .objects-formed o .held-fit s) r (λ p. apart (sym (ap needsLabel p) ∙ f) w) (λ p. p)) j))
-      | no h ↦ star-less j (m .objects) o _ before (less-other (object m o) s _ j h)
-    ]
+    star-get s o x m W (S .star) (k .0) j
 changed-star (Release s o x) m W S n e j =
     star-less j (m .objects) o _ (star-for m (S .star) j)
     (less-held (object m o) s _ (λ y f r. held-remove x y _ (W .objects-formed o .held-fit s) r) j)

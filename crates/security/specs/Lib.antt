@@ -2,3 +2,6 @@
 pub mod First
 pub mod Causes
 pub mod Access
+pub mod Tables
+pub mod Distinguish
+pub mod MarkedRun

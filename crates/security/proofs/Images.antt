@@ -1,0 +1,188 @@
+-- Tables and images: the checks answer the first of their causes; an accepted one has its form and begins a well-formed, secure monitor.
+-- Assumes nothing.
+use Prim.Native.Nat.{ℕ, zero, suc}
+use mathlib.Core.Path.{_≡_, refl, sym, ap, _∙_, subst}
+use mathlib.Core.Logic.{_⊎_, inl, inr, ⊎-elim, _↔_, _≢_}
+use mathlib.Core.Bool.{Bool, true, false, cond, _&&_, _||_}
+use mathlib.Core.List.{List, [], _∷_}
+use lib.ListN.{length, getD, take, drop}
+use lib.Dec.{eqb}
+use borrow.Author.Tests.{eq-eqb, eqb-true}
+use Rattle.bits.specs.Bits.{first, allZero}
+use Rattle.model.specs.declared.Monitor.{Monitor}
+use Rattle.model.specs.declared.Decision.{Decision}
+use Rattle.model.specs.declared.Decision.the-variants.{Granted, NoRight, NoLabel, SimpleBroken, StarBroken, WrongLength, StrayBits, AbsentSubject}
+use Rattle.model.specs.Tests.{allOf}
+use Rattle.model.specs.State.{WellFormed, fresh}
+use Rattle.model.specs.Properties.{Secure}
+use Rattle.model.specs.Layout.{labelWidth, labelOffset, tableSize, imageSize}
+use Rattle.model.specs.Reading.{labelForm, objectForm, tableRecords, objectRecords, tableForm, objectsForm, imageForm, tableFrom, monitorFrom, stateChecks, tableChecks, imageChecks}
+use Rattle.model.proofs.Tests.{split, apart, clash, passed, pass, and-left, and-right, and-both, and-false, or-cases, or-false, cond-true, cond-false, all-out, all-false}
+use Rattle.security.specs.First.{AnswersFirst}
+use Rattle.security.specs.Causes.{Stray, StrayLabel, StrayInTable, StrayInObjects, AbsentActs, tableOrder, TableCause, imageOrder, ImageCause}
+use Rattle.security.proofs.First.{answers-end, answers-skip, answers-check}
+use Rattle.security.proofs.Steps.{Sound, sound-fresh}
+use Rattle.security.proofs.Shapes.{image-shape, table-shape, shape-of}
+use Rattle.security.proofs.StateTests.{formed-out, formed-in, absent-acts, none-acts, matrix-out, matrix-in, labelled-out, labelled-in, simple-all-out, simple-all-in, stars-out, stars-in}
+
+-- ---- bits of what is absent
+
+zero-at : (b : List Bool) → allZero b ≡ true → (j : ℕ) → getD b j false ≡ false
+unfolding allZero
+zero-at [] e j = refl
+zero-at (true ∷ b) e j = clash (sym e)
+zero-at (false ∷ b) e zero = refl
+zero-at (false ∷ b) e (suc j) = zero-at b e j
+
+one-at : (b : List Bool) → allZero b ≡ false → (j : ℕ) × (getD b j false ≡ true)
+unfolding allZero
+one-at [] e = clash e
+one-at (true ∷ b) e = (0, refl)
+one-at (false ∷ b) e = let p = one-at b e in (suc (p .0), p .1)
+
+label-stray : (r : List Bool) → labelForm r ≡ false → Stray r
+unfolding labelForm
+label-stray r e = let p = or-false (first r) (allZero r) e in (p .0, one-at r (p .1))
+
+label-clear : (r : List Bool) → labelForm r ≡ true → Stray r → ⊥
+unfolding labelForm
+label-clear r e s =
+    or-cases (first r) (allZero r) e (λ w. apart w (s .0)) (λ w. apart (s .1 .1) (zero-at r w (s .1 .0)))
+
+object-stray : (r : List Bool) → objectForm r ≡ false → Stray r ⊎ StrayLabel r
+unfolding objectForm
+object-stray r e =
+    split (first r)
+    (λ w. inr (w, label-stray (take labelWidth (drop labelOffset r)) (sym (cond-true (first r) _ _ w) ∙ e)))
+    (λ w. inl (w, one-at r (sym (cond-false (first r) _ _ w) ∙ e)))
+
+object-clear : (r : List Bool) → objectForm r ≡ true → (Stray r ⊎ StrayLabel r) → ⊥
+unfolding objectForm
+object-clear r e s =
+    ⊎-elim (λ (u : Stray r). apart (u .1 .1) (zero-at r (sym (cond-false (first r) _ _ (u .0)) ∙ e) (u .1 .0)))
+    (λ (u : StrayLabel r). label-clear (take labelWidth (drop labelOffset r)) (sym (cond-true (first r) _ _ (u .0)) ∙ e) (u .1)) s
+
+table-stray : (b : List ℕ) → tableForm b ≡ false → StrayInTable b
+unfolding tableForm
+table-stray b e = all-false labelForm [] (tableRecords b) e (λ i h w. (i, label-stray _ w))
+
+table-clear : (b : List ℕ) → tableForm b ≡ true → StrayInTable b → ⊥
+unfolding tableForm labelForm allZero
+table-clear b e s = label-clear (getD (tableRecords b) (s .0) []) (all-out labelForm [] (tableRecords b) refl e (s .0)) (s .1)
+
+objects-stray : (b : List ℕ) → objectsForm b ≡ false → StrayInObjects b
+unfolding objectsForm
+objects-stray b e = all-false objectForm [] (objectRecords b) e (λ i h w. (i, object-stray _ w))
+
+objects-clear : (b : List ℕ) → objectsForm b ≡ true → StrayInObjects b → ⊥
+unfolding objectsForm objectForm allZero
+objects-clear b e s = object-clear (getD (objectRecords b) (s .0) []) (all-out objectForm [] (objectRecords b) refl e (s .0)) (s .1)
+
+image-stray : (b : List ℕ) → imageForm b ≡ false → StrayInTable (take tableSize b) ⊎ StrayInObjects (drop tableSize b)
+unfolding imageForm
+image-stray b e =
+    and-false (tableForm (take tableSize b)) (objectsForm (drop tableSize b)) e
+    (λ w. inl (table-stray (take tableSize b) w)) (λ w. inr (objects-stray (drop tableSize b) w))
+
+image-clear : (b : List ℕ) → imageForm b ≡ true → (StrayInTable (take tableSize b) ⊎ StrayInObjects (drop tableSize b)) → ⊥
+unfolding imageForm
+image-clear b e s =
+    ⊎-elim (λ (u : StrayInTable (take tableSize b)). table-clear (take tableSize b) (and-left (tableForm (take tableSize b)) _ e) u)
+    (λ (u : StrayInObjects (drop tableSize b)). objects-clear (drop tableSize b) (and-right (tableForm (take tableSize b)) _ e) u) s
+
+-- ---- the first refusal
+
+length-is : (b : List ℕ) (n : ℕ) → eqb (length b) n ≡ true → length b ≢ n → ⊥
+length-is b n e w = w (eqb-true _ _ e)
+
+length-is-not : (b : List ℕ) (n : ℕ) → eqb (length b) n ≡ false → length b ≢ n
+length-is-not b n e w = apart (eq-eqb (length b) n w) e
+
+-- "Tables are checked 10, 11"
+pub table-answers : (b : List ℕ) → AnswersFirst tableOrder (TableCause b) (tableChecks b)
+unfolding tableChecks tableOrder
+table-answers b =
+    answers-check _ WrongLength _ _ _ refl (length-is b tableSize) (length-is-not b tableSize)
+    (answers-check _ StrayBits _ _ _ refl (table-clear b) (table-stray b)
+    (answers-end _))
+
+-- a property that its test decides
+decided : {P : Type 0} (b : Bool) → (P → b ≡ true) → b ≡ false → P → ⊥
+decided b f e p = apart (f p) e
+
+-- "images 10, 11, 12, 6, 7, 8, 9, each over the whole image before the next"
+pub image-answers : (b : List ℕ) → AnswersFirst imageOrder (ImageCause b) (imageChecks b)
+unfolding imageChecks stateChecks imageOrder
+image-answers b =
+    let m = monitorFrom b in
+    let S = image-shape b in
+    answers-check _ WrongLength _ _ _ refl (length-is b imageSize) (length-is-not b imageSize)
+    (answers-check _ StrayBits _ _ _ refl (image-clear b) (image-stray b)
+    (answers-check _ AbsentSubject _ _ _ refl (λ e. none-acts m (formed-out m S e)) (absent-acts m S)
+    (answers-check _ NoRight _ _ _ refl (λ e w. w (matrix-out m S e)) (decided _ (matrix-in m S))
+    (answers-check _ NoLabel _ _ _ refl (λ e w. w (labelled-out m S e)) (decided _ (labelled-in m S))
+    (answers-check _ SimpleBroken _ _ _ refl (λ e w. w (simple-all-out m S e)) (decided _ (simple-all-in m S))
+    (answers-check _ StarBroken _ _ _ refl (λ e w. w (stars-out m S e)) (decided _ (stars-in m S))
+    (answers-end _)))))))
+
+-- ---- acceptance
+
+-- a well-formed, secure state passes the checks of a state
+pub state-passes : (m : Monitor) → Sound m → stateChecks m ≡ Granted
+unfolding stateChecks
+state-passes m S =
+    let H = shape-of m (S .formed) in
+    pass _ AbsentSubject _ (formed-in m H (S .formed))
+    ∙ pass _ NoRight _ (matrix-in m H (S .secure .discretionary))
+    ∙ pass _ NoLabel _ (labelled-in m H (S .secure .labelled))
+    ∙ pass _ SimpleBroken _ (simple-all-in m H (S .secure .simple))
+    ∙ pass _ StarBroken _ (stars-in m H (S .secure .star))
+
+-- what an accepted image has passed
+pub image-passed : (b : List ℕ) → imageChecks b ≡ Granted → (length b ≡ imageSize) × (imageForm b ≡ true) × Sound (monitorFrom b)
+unfolding imageChecks stateChecks
+image-passed b e =
+    let m = monitorFrom b in
+    let S = image-shape b in
+    let ten = passed _ WrongLength _ refl e in
+    let eleven = passed _ StrayBits _ refl (ten .1) in
+    let twelve = passed _ AbsentSubject _ refl (eleven .1) in
+    let six = passed _ NoRight _ refl (twelve .1) in
+    let seven = passed _ NoLabel _ refl (six .1) in
+    let eight = passed _ SimpleBroken _ refl (seven .1) in
+    let nine = passed _ StarBroken _ refl (eight .1) in
+    (eqb-true (length b) imageSize (ten .0), eleven .0, record {
+      formed = formed-out m S (twelve .0);
+      secure = record {
+        discretionary = matrix-out m S (six .0);
+        labelled = labelled-out m S (seven .0);
+        simple = simple-all-out m S (eight .0);
+        star = stars-out m S (nine .0);
+      };
+    })
+
+-- "An image is accepted exactly when it has this form, only enrolled subjects own, have rights or hold, and the state is secure"
+pub image-accepted-exactly : (b : List ℕ)
+    → (imageChecks b ≡ Granted)
+    ↔ ((length b ≡ imageSize) × (ImageCause b StrayBits → ⊥) × (AbsentActs (monitorFrom b) → ⊥) × Secure (monitorFrom b))
+unfolding imageChecks stateChecks
+image-accepted-exactly b = (
+  λ e. let p = image-passed b e in (p .0, image-clear b (p .1), none-acts (monitorFrom b) (p .2 .formed), p .2 .secure),
+  λ p.
+  let m = monitorFrom b in
+  let S = image-shape b in
+  pass _ WrongLength _ (eq-eqb (length b) imageSize (p .0))
+  ∙ pass _ StrayBits _ (holds (imageForm b) (λ e. p .1 (image-stray b e)))
+  ∙ pass _ AbsentSubject _ (holds _ (λ e. p .2 (absent-acts m S e)))
+  ∙ pass _ NoRight _ (matrix-in m S (p .3 .discretionary))
+  ∙ pass _ NoLabel _ (labelled-in m S (p .3 .labelled))
+  ∙ pass _ SimpleBroken _ (simple-all-in m S (p .3 .simple))
+  ∙ pass _ StarBroken _ (stars-in m S (p .3 .star)),
+)
+  where
+    holds : (b : Bool) → (b ≡ false → ⊥) → b ≡ true
+    holds true h = refl
+    holds false h = absurd (h refl)
+
+pub table-sound : (b : List ℕ) → Sound (fresh (tableFrom b))
+table-sound b = sound-fresh (tableFrom b) (table-shape b)

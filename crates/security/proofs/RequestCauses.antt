@@ -1,0 +1,188 @@
+-- The checks of a request answer the first of its causes, in the scope's order; 2 is exactly its first row.
+-- Assumes nothing.
+use Prim.Native.Nat.{ℕ, zero, suc, _<_, _≤_}
+use native.Mathlib.Omega.{arith}
+use mathlib.Core.Path.{_≡_, refl, sym, ap, _∙_, subst}
+use mathlib.Core.Logic.{_⊎_, inl, inr, ⊎-elim, _↔_, _≢_}
+use mathlib.Core.Bool.{Bool, true, false, not, _&&_}
+use mathlib.Core.List.{List, [], _∷_}
+use lib.ListN.{length, set}
+use lib.Seq.{getD-set-same}
+use lib.Dec.{eqb}
+use borrow.Author.Tests.{eq-eqb, eqb-true}
+use Rattle.model.specs.declared.Level.{Level}
+use Rattle.model.specs.declared.Label.{Label}
+use Rattle.model.specs.declared.Label.the-variants.{Absent, Present}
+use Rattle.model.specs.declared.Object.{Object}
+use Rattle.model.specs.declared.Monitor.{Monitor}
+use Rattle.model.specs.declared.Mode.{Mode}
+use Rattle.model.specs.declared.Mode.the-variants.{Read, Write, Append, Execute}
+use Rattle.model.specs.declared.Request.{Request}
+use Rattle.model.specs.declared.Request.the-variants.{Get, Release, Give, Rescind, Create, Delete, ChangeLevel}
+use Rattle.model.specs.declared.Decision.{Decision}
+use Rattle.model.specs.declared.Decision.the-variants.{Granted, NotEnrolled, NotLive, AlreadyLive, NoRight, NoLabel, SimpleBroken, StarBroken}
+use Rattle.model.specs.Tests.{implies}
+use Rattle.model.specs.Levels.{present, dominates, Dominates}
+use Rattle.model.specs.Modes.{has, observes, needsLabel}
+use Rattle.model.specs.State.{noObject, clearance, enrolled, object, objectAt, rightsOf, heldBy, withLabel}
+use Rattle.model.specs.Properties.{Simple, Star, Permits}
+use Rattle.model.specs.Requests.{InRange}
+use Rattle.model.specs.Rules.{changed, afterwards, checks, owns, simpleAll, starFor, starAll}
+use Rattle.model.proofs.Tests.{set-all, split, apart, clash, not-false, and-left, and-right, and-false, implies-in, implies-out, implies-false, not-on, not-off}
+use Rattle.security.specs.First.{AnswersFirst}
+use Rattle.security.specs.Causes.{NotIn, requestOrder, RequestCause, LabelMissing}
+use Rattle.security.proofs.First.{answers-end, answers-skip, answers-check}
+use Rattle.security.proofs.Secure.{simple-in, simple-out, star-in, star-for, star-of, star-get, star-all-in, star-all-out}
+use Rattle.security.proofs.Steps.{Sound}
+use Rattle.security.proofs.Gets.{simple-get-in, simple-get-out}
+
+-- ---- what each test says of its cause
+
+absent : (a : Label) → present a ≡ false → a ≡ Absent
+absent Absent e = refl
+absent (Present l) e = clash e
+
+not-absent : (a : Label) → present a ≡ true → a ≡ Absent → ⊥
+not-absent a e w = apart e (ap present w)
+
+not-owner : (s : ℕ) (ob : Object) → owns s ob ≡ false → ob .owner ≢ s
+not-owner s ob e w = apart (eq-eqb (ob .owner) s w) e
+
+is-owner : (s : ℕ) (ob : Object) → owns s ob ≡ true → ob .owner ≢ s → ⊥
+is-owner s ob e w = w (eqb-true _ _ e)
+
+-- a fact that fails is not so
+fails : {b : Bool} → b ≡ false → b ≡ true → ⊥
+fails e w = apart w e
+
+module _ (m : Monitor) (S : Sound m) where
+  -- the actor, or the other subject
+  two-enrolled : (s t : ℕ) → (enrolled m s && enrolled m t) ≡ true → (NotIn m s ⊎ NotIn m t) → ⊥
+  two-enrolled s t e w =
+      ⊎-elim (λ (u : NotIn m s). not-absent (clearance m s) (and-left (enrolled m s) (enrolled m t) e) u)
+      (λ (u : NotIn m t). not-absent (clearance m t) (and-right (enrolled m s) (enrolled m t) e) u) w
+
+  one-absent : (s t : ℕ) → (enrolled m s && enrolled m t) ≡ false → NotIn m s ⊎ NotIn m t
+  one-absent s t e = and-false (enrolled m s) (enrolled m t) e (λ u. inl (absent (clearance m s) u)) (λ u. inr (absent (clearance m t) u))
+
+  -- ownership with the right, for give and rescind
+  may-give : (s o : ℕ) (x : Mode) → (owns s (object m o) && has x (rightsOf (object m o) s)) ≡ true
+      → ((object m o .owner ≢ s) ⊎ (Permits m s o x → ⊥)) → ⊥
+  may-give s o x e w =
+      ⊎-elim (λ (u : object m o .owner ≢ s). is-owner s (object m o) (and-left (owns s (object m o)) _ e) u)
+      (λ (u : Permits m s o x → ⊥). u (and-right (owns s (object m o)) _ e)) w
+
+  may-not-give : (s o : ℕ) (x : Mode) → (owns s (object m o) && has x (rightsOf (object m o) s)) ≡ false
+      → (object m o .owner ≢ s) ⊎ (Permits m s o x → ⊥)
+  may-not-give s o x e = and-false (owns s (object m o)) (has x (rightsOf (object m o) s)) e (λ u. inl (not-owner s (object m o) u)) (λ u. inr (fails u))
+
+  -- the label, for the modes that need one
+  label-missing : (s o : ℕ) (x : Mode) → implies (needsLabel x) (present (object m o .label)) ≡ false → LabelMissing (Get s o x) m
+  unfolding implies
+  label-missing s o Read e = absent (object m o .label) e
+  label-missing s o Write e = absent (object m o .label) e
+  label-missing s o Append e = absent (object m o .label) e
+  label-missing s o Execute e = clash e
+
+  label-there : (s o : ℕ) (x : Mode) → implies (needsLabel x) (present (object m o .label)) ≡ true → LabelMissing (Get s o x) m → ⊥
+  unfolding implies
+  label-there s o Read e w = not-absent (object m o .label) e w
+  label-there s o Write e w = not-absent (object m o .label) e w
+  label-there s o Append e w = not-absent (object m o .label) e w
+  label-there s o Execute e w = w
+
+  -- a change of level: simple at the object for all subjects, star over all
+  module _ (s o : ℕ) (l : Level) (o-below : o < 64) where
+    labelled-now : object (afterwards (ChangeLevel s o l) m) o ≡ withLabel (object m o) (Present l)
+    unfolding changed
+    labelled-now = getD-set-same (m .objects) o _ noObject (omega (arith, o-below, S .formed .objects-length))
+
+    simple-change-in : simpleAll (m .subjects) (changed (ChangeLevel s o l) (object m o)) ≡ true → Simple (afterwards (ChangeLevel s o l) m)
+    unfolding changed
+    simple-change-in e t p y =
+        set-all (λ j ob. has y (heldBy ob t) ≡ true → observes y ≡ true → Dominates (clearance m t) (ob .label)) (m .objects) o _ noObject
+        (λ j. S .secure .simple t j y)
+        (simple-out (m .subjects) (withLabel (object m o) (Present l)) (S .formed .objects-formed o .held-length) e t y) p
+
+    simple-change-out : Simple (afterwards (ChangeLevel s o l) m) → simpleAll (m .subjects) (changed (ChangeLevel s o l) (object m o)) ≡ true
+    unfolding changed
+    simple-change-out T =
+        simple-in (m .subjects) (withLabel (object m o) (Present l))
+        (λ t y. subst (λ (b : Object). has y (heldBy b t) ≡ true → observes y ≡ true → Dominates (clearance m t) (b .label)) labelled-now (T t o y))
+
+    star-change-in : starAll (afterwards (ChangeLevel s o l) m .objects) ≡ true → Star (afterwards (ChangeLevel s o l) m)
+    unfolding changed
+    star-change-in e =
+        star-of (afterwards (ChangeLevel s o l) m)
+        (star-all-out _ (set-all (λ j ob. length (ob .held) ≡ 16) (m .objects) o _ noObject (λ j. S .formed .objects-formed j .held-length) (S .formed .objects-formed o .held-length)) e)
+
+  -- a get: simple at the actor and the object
+  simple-after-get : (s o : ℕ) (x : Mode) → InRange (Get s o x) → implies (observes x) (dominates (clearance m s) (object m o .label)) ≡ true
+      → Simple (afterwards (Get s o x) m)
+  unfolding changed
+  simple-after-get s o x r e = simple-get-in m S s o x (r .0) (r .1) e
+
+  simple-tested : (s o : ℕ) (x : Mode) → InRange (Get s o x) → Simple (afterwards (Get s o x) m)
+      → implies (observes x) (dominates (clearance m s) (object m o .label)) ≡ true
+  unfolding changed
+  simple-tested s o x r T = simple-get-out m S s o x (r .0) (r .1) T
+
+  -- a kind without checks 7, 8 and 9
+  no-later : (q : Request) → (RequestCause q m NoLabel → ⊥) → (RequestCause q m SimpleBroken → ⊥) → (RequestCause q m StarBroken → ⊥)
+      → AnswersFirst (NoLabel ∷ SimpleBroken ∷ StarBroken ∷ []) (RequestCause q m) Granted
+  no-later q a b c = answers-skip NoLabel _ _ _ a (answers-skip SimpleBroken _ _ _ b (answers-skip StarBroken _ _ _ c (answers-end _)))
+
+  -- ---- the theorem, kind by kind
+
+  pub request-answers : (q : Request) → InRange q → AnswersFirst requestOrder (RequestCause q m) (checks q m)
+  unfolding checks requestOrder
+  request-answers (Get s o x) r =
+      answers-check _ NotEnrolled _ _ _ refl (not-absent (clearance m s)) (absent (clearance m s))
+      (answers-check _ NotLive _ _ _ refl (λ e w. w e) fails
+      (answers-skip AlreadyLive _ _ _ (λ w. w)
+      (answers-check _ NoRight _ _ _ refl (λ e w. w e) fails
+      (answers-check _ NoLabel _ _ _ refl (label-there s o x) (label-missing s o x)
+      (answers-check _ SimpleBroken _ _ _ refl
+      (λ e w. w (simple-after-get s o x r e)) (λ e T. fails e (simple-tested s o x r T))
+      (answers-check _ StarBroken _ _ _ refl
+      (λ e w. w (star-of (afterwards (Get s o x) m) (star-get s o x m (S .formed) (S .secure .star) e)))
+      (λ e T. fails e (implies-in _ _ (λ n. star-in s _ (star-for (afterwards (Get s o x) m) T s))))
+      (answers-end _)))))))
+  request-answers (Release s o x) r =
+      answers-check _ NotEnrolled _ _ _ refl (not-absent (clearance m s)) (absent (clearance m s))
+      (answers-check _ NotLive _ _ _ refl (λ e w. w e) fails
+      (answers-skip AlreadyLive _ _ _ (λ w. w) (answers-skip NoRight _ _ _ (λ w. w) (no-later (Release s o x) (λ w. w) (λ w. w) (λ w. w)))))
+  request-answers (Give s t o x) r =
+      answers-check _ NotEnrolled _ _ _ refl (two-enrolled s t) (one-absent s t)
+      (answers-check _ NotLive _ _ _ refl (λ e w. w e) fails
+      (answers-skip AlreadyLive _ _ _ (λ w. w)
+      (answers-check _ NoRight _ _ _ refl (may-give s o x) (may-not-give s o x)
+      (no-later (Give s t o x) (λ w. w) (λ w. w) (λ w. w)))))
+  request-answers (Rescind s t o x) r =
+      answers-check _ NotEnrolled _ _ _ refl (two-enrolled s t) (one-absent s t)
+      (answers-check _ NotLive _ _ _ refl (λ e w. w e) fails
+      (answers-skip AlreadyLive _ _ _ (λ w. w)
+      (answers-check _ NoRight _ _ _ refl (may-give s o x) (may-not-give s o x)
+      (no-later (Rescind s t o x) (λ w. w) (λ w. w) (λ w. w)))))
+  request-answers (Create s o e) r =
+      answers-check _ NotEnrolled _ _ _ refl (not-absent (clearance m s)) (absent (clearance m s))
+      (answers-skip NotLive _ _ _ (λ w. w)
+      (answers-check _ AlreadyLive _ _ _ refl (λ e w. apart w (not-on _ e)) (not-off _)
+      (answers-skip NoRight _ _ _ (λ w. w) (no-later (Create s o e) (λ w. w) (λ w. w) (λ w. w)))))
+  request-answers (Delete s o) r =
+      answers-check _ NotEnrolled _ _ _ refl (not-absent (clearance m s)) (absent (clearance m s))
+      (answers-check _ NotLive _ _ _ refl (λ e w. w e) fails
+      (answers-skip AlreadyLive _ _ _ (λ w. w)
+      (answers-check _ NoRight _ _ _ refl (is-owner s (object m o)) (not-owner s (object m o))
+      (no-later (Delete s o) (λ w. w) (λ w. w) (λ w. w)))))
+  request-answers (ChangeLevel s o l) r =
+      answers-check _ NotEnrolled _ _ _ refl (not-absent (clearance m s)) (absent (clearance m s))
+      (answers-check _ NotLive _ _ _ refl (λ e w. w e) fails
+      (answers-skip AlreadyLive _ _ _ (λ w. w)
+      (answers-check _ NoRight _ _ _ refl (is-owner s (object m o)) (not-owner s (object m o))
+      (answers-skip NoLabel _ _ _ (λ w. w)
+      (answers-check _ SimpleBroken _ _ _ refl
+      (λ e w. w (simple-change-in s o l (r .1) e)) (λ e T. fails e (simple-change-out s o l (r .1) T))
+      (answers-check _ StarBroken _ _ _ refl
+      (λ e w. w (star-change-in s o l (r .1) e)) (λ e T. fails e (star-all-in _ (star-for (afterwards (ChangeLevel s o l) m) T)))
+      (answers-end _)))))))
