@@ -17,4 +17,8 @@ pub mod Objects
 pub mod ObjectProbes
 pub mod Clearances
 pub mod Demand3
+pub mod Demand2
+pub mod FirstRefusal
+pub mod RoundTrips
 pub mod MarkedRun
+pub mod Witnesses
