@@ -6,3 +6,4 @@ pub mod Levels
 pub mod Packing
 pub mod Requests
 pub mod Records
+pub mod Examples

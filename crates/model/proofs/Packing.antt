@@ -28,14 +28,14 @@ pub fields-fit : (b : List ℕ) → FieldsFit (fields b)
 unfolding fields
 fields-fit b =
     record {
-      kind = field-lt b 0 4;
-      actor = field-lt b 4 5;
-      other = field-lt b 9 5;
-      object = field-lt b 14 7;
-      mode = field-lt b 21 3;
-      class = field-lt b 24 4;
-      needs = field-lt b 28 16;
-      spare = field-lt b 44 4;
+      kind = field-lt b _ _;
+      actor = field-lt b _ _;
+      other = field-lt b _ _;
+      object = field-lt b _ _;
+      mode = field-lt b _ _;
+      class = field-lt b _ _;
+      needs = field-lt b _ _;
+      spare = field-lt b _ _;
     }
 
 abbrev packedBits : Fields → List Bool

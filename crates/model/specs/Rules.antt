@@ -94,6 +94,10 @@ already (ChangeLevel s o l) ob = sameLabel (ob .label) (Present l)
 abbrev pub owns : ℕ → Object → Bool
 owns s ob = eqb (ob .owner) s
 
+-- "the actor is owner and has that right itself"
+abbrev pub mayGive : ℕ → Mode → Object → Bool
+mayGive s x ob = owns s ob && has x (rightsOf ob s)
+
 -- the first check that fails gives its answer, Granted where none does
 unfoldable pub checks : Request → Monitor → Decision
 -- "checks 4, 6 (the actor's right); 7 (not e); 8 (r, w); 9 (r, w, a)"
@@ -114,13 +118,13 @@ checks (Release s o x) m =
 checks (Give s t o x) m =
     unless (enrolled m s && enrolled m t) NotEnrolled
     (unless (object m o .live) NotLive
-    (unless (owns s (object m o) && has x (rightsOf (object m o) s)) NoRight
+    (unless (mayGive s x (object m o)) NoRight
     Granted))
 -- "checks as give"
 checks (Rescind s t o x) m =
     unless (enrolled m s && enrolled m t) NotEnrolled
     (unless (object m o .live) NotLive
-    (unless (owns s (object m o) && has x (rightsOf (object m o) s)) NoRight
+    (unless (mayGive s x (object m o)) NoRight
     Granted))
 -- "check 5"
 checks (Create s o e) m =

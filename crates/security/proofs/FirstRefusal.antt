@@ -68,8 +68,8 @@ pub reply-2-exactly : (g : List ℕ) (m : Monitor) → (reply g m ≡ 2) ↔ Mal
 unfolding respond
 reply-2-exactly g m = (
   λ e. malformed-exactly g .0
-  (respond-all (λ (r : Response). number (r .decision) ≡ 2 → decode g ≡ Malformed) g m (λ w z. w)
-  (λ q d z. absurd (never-malformed q m (reply-is q m MalformedRequest refl .0 z))) e),
+      (respond-all (λ (r : Response). number (r .decision) ≡ 2 → decode g ≡ Malformed) g m (λ w z. w)
+      (λ q d z. absurd (never-malformed q m (reply-is q m MalformedRequest refl .0 z))) e),
   λ w. ap (λ (d : Decoded). number (carryOut d m .decision)) (malformed-exactly g .1 w),
 )
 

@@ -150,16 +150,19 @@ image-passed b e =
     let six = passed _ NoRight _ refl (twelve .1) in
     let seven = passed _ NoLabel _ refl (six .1) in
     let eight = passed _ SimpleBroken _ refl (seven .1) in
-    let nine = passed _ StarBroken _ refl (eight .1) in
-    (eqb-true (length b) imageSize (ten .0), eleven .0, record {
-      formed = formed-out m S (twelve .0);
-      secure = record {
-        discretionary = matrix-out m S (six .0);
-        labelled = labelled-out m S (seven .0);
-        simple = simple-all-out m S (eight .0);
-        star = stars-out m S (nine .0);
-      };
-    })
+    let nine = passed _ StarBroken _ refl (eight .1) in (
+      eqb-true (length b) imageSize (ten .0),
+      eleven .0,
+      record {
+        formed = formed-out m S (twelve .0);
+        secure = record {
+          discretionary = matrix-out m S (six .0);
+          labelled = labelled-out m S (seven .0);
+          simple = simple-all-out m S (eight .0);
+          star = stars-out m S (nine .0);
+        };
+      },
+    )
 
 -- "An image is accepted exactly when it has this form, only enrolled subjects own, have rights or hold, and the state is secure"
 pub image-accepted-exactly : (b : List ℕ)
@@ -169,15 +172,15 @@ unfolding imageChecks stateChecks
 image-accepted-exactly b = (
   λ e. let p = image-passed b e in (p .0, image-clear b (p .1), none-acts (monitorFrom b) (p .2 .formed), p .2 .secure),
   λ p.
-  let m = monitorFrom b in
-  let S = image-shape b in
-  pass _ WrongLength _ (eq-eqb (length b) imageSize (p .0))
-  ∙ pass _ StrayBits _ (holds (imageForm b) (λ e. p .1 (image-stray b e)))
-  ∙ pass _ AbsentSubject _ (holds _ (λ e. p .2 (absent-acts m S e)))
-  ∙ pass _ NoRight _ (matrix-in m S (p .3 .discretionary))
-  ∙ pass _ NoLabel _ (labelled-in m S (p .3 .labelled))
-  ∙ pass _ SimpleBroken _ (simple-all-in m S (p .3 .simple))
-  ∙ pass _ StarBroken _ (stars-in m S (p .3 .star)),
+      let m = monitorFrom b in
+      let S = image-shape b in
+      pass _ WrongLength _ (eq-eqb (length b) imageSize (p .0))
+      ∙ pass _ StrayBits _ (holds (imageForm b) (λ e. p .1 (image-stray b e)))
+      ∙ pass _ AbsentSubject _ (holds _ (λ e. p .2 (absent-acts m S e)))
+      ∙ pass _ NoRight _ (matrix-in m S (p .3 .discretionary))
+      ∙ pass _ NoLabel _ (labelled-in m S (p .3 .labelled))
+      ∙ pass _ SimpleBroken _ (simple-all-in m S (p .3 .simple))
+      ∙ pass _ StarBroken _ (stars-in m S (p .3 .star)),
 )
   where
     holds : (b : Bool) → (b ≡ false → ⊥) → b ≡ true

@@ -35,9 +35,11 @@ mode-fails : (k x : ℕ) → modeAllowed k x ≡ false → ModeNotAllowed k x
 unfolding modeAllowed
 mode-fails k x e =
     split (leb k 4)
-    (λ w. inl (leb-true k 4 w,
-    and-false (leb 1 x) (leb x 4) (sym (cond-true (leb k 4) _ _ w) ∙ e)
-    (λ u. inl (let h : x < 1 = leb-false 1 x u in omega arith)) (λ u. inr (leb-false x 4 u))))
+    (λ w. inl (
+      leb-true k 4 w,
+      and-false (leb 1 x) (leb x 4) (sym (cond-true (leb k 4) _ _ w) ∙ e)
+          (λ u. inl (let h : x < 1 = leb-false 1 x u in omega arith)) (λ u. inr (leb-false x 4 u)),
+    ))
     (λ w. split (eqb k 5)
     (λ v.
     let f = or-false (eqb x 0) (eqb x 4) (sym (cond-true (eqb k 5) _ _ v) ∙ sym (cond-false (leb k 4) _ _ w) ∙ e) in
@@ -131,8 +133,8 @@ says-not-malformed b q e w =
 pub malformed-exactly : (b : List ℕ) → (decode b ≡ Malformed) ↔ MalformedBytes b
 malformed-exactly b = (
   λ e. split (eqb (length b) 6)
-  (λ l. split (wellFormed (fields b)) (λ w. absurd (not-both (sym e ∙ says-decode b (eqb-true (length b) 6 l) w))) (fields-fail b))
-  (λ l. not-six-bytes (eqb-false (length b) 6 l)),
+      (λ l. split (wellFormed (fields b)) (λ w. absurd (not-both (sym e ∙ says-decode b (eqb-true (length b) 6 l) w))) (fields-fail b))
+      (λ l. not-six-bytes (eqb-false (length b) 6 l)),
   λ w. go (decode b) (λ q e. says-not-malformed b q e w),
 )
   where

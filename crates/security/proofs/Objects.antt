@@ -101,10 +101,11 @@ module _ (m n : Monitor) (S : Sound m) (N : Sound n) where
     tells-life a b =
         let F = S .formed .objects-formed o in
         let w = object m o .owner in
-        let q = Release w o Read in
-        ((F .owner-fits, o-below),
-        tells-refusal q m n NotLive refl (pass _ NotEnrolled _ (there w (F .owner-fits) (F .owner-enrolled a)) ∙ stop _ NotLive _ b)
-        (λ e. distinct _ _ refl (sym (release-granted m w o Read (F .owner-enrolled a) a) ∙ e)))
+        let q = Release w o Read in (
+          (F .owner-fits, o-below),
+          tells-refusal q m n NotLive refl (pass _ NotEnrolled _ (there w (F .owner-fits) (F .owner-enrolled a)) ∙ stop _ NotLive _ b)
+              (λ e. distinct _ _ refl (sym (release-granted m w o Read (F .owner-enrolled a) a) ∙ e)),
+        )
 
     module _ (a : object m o .live ≡ true) (b : object n o .live ≡ true) where
       pub tells-owner : eqb (object m o .owner) (object n o .owner) ≡ false
@@ -112,11 +113,12 @@ module _ (m n : Monitor) (S : Sound m) (N : Sound n) where
       unfolding checks
       tells-owner h =
           let F = S .formed .objects-formed o in
-          let w = object m o .owner in
-          ((F .owner-fits, o-below),
-          tells-refusal (Delete w o) m n NoRight refl
-          (pass _ NotEnrolled _ (there w (F .owner-fits) (F .owner-enrolled a)) ∙ pass _ NotLive _ b ∙ stop _ NoRight _ (not-owned h))
-          (λ e. distinct _ _ refl (sym (delete-granted m S o a) ∙ e)))
+          let w = object m o .owner in (
+            (F .owner-fits, o-below),
+            tells-refusal (Delete w o) m n NoRight refl
+                (pass _ NotEnrolled _ (there w (F .owner-fits) (F .owner-enrolled a)) ∙ pass _ NotLive _ b ∙ stop _ NoRight _ (not-owned h))
+                (λ e. distinct _ _ refl (sym (delete-granted m S o a) ∙ e)),
+          )
         where
           not-owned : eqb (object m o .owner) (object n o .owner) ≡ false → owns (object m o .owner) (object n o) ≡ false
           not-owned h =
@@ -128,27 +130,30 @@ module _ (m n : Monitor) (S : Sound m) (N : Sound n) where
           × (number (step (ChangeLevel (object m o .owner) o l) m .decision) ≢ number (step (ChangeLevel (object m o .owner) o l) n .decision))
       unfolding already
       tells-label l e h =
-          let F = S .formed .objects-formed o in
-          ((F .owner-fits, o-below, subst LabelFits e (F .label-fits)),
-          tells-already (ChangeLevel (object m o .owner) o l) m n (change-granted m S o l a e) (label-same _ _ e) h)
+          let F = S .formed .objects-formed o in (
+            (F .owner-fits, o-below, subst LabelFits e (F .label-fits)),
+            tells-already (ChangeLevel (object m o .owner) o l) m n (change-granted m S o l a e) (label-same _ _ e) h,
+          )
 
       pub tells-right : (s : ℕ) (x : Mode) → s < 16 → has x (rightsOf (object m o) s) ≡ true → has x (rightsOf (object n o) s) ≡ false
           → InRange (Get s o x) × (number (step (Get s o x) m .decision) ≢ number (step (Get s o x) n .decision))
       unfolding checks
       tells-right s x h e g =
           let p : enrolled m s ≡ true =
-          split (enrolled m s) (λ w. w) (λ w. apart e (ap (has x) (S .formed .objects-formed o .absent-rights s w) ∙ has-none x)) in
-          ((h, o-below),
-          tells-refusal (Get s o x) m n NoRight refl (pass _ NotEnrolled _ (there s h p) ∙ pass _ NotLive _ b ∙ stop _ NoRight _ g)
-          (λ w. not-stop _ NoLabel _ NoRight (distinct _ _ refl)
-          (not-stop _ SimpleBroken _ NoRight (distinct _ _ refl) (not-stop _ StarBroken _ NoRight (distinct _ _ refl) (distinct _ _ refl)))
-          (sym (pass _ NotEnrolled _ p ∙ pass _ NotLive _ a ∙ pass _ NoRight _ e) ∙ w)))
+          split (enrolled m s) (λ w. w) (λ w. apart e (ap (has x) (S .formed .objects-formed o .absent-rights s w) ∙ has-none x)) in (
+            (h, o-below),
+            tells-refusal (Get s o x) m n NoRight refl (pass _ NotEnrolled _ (there s h p) ∙ pass _ NotLive _ b ∙ stop _ NoRight _ g)
+                (λ w. not-stop _ NoLabel _ NoRight (distinct _ _ refl)
+                (not-stop _ SimpleBroken _ NoRight (distinct _ _ refl) (not-stop _ StarBroken _ NoRight (distinct _ _ refl) (distinct _ _ refl)))
+                (sym (pass _ NotEnrolled _ p ∙ pass _ NotLive _ a ∙ pass _ NoRight _ e) ∙ w)),
+          )
 
       pub tells-access : (s : ℕ) (x : Mode) → s < 16 → has x (heldBy (object m o) s) ≡ true → has x (heldBy (object n o) s) ≡ false
           → InRange (Release s o x) × (number (step (Release s o x) n .decision) ≢ number (step (Release s o x) m .decision))
       unfolding already
       tells-access s x h e g =
           let p : enrolled m s ≡ true =
-          split (enrolled m s) (λ w. w) (λ w. apart e (ap (has x) (S .formed .objects-formed o .absent-held s w) ∙ has-none x)) in
-          ((h, o-below),
-          tells-already (Release s o x) n m (release-granted n s o x (there s h p) b) (ap not g) (ap not e))
+          split (enrolled m s) (λ w. w) (λ w. apart e (ap (has x) (S .formed .objects-formed o .absent-held s w) ∙ has-none x)) in (
+            (h, o-below),
+            tells-already (Release s o x) n m (release-granted n s o x (there s h p) b) (ap not g) (ap not e),
+          )

@@ -149,7 +149,7 @@ pub reply-one : (q : Request) (m : Monitor) → WellFormed m → InRange q
 reply-one q m W r = (
   λ e. step-cases q m (λ g a n s. (g, s)) (λ g a n s. absurd (omega (arith, e, n))) (λ h d s. absurd (omega (arith, e, h))),
   λ p. step-cases q m (λ g a n s. n) (λ g a n s. absurd (state-differs q m W r g a (sym s ∙ p .1)))
-  (λ h d s. absurd (omega (arith, h, ap number (d ∙ p .0)))),
+      (λ h d s. absurd (omega (arith, h, ap number (d ∙ p .0)))),
 )
 
 -- a refusal leaves "the whole state"

@@ -108,9 +108,14 @@ module _ (m : Monitor) (S : Shape m) where
       (object m o .owner, o, (absent (clearance m (object m o .owner)) (p .1), inl (p .0, refl))))
       (λ v. below-false 16 (λ (s : ℕ). present (clearanceAt (m .subjects) s) || (eqb (rightsOf (object m o) s) 0 && eqb (heldBy (object m o) s) 0)) v
       (λ s k u.
-      let p = or-false (enrolled m s) (eqb (rightsOf (object m o) s) 0 && eqb (heldBy (object m o) s) 0) u in
-      (s, o, (absent (clearance m s) (p .0),
-      inr (and-false (eqb (rightsOf (object m o) s) 0) (eqb (heldBy (object m o) s) 0) (p .1) (λ r. inl (not-zero _ r)) (λ r. inr (not-zero _ r))))))))
+      let p = or-false (enrolled m s) (eqb (rightsOf (object m o) s) 0 && eqb (heldBy (object m o) s) 0) u in (
+        s,
+        o,
+        (
+          absent (clearance m s) (p .0),
+          inr (and-false (eqb (rightsOf (object m o) s) 0) (eqb (heldBy (object m o) s) 0) (p .1) (λ r. inl (not-zero _ r)) (λ r. inr (not-zero _ r))),
+        ),
+      ))))
 
   -- ---- the four properties
 

@@ -1,0 +1,86 @@
+-- "Errors seen in other monitors", and what the rules say instead: small states, by computation.
+-- Assumes nothing.
+use Prim.Native.Nat.{ℕ}
+use mathlib.Core.Path.{_≡_, refl}
+use mathlib.Core.Bool.{true, false}
+use mathlib.Core.List.{List, [], _∷_, _++_}
+use lib.ListN.{replicate, set}
+use Rattle.model.specs.declared.Level.{Level}
+use Rattle.model.specs.declared.Label.{Label}
+use Rattle.model.specs.declared.Label.the-variants.{Absent, Present}
+use Rattle.model.specs.declared.Object.{Object}
+use Rattle.model.specs.declared.Monitor.{Monitor}
+use Rattle.model.specs.declared.Mode.the-variants.{Read, Write, Append, Execute}
+use Rattle.model.specs.declared.Request.the-variants.{Get, Release, Give, Rescind, Create, Delete, ChangeLevel}
+use Rattle.model.specs.declared.Decision.the-variants.{Granted, NotLive, AlreadyLive, NoRight, NoLabel, SimpleBroken, StarBroken}
+use Rattle.model.specs.Tests.{implies, unless}
+use Rattle.model.specs.Levels.{dominates, levelDominates}
+use Rattle.model.specs.Modes.{has, add, remove}
+use Rattle.model.specs.State.{noModes, noObject, nobody, object, rightsOf, heldBy, withObject, fresh}
+use Rattle.model.specs.Rules.{created, afterwards, changed, checks, simpleAll, starPair, starFrom, starFor, starAll}
+
+abbrev level : ℕ → ℕ → Label
+level class needs = Present (record { class = class; needs = needs })
+
+-- subject 0 has (1, 0001), subject 1 (3, 0003); object 0 belongs to subject 1, who has r, w, a and e on it; subject 0 has r and e
+abbrev state : Label → ℕ → ℕ → Monitor
+state label held0 held1 =
+    withObject (fresh (record { clearance = level 1 1 } ∷ record { clearance = level 3 3 } ∷ replicate 14 nobody)) 0
+    (record { live = true; owner = 1; label = label; rights = 9 ∷ 15 ∷ replicate 14 0; held = held0 ∷ held1 ∷ replicate 14 0 })
+
+-- an absent label is not class 0 with no needs: r, w and a are refused, e is not
+pub unlabelled-closed : (checks (Get 1 0 Read) (state Absent 0 0) ≡ NoLabel) × (checks (Get 1 0 Append) (state Absent 0 0) ≡ NoLabel)
+unfolding checks changed has add implies unless starFor starFrom starPair dominates
+unlabelled-closed = (refl, refl)
+
+pub execute-needs-no-label : checks (Get 1 0 Execute) (state Absent 0 0) ≡ Granted
+unfolding checks changed has add implies unless starFor starFrom starPair dominates
+execute-needs-no-label = refl
+
+-- class and needs both count, and two levels may be apart
+pub needs-count : (dominates (level 5 1) (level 3 3) ≡ false) × (dominates (level 1 1) (level 0 2) ≡ false) × (dominates (level 0 2) (level 1 1) ≡ false)
+unfolding dominates levelDominates
+needs-count = (refl, refl, refl)
+
+-- not dominated is not dominates: subject 1 has (3, 0003) and the label is (0, 0004), neither above the other
+pub apart-is-refused : (checks (Get 1 0 Read) (state (level 0 4) 0 0) ≡ SimpleBroken) × (checks (Get 1 0 Read) (state (level 0 3) 0 0) ≡ Granted)
+unfolding checks changed has add implies unless starFor starFrom starPair dominates levelDominates
+apart-is-refused = (refl, refl)
+
+-- give and rescind need ownership and the right itself; the right alone, or ownership alone, is not enough
+pub give-needs-both : (checks (Give 0 1 0 Read) (state Absent 0 0) ≡ NoRight)
+    × (checks (Give 1 0 1 Execute) (withObject (state Absent 0 0) 1 (created 1 false)) ≡ NoRight)
+    × (checks (Give 1 0 1 Read) (withObject (state Absent 0 0) 1 (created 1 false)) ≡ Granted)
+unfolding checks has unless
+give-needs-both = (refl, refl, refl)
+
+-- get stores the access; rescind takes the right and the access
+pub get-stores : heldBy (changed (Get 1 0 Read) (object (state (level 1 1) 0 0) 0)) 1 ≡ 8
+unfolding changed has add
+get-stores = refl
+
+pub rescind-takes-both : (rightsOf (changed (Rescind 1 0 0 Read) (object (state (level 1 1) 8 0) 0)) 0 ≡ 1)
+    × (heldBy (changed (Rescind 1 0 0 Read) (object (state (level 1 1) 8 0) 0)) 0 ≡ 0)
+unfolding changed has remove
+rescind-takes-both = (refl, refl)
+
+-- delete leaves nothing for the next object in the slot
+pub delete-leaves-nothing : changed (Delete 1 0) (object (state (level 1 1) 8 0) 0) ≡ noObject
+unfolding changed
+delete-leaves-nothing = refl
+
+-- change of level looks at every subject's accesses: subject 0 reads object 0
+pub change-looks-at-all : checks (ChangeLevel 1 0 (record { class = 2; needs = 1 })) (state (level 1 1) 8 0) ≡ SimpleBroken
+unfolding checks changed has implies unless simpleAll dominates levelDominates
+change-looks-at-all = refl
+
+-- star: who reads class 1 may not append to class 0, and who appends only reads nothing
+pub star-one-way : (starFor 1 (withObject (state (level 1 1) 0 8) 1 (record { live = true; owner = 1; label = level 0 0; rights = replicate 16 15; held = 0 ∷ 2 ∷ replicate 14 0 }) .objects) ≡ false)
+    × (starFor 1 (withObject (state (level 1 1) 0 2) 1 (record { live = true; owner = 1; label = level 0 0; rights = replicate 16 15; held = 0 ∷ 8 ∷ replicate 14 0 }) .objects) ≡ true)
+unfolding starFor starFrom starPair has implies dominates levelDominates
+star-one-way = (refl, refl)
+
+-- life comes before right, right before label
+pub checks-in-order : (checks (Get 0 1 Write) (state Absent 0 0) ≡ NotLive) × (checks (Get 0 0 Write) (state Absent 0 0) ≡ NoRight)
+unfolding checks changed has add implies unless starFor starFrom starPair dominates
+checks-in-order = (refl, refl)
