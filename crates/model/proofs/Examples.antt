@@ -3,21 +3,19 @@
 use Prim.Native.Nat.{ℕ}
 use mathlib.Core.Path.{_≡_, refl}
 use mathlib.Core.Bool.{true, false}
-use mathlib.Core.List.{List, [], _∷_, _++_}
-use lib.ListN.{replicate, set}
-use Rattle.model.specs.declared.Level.{Level}
+use mathlib.Core.List.{_∷_}
+use lib.ListN.{replicate}
 use Rattle.model.specs.declared.Label.{Label}
 use Rattle.model.specs.declared.Label.the-variants.{Absent, Present}
-use Rattle.model.specs.declared.Object.{Object}
 use Rattle.model.specs.declared.Monitor.{Monitor}
 use Rattle.model.specs.declared.Mode.the-variants.{Read, Write, Append, Execute}
-use Rattle.model.specs.declared.Request.the-variants.{Get, Release, Give, Rescind, Create, Delete, ChangeLevel}
-use Rattle.model.specs.declared.Decision.the-variants.{Granted, NotLive, AlreadyLive, NoRight, NoLabel, SimpleBroken, StarBroken}
+use Rattle.model.specs.declared.Request.the-variants.{Get, Give, Rescind, Delete, ChangeLevel}
+use Rattle.model.specs.declared.Decision.the-variants.{Granted, NotLive, NoRight, NoLabel, SimpleBroken}
 use Rattle.model.specs.Tests.{implies, unless}
 use Rattle.model.specs.Levels.{dominates, levelDominates}
 use Rattle.model.specs.Modes.{has, add, remove}
-use Rattle.model.specs.State.{noModes, noObject, nobody, object, rightsOf, heldBy, withObject, fresh}
-use Rattle.model.specs.Rules.{created, afterwards, changed, checks, simpleAll, starPair, starFrom, starFor, starAll}
+use Rattle.model.specs.State.{noObject, nobody, object, rightsOf, heldBy, withObject, fresh}
+use Rattle.model.specs.Rules.{created, changed, checks, simpleAll, starPair, starFrom, starFor}
 
 abbrev level : ℕ → ℕ → Label
 level class needs = Present (record { class = class; needs = needs })

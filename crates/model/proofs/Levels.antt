@@ -1,11 +1,11 @@
 -- Dominance: the test decides the relation; each level dominates itself, and two that dominate each other are one.
 -- Assumes nothing.
-use Prim.Native.Nat.{ℕ, zero, suc, _+_, _*_, _/_, _%_, _^_, _<_, _≤_}
+use Prim.Native.Nat.{ℕ, zero, suc, _/_, _%_, _^_, _<_, _≤_}
 use native.Mathlib.Numerals.{one-add}
 use native.Mathlib.Omega.{arith}
 use mathlib.Core.Path.{_≡_, refl, sym, ap, _∙_, subst}
 use mathlib.Core.Logic.{_↔_}
-use mathlib.Core.Bool.{Bool, true, false, _&&_}
+use mathlib.Core.Bool.{true}
 use lib.Dec.{leb, eqb}
 use lib.Pow.{shr-shr}
 use borrow.Author.Tests.{le-leb, leb-true, eqb-true, eq-eqb}
@@ -13,9 +13,9 @@ use Rattle.bits.specs.Bits.{odd}
 use Rattle.model.specs.declared.Level.{Level}
 use Rattle.model.specs.declared.Label.{Label}
 use Rattle.model.specs.declared.Label.the-variants.{Absent, Present}
-use Rattle.model.specs.Levels.{need, LevelDominates, Dominates, subset, levelDominates, dominates, present, sameLabel}
-use Rattle.model.specs.State.{LevelFits, LabelFits}
-use Rattle.model.proofs.Tests.{and-left, and-right, and-both, clash, split, apart}
+use Rattle.model.specs.Levels.{need, LevelDominates, Dominates, subset, levelDominates, dominates, sameLabel}
+use Rattle.model.specs.State.{LevelFits}
+use Rattle.model.proofs.Tests.{and-left, and-right, and-both, clash}
 
 -- ---- the test over needs
 

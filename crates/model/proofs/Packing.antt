@@ -11,7 +11,7 @@ use Rattle.bits.specs.Bits.{toBits, fromBits, bytesToBits, bitsToBytes, field, 
 use Rattle.bits.specs.Laws.{fromBits-toBits, length-bytesToBits, bytesToBits-bitsToBytes, bitsToBytes-bytesToBits, bytes-bitsToBytes, length-bitsToBytes}
 use Rattle.bits.specs.Fields.{field-lt, field-within, toBits-field}
 use Rattle.model.specs.declared.Fields.{Fields}
-use Rattle.model.specs.Requests.{requestSize, fields, request, pack}
+use Rattle.model.specs.Requests.{requestSize, fields, pack}
 
 -- each number fits its width
 pub record FieldsFit (f : Fields) : Type 0 where

@@ -1,15 +1,14 @@
 -- The records of a layout: their lengths, and that writing and reading each gives back the other.
 -- Assumes nothing.
-use Prim.Native.Nat.{ℕ, zero, suc, _+_, _*_, _<_, _≤_}
+use Prim.Native.Nat.{ℕ, zero, suc, _+_, _*_, _<_}
 use native.Mathlib.Omega.{arith}
 use mathlib.Core.Path.{_≡_, refl, sym, ap, _∙_}
-use mathlib.Core.Bool.{Bool, true, false, cond, _||_}
+use mathlib.Core.Bool.{Bool, true, false, cond}
 use mathlib.Core.List.{List, [], _∷_, _++_, map}
 use lib.ListN.{length, getD, replicate, take, drop, length-append, length-drop, take-append-drop}
 use lib.Seq.{take-at, drop-at, take-all, length-take-le, drop-drop}
-use Rattle.bits.specs.Bits.{toBits, odd, fromBits, cut, first, allZero}
+use Rattle.bits.specs.Bits.{toBits, odd, fromBits, cut, allZero}
 use Rattle.bits.specs.Laws.{length-toBits, fromBits-toBits, toBits-fromBits-at, allZero-is}
-use Rattle.model.specs.declared.Level.{Level}
 use Rattle.model.specs.declared.Label.{Label}
 use Rattle.model.specs.declared.Label.the-variants.{Absent, Present}
 use Rattle.model.specs.declared.Subject.{Subject}

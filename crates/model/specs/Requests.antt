@@ -1,12 +1,11 @@
 -- A request's six bytes ("Requests" in the scope): its fields, the rules for unused ones, what it says, and how it is packed.
 -- Assumes nothing.
 use Prim.Native.Nat.{ℕ, _<_}
-use mathlib.Core.Bool.{Bool, true, false, cond, _&&_, _||_}
+use mathlib.Core.Bool.{Bool, cond, _&&_, _||_}
 use mathlib.Core.List.{List, _++_}
 use lib.ListN.{length}
 use lib.Dec.{leb, ltb, eqb}
 use Rattle.bits.specs.Bits.{field, toBits, bitsToBytes}
-use Rattle.model.specs.declared.Level.{Level}
 use Rattle.model.specs.declared.Mode.{Mode}
 use Rattle.model.specs.declared.Mode.the-variants.{Read, Write, Append, Execute}
 use Rattle.model.specs.declared.Fields.{Fields}

@@ -3,10 +3,9 @@
 use Prim.Native.Nat.{ℕ, zero, suc, _<_, _≤_}
 use native.Mathlib.Omega.{arith}
 use mathlib.Core.Path.{_≡_, refl, sym, ap, _∙_, subst, subst₂}
-use mathlib.Core.Logic.{_≢_}
-use mathlib.Core.Bool.{Bool, true, false, not, cond}
+use mathlib.Core.Bool.{true, false, not, cond}
 use mathlib.Core.List.{List, [], _∷_}
-use lib.ListN.{length, getD, set}
+use lib.ListN.{length}
 use lib.Seq.{getD-set-same}
 use lib.Dec.{lit≤}
 use borrow.Author.Tests.{eq-eqb}
@@ -26,7 +25,7 @@ use Rattle.model.specs.Modes.{has}
 use Rattle.model.specs.State.{noModes, noObject, clearance, enrolled, object, rightsOf, heldBy, withLabel, LevelFits, LabelFits}
 use Rattle.model.specs.Requests.{InRange}
 use Rattle.model.specs.Rules.{changed, afterwards, checks, created, starFor, step}
-use Rattle.model.proofs.Tests.{split, clash, pass, stop, not-stop, distinct, cond-all, cond-true, cond-false}
+use Rattle.model.proofs.Tests.{pass, stop, not-stop, distinct, cond-all}
 use Rattle.model.proofs.Tests as tests
 use Rattle.model.proofs.Levels.{level-refl, level-antisym}
 use Rattle.security.specs.Distinguish.{freeBelow, readAt, toClearance, byClearance}

@@ -2,7 +2,7 @@
 -- Assumes nothing.
 use Prim.Native.Nat.{ℕ, _<_, _≤_}
 use native.Mathlib.Omega.{arith}
-use mathlib.Core.Path.{_≡_, refl, sym, ap, _∙_, subst}
+use mathlib.Core.Path.{_≡_, refl, sym, ap, subst}
 use mathlib.Core.Logic.{_↔_, _≢_}
 use mathlib.Core.Bool.{true}
 use mathlib.Core.List.{List}
@@ -11,18 +11,18 @@ use Rattle.model.specs.declared.Mode.{Mode}
 use Rattle.model.specs.declared.Request.{Request}
 use Rattle.model.specs.declared.Request.the-variants.{Get}
 use Rattle.model.specs.declared.Decoded.{Decoded}
-use Rattle.model.specs.declared.Decoded.the-variants.{Malformed, Says}
+use Rattle.model.specs.declared.Decoded.the-variants.{Says}
 use Rattle.model.specs.declared.Response.{Response}
 use Rattle.model.specs.State.{enrolled, object, WellFormed}
 use Rattle.model.specs.Properties.{Secure}
 use Rattle.model.specs.Decisions.{number}
 use Rattle.model.specs.Requests.{decode}
-use Rattle.model.specs.Rules.{checks, step}
+use Rattle.model.specs.Rules.{step}
 use Rattle.model.specs.Runs.{carryOut, respond, reply}
 use Rattle.model.specs.Beginnings.{Beginning, Accepted, left}
 use Rattle.model.proofs.Requests.{decode-range}
 use Rattle.security.specs.Access.{withAccess}
-use Rattle.security.proofs.Steps.{Sound, respond-all}
+use Rattle.security.proofs.Steps.{respond-all}
 use Rattle.security.proofs.Replies.{reply-zero, reply-one, reply-granted, refusal-leaves}
 use Rattle.security.proofs.Gets.{get-refused-exactly}
 use Rattle.security.proofs.Demand3.{sound-left}

@@ -2,27 +2,24 @@
 -- Assumes nothing.
 use Prim.Native.Nat.{ℕ, _<_, _≤_}
 use native.Mathlib.Omega.{arith}
-use mathlib.Core.Path.{_≡_, refl, sym, ap, ap₂, _∙_, subst}
+use mathlib.Core.Path.{_≡_, sym, ap, _∙_, subst}
 use mathlib.Core.Logic.{_↔_, _≢_}
-use mathlib.Core.Bool.{Bool, true, false}
 use mathlib.Core.List.{List, [], _∷_, _++_, map}
 use lib.ListN.{length, take, drop}
 use lib.Seq.{ext-getD, take-at}
 use Rattle.bits.specs.Laws.{length-bitsToBytes}
-use Rattle.model.specs.declared.Subject.{Subject}
 use Rattle.model.specs.declared.Monitor.{Monitor}
 use Rattle.model.specs.declared.Request.{Request}
-use Rattle.model.specs.declared.Decision.{Decision}
 use Rattle.model.specs.declared.Decision.the-variants.{Granted, ShortBuffer}
-use Rattle.model.specs.State.{nobody, noObject, clearance, enrolled, object, fresh}
+use Rattle.model.specs.State.{nobody, noObject, clearance, enrolled, object}
 use Rattle.model.specs.Decisions.{number, refuses}
-use Rattle.model.specs.Requests.{encode, InRange}
+use Rattle.model.specs.Requests.{encode}
 use Rattle.model.specs.Runs.{replies}
 use Rattle.model.specs.Layout.{imageSize, imageBits, imageOf}
-use Rattle.model.specs.Reading.{tableChecks, imageChecks, tableFrom, monitorFrom, begin, readTable, readImage}
+use Rattle.model.specs.Reading.{tableChecks, imageChecks, begin, readTable, readImage}
 use Rattle.model.specs.Writing.{tooShort, writing, written}
 use Rattle.model.specs.Beginnings.{Beginning, table, image, begun, Accepted, left, Reached, AllBytes}
-use Rattle.model.proofs.Tests.{split, clash, cond-true, cond-false, distinct}
+use Rattle.model.proofs.Tests.{split, cond-true, cond-false}
 use Rattle.model.proofs.Packing.{pack-bytes}
 use Rattle.security.specs.Distinguish.{search, byEnrolment, byObject, byClearance, distinguish}
 use Rattle.security.proofs.Steps.{Sound, sound-after}

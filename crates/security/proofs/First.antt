@@ -8,8 +8,8 @@ use Rattle.model.specs.declared.Decision.{Decision}
 use Rattle.model.specs.declared.Decision.the-variants.{Granted}
 use Rattle.model.specs.Tests.{unless}
 use Rattle.model.specs.Decisions.{refuses}
-use Rattle.model.proofs.Tests.{apart, clash}
-use Rattle.security.specs.First.{FirstIn, NoneIn, AnswersFirst}
+use Rattle.model.proofs.Tests.{apart}
+use Rattle.security.specs.First.{FirstIn, AnswersFirst}
 
 not-granted : {P : Type 0} (d : Decision) → refuses d ≡ true → d ≡ Granted → P
 not-granted d r e = apart r (ap refuses e)

@@ -29,7 +29,7 @@ use Rattle.model.proofs.Decisions.{number-inj}
 use Rattle.model.proofs.Requests.{decode-range}
 use Rattle.security.specs.First.{FirstIn, NoneIn, AnswersFirst}
 use Rattle.security.specs.Causes.{MalformedBytes, requestOrder, RequestCause, tableOrder, TableCause, imageOrder, ImageCause}
-use Rattle.security.proofs.Steps.{Sound, step-refused, respond-all}
+use Rattle.security.proofs.Steps.{step-refused, respond-all}
 use Rattle.security.proofs.Replies.{step-cases, reply-granted}
 use Rattle.security.proofs.RequestCauses.{request-answers}
 use Rattle.security.proofs.Malformed.{malformed-exactly}

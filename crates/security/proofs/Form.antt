@@ -5,7 +5,7 @@ use native.Mathlib.Omega.{arith}
 use mathlib.Core.Path.{_≡_, refl, sym, _∙_, subst}
 use mathlib.Core.Bool.{Bool, true, false, cond}
 use mathlib.Core.List.{List, [], _∷_}
-use lib.ListN.{length, getD, set, length-set}
+use lib.ListN.{length, getD, length-set}
 use lib.Dec.{lit<}
 use Rattle.model.specs.declared.Subject.{Subject}
 use Rattle.model.specs.declared.Object.{Object}
@@ -14,7 +14,7 @@ use Rattle.model.specs.declared.Request.{Request}
 use Rattle.model.specs.declared.Request.the-variants.{Get, Release, Give, Rescind, Create, Delete, ChangeLevel}
 use Rattle.model.specs.declared.Decision.the-variants.{Granted, NotEnrolled, NotLive}
 use Rattle.model.specs.Levels.{present}
-use Rattle.model.specs.State.{noModes, noObject, clearanceAt, enrolled, object, rightsOf, heldBy, withHeld, withRights, WellFormedObject, WellFormed}
+use Rattle.model.specs.State.{noModes, noObject, clearanceAt, enrolled, object, rightsOf, withHeld, withRights, WellFormedObject, WellFormed}
 use Rattle.model.specs.Modes.{remove}
 use Rattle.model.specs.Requests.{InRange}
 use Rattle.model.specs.Rules.{target, changed, checks, created}

@@ -4,27 +4,24 @@ use Prim.Native.Nat.{ℕ, _<_}
 use native.Mathlib.Omega.{arith}
 use mathlib.Core.Path.{_≡_, refl, sym, ap, _∙_, subst}
 use mathlib.Core.Logic.{_≢_, _⊎_, inl, inr}
-use mathlib.Core.Bool.{Bool, true, false, not, _&&_}
+use mathlib.Core.Bool.{Bool, true, false, not}
 use mathlib.Core.List.{List, [], _∷_}
-use lib.ListN.{length, getD, set}
-use lib.Seq.{getD-set-other, getD-set-same}
+use lib.ListN.{getD, set}
+use lib.Seq.{getD-set-same}
 use Rattle.model.specs.declared.Object.{Object}
 use Rattle.model.specs.declared.Monitor.{Monitor}
-use Rattle.model.specs.declared.Label.{Label}
-use Rattle.model.specs.declared.Label.the-variants.{Absent, Present}
 use Rattle.model.specs.declared.Mode.{Mode}
 use Rattle.model.specs.declared.Request.{Request}
 use Rattle.model.specs.declared.Request.the-variants.{Get, Release, Give, Rescind, Create, Delete, ChangeLevel}
 use Rattle.model.specs.declared.Decision.the-variants.{Granted, NotEnrolled, AlreadyLive}
 use Rattle.model.specs.declared.Response.{Response}
 use Rattle.model.specs.Modes.{has, add, remove}
-use Rattle.model.specs.State.{noObject, object, rightsOf, WellFormed}
-use Rattle.model.specs.Requests.{decode, InRange}
-use Rattle.model.specs.Rules.{target, changed, afterwards, checks, created, step}
+use Rattle.model.specs.State.{noObject, object, rightsOf, heldBy, WellFormed}
+use Rattle.model.specs.Rules.{target, changed, checks, created, step}
 use Rattle.model.specs.Runs.{respond, after}
-use Rattle.model.proofs.Tests.{set-all, split, apart, clash, passed, not-on}
-use Rattle.model.proofs.Modes.{held-add, held-remove}
-use Rattle.security.specs.Access.{GivesRight, ChangesLabel}
+use Rattle.model.proofs.Tests.{set-all, split, apart, clash, passed, not-on, and-both, or-right}
+use Rattle.model.proofs.Modes.{has-add, has-remove, sameMode, same-mode, held-add, held-remove}
+use Rattle.security.specs.Effects.{GivesRight, TakesRight, GetsAccess, EndsAccess, ChangesLabel}
 use Rattle.security.proofs.Steps.{step-all, step-granted, respond-all}
 use Rattle.security.proofs.Form.{no-modes}
 use Rattle.security.proofs.Secure.{none-held}
@@ -71,22 +68,84 @@ changed-owner (Create s o w) m live g e = apart live (create-finds s o w m g)
 changed-owner (Delete s o) m live g e = clash (sym e)
 changed-owner (ChangeLevel s o l) m live g e = refl
 
+-- a row after a mode was added at u: what is there was there, or is that mode
+row-add : (row : List ℕ) (u : ℕ) (y x : Mode) → ((j : ℕ) → getD row j 0 < 16) → (t : ℕ) → has x (getD (set row u (add y (getD row u 0))) t 0) ≡ true
+    → (has x (getD row t 0) ≡ true) ⊎ ((u ≡ t) × (y ≡ x))
+row-add row u y x fits =
+    set-all (λ j k. has x k ≡ true → (has x (getD row j 0) ≡ true) ⊎ ((u ≡ j) × (y ≡ x))) row u _ 0 (λ j w. inl w)
+    (λ w. held-add y x _ (fits u) w (λ p. inr (refl, sym p)) (λ p. inl p))
+
+-- what was there still is
+row-add-keeps : (row : List ℕ) (u : ℕ) (y x : Mode) → ((j : ℕ) → getD row j 0 < 16) → (t : ℕ) → has x (getD row t 0) ≡ true
+    → has x (getD (set row u (add y (getD row u 0))) t 0) ≡ true
+row-add-keeps row u y x fits t =
+    set-all (λ j k. has x (getD row j 0) ≡ true → has x k ≡ true) row u _ 0 (λ j w. w) (λ w. has-add x y _ (fits u) ∙ or-right (sameMode x y) _ w) t
+
+-- after a mode was removed at u
+row-remove : (row : List ℕ) (u : ℕ) (y x : Mode) → ((j : ℕ) → getD row j 0 < 16) → (t : ℕ) → has x (getD (set row u (remove y (getD row u 0))) t 0) ≡ true
+    → has x (getD row t 0) ≡ true
+row-remove row u y x fits t =
+    set-all (λ j k. has x k ≡ true → has x (getD row j 0) ≡ true) row u _ 0 (λ j w. w) (λ w. held-remove y x _ (fits u) w) t
+
+row-remove-keeps : (row : List ℕ) (u : ℕ) (y x : Mode) → ((j : ℕ) → getD row j 0 < 16) → (t : ℕ) → has x (getD row t 0) ≡ true
+    → (has x (getD (set row u (remove y (getD row u 0))) t 0) ≡ true) ⊎ ((u ≡ t) × (y ≡ x))
+row-remove-keeps row u y x fits t =
+    set-all (λ j k. has x (getD row j 0) ≡ true → (has x k ≡ true) ⊎ ((u ≡ j) × (y ≡ x))) row u _ 0 (λ j w. inl w)
+    (λ w. split (sameMode x y) (λ p. inr (refl, sym (same-mode x y p)))
+    (λ p. inl (has-remove x y _ (fits u) ∙ and-both (ap not p) w))) t
+
+-- the same at an object: the third part says that it is this one
+at-object : {A B C : Type 0} (o : ℕ) → A ⊎ (B × C) → A ⊎ (B × (o ≡ o) × C)
+at-object o (inl a) = inl a
+at-object o (inr p) = inr (p .0, refl, p .1)
+
 changed-rights : (q : Request) (m : Monitor) → WellFormed m → object m (target q) .live ≡ true → checks q m ≡ Granted
     → (t : ℕ) (x : Mode) → has x (rightsOf (changed q (object m (target q))) t) ≡ true
     → (has x (rightsOf (object m (target q)) t) ≡ true) ⊎ GivesRight q t (target q) x
 unfolding changed
 changed-rights (Get s o y) m W live g t x e = inl e
 changed-rights (Release s o y) m W live g t x e = inl e
-changed-rights (Give s u o y) m W live g t x e =
-    set-all (λ j k. has x k ≡ true → (has x (rightsOf (object m o) j) ≡ true) ⊎ ((u ≡ j) × (o ≡ o) × (y ≡ x))) (object m o .rights) u _ 0
-    (λ j w. inl w) (λ w. held-add y x _ (W .objects-formed o .rights-fit u) w (λ p. inr (refl, refl, sym p)) (λ p. inl p)) t e
-changed-rights (Rescind s u o y) m W live g t x e =
-    inl
-    (set-all (λ j k. has x k ≡ true → has x (rightsOf (object m o) j) ≡ true) (object m o .rights) u _ 0
-    (λ j w. w) (λ w. held-remove y x _ (W .objects-formed o .rights-fit u) w) t e)
+changed-rights (Give s u o y) m W live g t x e = at-object o (row-add (object m o .rights) u y x (W .objects-formed o .rights-fit) t e)
+changed-rights (Rescind s u o y) m W live g t x e = inl (row-remove (object m o .rights) u y x (W .objects-formed o .rights-fit) t e)
 changed-rights (Create s o w) m W live g t x e = apart live (create-finds s o w m g)
-changed-rights (Delete s o) m W live g t x e = absurd (none-held x _ (no-modes t) e)
+changed-rights (Delete s o) m W live g t x e = none-held x _ (no-modes t) e
 changed-rights (ChangeLevel s o l) m W live g t x e = inl e
+
+changed-access : (q : Request) (m : Monitor) → WellFormed m → object m (target q) .live ≡ true → checks q m ≡ Granted
+    → (t : ℕ) (x : Mode) → has x (heldBy (changed q (object m (target q))) t) ≡ true
+    → (has x (heldBy (object m (target q)) t) ≡ true) ⊎ GetsAccess q t (target q) x
+unfolding changed
+changed-access (Get s o y) m W live g t x e = at-object o (row-add (object m o .held) s y x (W .objects-formed o .held-fit) t e)
+changed-access (Release s o y) m W live g t x e = inl (row-remove (object m o .held) s y x (W .objects-formed o .held-fit) t e)
+changed-access (Give s u o y) m W live g t x e = inl e
+changed-access (Rescind s u o y) m W live g t x e = inl (row-remove (object m o .held) u y x (W .objects-formed o .held-fit) t e)
+changed-access (Create s o w) m W live g t x e = apart live (create-finds s o w m g)
+changed-access (Delete s o) m W live g t x e = none-held x _ (no-modes t) e
+changed-access (ChangeLevel s o l) m W live g t x e = inl e
+
+kept-right : (q : Request) (m : Monitor) → WellFormed m → object m (target q) .live ≡ true → checks q m ≡ Granted → changed q (object m (target q)) .live ≡ true
+    → (t : ℕ) (x : Mode) → has x (rightsOf (object m (target q)) t) ≡ true
+    → (has x (rightsOf (changed q (object m (target q))) t) ≡ true) ⊎ TakesRight q t (target q) x
+unfolding changed
+kept-right (Get s o y) m W live g stays t x e = inl e
+kept-right (Release s o y) m W live g stays t x e = inl e
+kept-right (Give s u o y) m W live g stays t x e = inl (row-add-keeps (object m o .rights) u y x (W .objects-formed o .rights-fit) t e)
+kept-right (Rescind s u o y) m W live g stays t x e = at-object o (row-remove-keeps (object m o .rights) u y x (W .objects-formed o .rights-fit) t e)
+kept-right (Create s o w) m W live g stays t x e = apart live (create-finds s o w m g)
+kept-right (Delete s o) m W live g stays t x e = clash (sym stays)
+kept-right (ChangeLevel s o l) m W live g stays t x e = inl e
+
+kept-access : (q : Request) (m : Monitor) → WellFormed m → object m (target q) .live ≡ true → checks q m ≡ Granted → changed q (object m (target q)) .live ≡ true
+    → (t : ℕ) (x : Mode) → has x (heldBy (object m (target q)) t) ≡ true
+    → (has x (heldBy (changed q (object m (target q))) t) ≡ true) ⊎ EndsAccess q t (target q) x
+unfolding changed
+kept-access (Get s o y) m W live g stays t x e = inl (row-add-keeps (object m o .held) s y x (W .objects-formed o .held-fit) t e)
+kept-access (Release s o y) m W live g stays t x e = at-object o (row-remove-keeps (object m o .held) s y x (W .objects-formed o .held-fit) t e)
+kept-access (Give s u o y) m W live g stays t x e = inl e
+kept-access (Rescind s u o y) m W live g stays t x e = at-object o (row-remove-keeps (object m o .held) u y x (W .objects-formed o .held-fit) t e)
+kept-access (Create s o w) m W live g stays t x e = apart live (create-finds s o w m g)
+kept-access (Delete s o) m W live g stays t x e = clash (sym stays)
+kept-access (ChangeLevel s o l) m W live g stays t x e = inl e
 
 changed-label : (q : Request) (m : Monitor) → object m (target q) .live ≡ true → checks q m ≡ Granted → changed q (object m (target q)) .live ≡ true
     → (changed q (object m (target q)) .label ≡ object m (target q) .label) ⊎ ChangesLabel q (target q) (changed q (object m (target q)) .label)
@@ -115,6 +174,29 @@ module _ (q : Request) (m : Monitor) (W : WellFormed m) (o : ℕ) (live : object
   right-by-give t x =
       frame (λ (ob : Object). has x (rightsOf ob t) ≡ true → (has x (rightsOf (object m o) t) ≡ true) ⊎ GivesRight q t o x) q m o (λ e. inl e)
       (λ g e h. subst (λ (k : ℕ). (has x (rightsOf (object m k) t) ≡ true) ⊎ GivesRight q t k x) e (changed-rights q m W (at-target e) g t x h))
+
+  -- gains an access only by get
+  pub access-by-get : (t : ℕ) (x : Mode) → has x (heldBy (object (step q m .monitor) o) t) ≡ true
+      → (has x (heldBy (object m o) t) ≡ true) ⊎ GetsAccess q t o x
+  access-by-get t x =
+      frame (λ (ob : Object). has x (heldBy ob t) ≡ true → (has x (heldBy (object m o) t) ≡ true) ⊎ GetsAccess q t o x) q m o (λ e. inl e)
+      (λ g e h. subst (λ (k : ℕ). (has x (heldBy (object m k) t) ≡ true) ⊎ GetsAccess q t k x) e (changed-access q m W (at-target e) g t x h))
+
+  -- loses a right only by rescind
+  pub right-kept : (t : ℕ) (x : Mode) → has x (rightsOf (object m o) t) ≡ true
+      → (has x (rightsOf (object (step q m .monitor) o) t) ≡ true) ⊎ TakesRight q t o x
+  right-kept t x h =
+      frame (λ (ob : Object). ob .live ≡ true → (has x (rightsOf ob t) ≡ true) ⊎ TakesRight q t o x) q m o (λ l. inl h)
+      (λ g e l. subst (λ (k : ℕ). (has x (rightsOf (changed q (object m (target q))) t) ≡ true) ⊎ TakesRight q t k x) e
+      (kept-right q m W (at-target e) g l t x (subst (λ (k : ℕ). has x (rightsOf (object m k) t) ≡ true) (sym e) h))) stays
+
+  -- loses an access only by release or rescind
+  pub access-kept : (t : ℕ) (x : Mode) → has x (heldBy (object m o) t) ≡ true
+      → (has x (heldBy (object (step q m .monitor) o) t) ≡ true) ⊎ EndsAccess q t o x
+  access-kept t x h =
+      frame (λ (ob : Object). ob .live ≡ true → (has x (heldBy ob t) ≡ true) ⊎ EndsAccess q t o x) q m o (λ l. inl h)
+      (λ g e l. subst (λ (k : ℕ). (has x (heldBy (changed q (object m (target q))) t) ≡ true) ⊎ EndsAccess q t k x) e
+      (kept-access q m W (at-target e) g l t x (subst (λ (k : ℕ). has x (heldBy (object m k) t) ≡ true) (sym e) h))) stays
 
   -- and changes its label only by change of level
   pub label-by-change : (object (step q m .monitor) o .label ≡ object m o .label) ⊎ ChangesLabel q o (object (step q m .monitor) o .label)

@@ -2,11 +2,11 @@
 -- Assumes nothing.
 use Prim.Native.Nat.{ℕ, zero, suc, _<_, _≤_}
 use native.Mathlib.Omega.{arith}
-use mathlib.Core.Path.{_≡_, refl, sym, ap, _∙_, subst}
+use mathlib.Core.Path.{_≡_, sym, ap, _∙_, subst}
 use mathlib.Core.Logic.{_↔_}
-use mathlib.Core.Bool.{Bool, true, false}
+use mathlib.Core.Bool.{true}
 use mathlib.Core.List.{List, [], _∷_}
-use lib.ListN.{length, getD, set}
+use lib.ListN.{length}
 use lib.Seq.{getD-set-same}
 use Rattle.model.specs.declared.Object.{Object}
 use Rattle.model.specs.declared.Monitor.{Monitor}
@@ -15,11 +15,11 @@ use Rattle.model.specs.declared.Request.the-variants.{Get}
 use Rattle.model.specs.declared.Decision.the-variants.{Granted, NotEnrolled, NotLive, NoRight, NoLabel, SimpleBroken, StarBroken}
 use Rattle.model.specs.Tests.{implies}
 use Rattle.model.specs.Levels.{Dominates, dominates, present}
-use Rattle.model.specs.Modes.{has, add, observes, needsLabel}
+use Rattle.model.specs.Modes.{has, add, observes}
 use Rattle.model.specs.State.{noObject, clearance, enrolled, objectAt, object, rightsOf, heldBy, withHeld}
 use Rattle.model.specs.Properties.{Secure, Simple, Holds}
 use Rattle.model.specs.Decisions.{number}
-use Rattle.model.specs.Rules.{changed, afterwards, checks, step}
+use Rattle.model.specs.Rules.{changed, checks, step}
 use Rattle.model.proofs.Tests.{set-all, pass, implies-in, implies-out, clash}
 use Rattle.model.proofs.Modes.{add-has, held-add}
 use Rattle.model.proofs.Levels.{dominates-decides}

@@ -1,26 +1,24 @@
 -- Tables and images: the checks answer the first of their causes; an accepted one has its form and begins a well-formed, secure monitor.
 -- Assumes nothing.
 use Prim.Native.Nat.{ℕ, zero, suc}
-use mathlib.Core.Path.{_≡_, refl, sym, ap, _∙_, subst}
+use mathlib.Core.Path.{_≡_, refl, sym, _∙_}
 use mathlib.Core.Logic.{_⊎_, inl, inr, ⊎-elim, _↔_, _≢_}
-use mathlib.Core.Bool.{Bool, true, false, cond, _&&_, _||_}
+use mathlib.Core.Bool.{Bool, true, false}
 use mathlib.Core.List.{List, [], _∷_}
 use lib.ListN.{length, getD, take, drop}
 use lib.Dec.{eqb}
 use borrow.Author.Tests.{eq-eqb, eqb-true}
 use Rattle.bits.specs.Bits.{first, allZero}
 use Rattle.model.specs.declared.Monitor.{Monitor}
-use Rattle.model.specs.declared.Decision.{Decision}
 use Rattle.model.specs.declared.Decision.the-variants.{Granted, NoRight, NoLabel, SimpleBroken, StarBroken, WrongLength, StrayBits, AbsentSubject}
-use Rattle.model.specs.Tests.{allOf}
-use Rattle.model.specs.State.{WellFormed, fresh}
+use Rattle.model.specs.State.{fresh}
 use Rattle.model.specs.Properties.{Secure}
 use Rattle.model.specs.Layout.{labelWidth, labelOffset, tableSize, imageSize}
 use Rattle.model.specs.Reading.{labelForm, objectForm, tableRecords, objectRecords, tableForm, objectsForm, imageForm, tableFrom, monitorFrom, stateChecks, tableChecks, imageChecks}
-use Rattle.model.proofs.Tests.{split, apart, clash, passed, pass, and-left, and-right, and-both, and-false, or-cases, or-false, cond-true, cond-false, all-out, all-false}
+use Rattle.model.proofs.Tests.{split, apart, clash, passed, pass, and-left, and-right, and-false, or-cases, or-false, cond-true, cond-false, all-out, all-false}
 use Rattle.security.specs.First.{AnswersFirst}
 use Rattle.security.specs.Causes.{Stray, StrayLabel, StrayInTable, StrayInObjects, AbsentActs, tableOrder, TableCause, imageOrder, ImageCause}
-use Rattle.security.proofs.First.{answers-end, answers-skip, answers-check}
+use Rattle.security.proofs.First.{answers-end, answers-check}
 use Rattle.security.proofs.Steps.{Sound, sound-fresh}
 use Rattle.security.proofs.Shapes.{image-shape, table-shape, shape-of}
 use Rattle.security.proofs.StateTests.{formed-out, formed-in, absent-acts, none-acts, matrix-out, matrix-in, labelled-out, labelled-in, simple-all-out, simple-all-in, stars-out, stars-in}

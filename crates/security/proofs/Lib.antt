@@ -19,6 +19,7 @@ pub mod Clearances
 pub mod Demand3
 pub mod Demand2
 pub mod FirstRefusal
+pub mod Effects
 pub mod RoundTrips
 pub mod MarkedRun
 pub mod Witnesses

@@ -1,8 +1,7 @@
 -- The marked run, one statement over its sixteen rows, by computation from the bytes.
 -- Assumes nothing.
-use Prim.Native.Nat.{ℕ}
 use mathlib.Core.Path.{_≡_, refl}
-use mathlib.Core.List.{List, [], _∷_, map}
+use mathlib.Core.List.{[], map}
 use Rattle.bits.specs.Bits.{odd, toBits, fromBits, bytesToBits, bitsToBytes, field, cut, join, allZero}
 use Rattle.model.specs.Tests.{implies, unless}
 use Rattle.model.specs.Levels.{levelDominates, dominates, sameLabel}

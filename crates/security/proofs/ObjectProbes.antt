@@ -4,9 +4,7 @@ use Prim.Native.Nat.{ℕ, _<_}
 use native.Mathlib.Omega.{arith}
 use mathlib.Core.Path.{_≡_, refl, sym, ap, _∙_, subst}
 use mathlib.Core.Logic.{_≢_}
-use mathlib.Core.Bool.{Bool, true, false, not, cond}
-use mathlib.Core.List.{List, [], _∷_}
-use lib.ListN.{length}
+use mathlib.Core.Bool.{true, false, not, cond}
 use lib.Seq.{ext-getD}
 use lib.Dec.{eqb, lit<}
 use borrow.Author.Tests.{eq-eqb, eqb-true}

@@ -1,41 +1,38 @@
 -- Where two states differ in who is enrolled or in an object, one request draws different replies from them.
 -- Assumes nothing.
-use Prim.Native.Nat.{ℕ, zero, suc, _<_, _≤_}
+use Prim.Native.Nat.{ℕ, _<_, _≤_}
 use native.Mathlib.Omega.{arith}
 use mathlib.Core.Path.{_≡_, refl, sym, ap, _∙_, subst}
 use mathlib.Core.Logic.{_≢_}
-use mathlib.Core.Bool.{Bool, true, false, not, cond, Bool·beq}
-use mathlib.Core.List.{List, [], _∷_}
-use lib.ListN.{length, getD, set}
-use lib.Seq.{ext-getD, set-getD}
-use lib.Dec.{eqb, lit<}
+use mathlib.Core.Bool.{true, false, not}
+use mathlib.Core.List.{List}
+use lib.ListN.{set}
+use lib.Seq.{set-getD}
+use lib.Dec.{eqb}
 use borrow.Author.Tests.{eq-eqb, eqb-true, leb-true}
 use Rattle.model.specs.declared.Level.{Level}
-use Rattle.model.specs.declared.Label.{Label}
-use Rattle.model.specs.declared.Label.the-variants.{Absent, Present}
+use Rattle.model.specs.declared.Label.the-variants.{Present}
 use Rattle.model.specs.declared.Object.{Object}
 use Rattle.model.specs.declared.Monitor.{Monitor}
 use Rattle.model.specs.declared.Mode.{Mode}
 use Rattle.model.specs.declared.Mode.the-variants.{Read}
 use Rattle.model.specs.declared.Request.{Request}
-use Rattle.model.specs.declared.Request.the-variants.{Get, Release, Create, Delete, ChangeLevel}
+use Rattle.model.specs.declared.Request.the-variants.{Get, Release, Delete, ChangeLevel}
 use Rattle.model.specs.declared.Decision.{Decision}
 use Rattle.model.specs.declared.Decision.the-variants.{Granted, NotEnrolled, NotLive, NoRight, NoLabel, SimpleBroken, StarBroken}
-use Rattle.model.specs.Levels.{present, sameLabel}
+use Rattle.model.specs.Levels.{sameLabel}
 use Rattle.model.specs.Modes.{has}
 use Rattle.model.specs.State.{noObject, enrolled, object, rightsOf, heldBy, withLabel, LabelFits}
 use Rattle.model.specs.Decisions.{number, refuses}
 use Rattle.model.specs.Requests.{InRange}
-use Rattle.model.specs.Rules.{target, changed, already, afterwards, checks, owns, simpleAll, starAll, step}
-use Rattle.model.proofs.Tests.{split, apart, clash, pass, stop, not-stop, distinct, not-on, not-off}
+use Rattle.model.specs.Rules.{target, changed, already, checks, owns, simpleAll, starAll, step}
+use Rattle.model.proofs.Tests.{split, apart, pass, stop, not-stop, distinct}
 use Rattle.model.proofs.Decisions.{number-inj}
-use Rattle.model.proofs.Modes.{modes-ext, has-none}
-use Rattle.model.proofs.Levels.{same-label, label-same}
-use Rattle.security.specs.Distinguish.{when, differ, search, searchModes, byEnrolment, byLife, byOwner, toLabel, byLabel, byRight, byAccess, byObject}
+use Rattle.model.proofs.Modes.{has-none}
+use Rattle.model.proofs.Levels.{label-same}
 use Rattle.security.proofs.Secure.{object-secure, simple-in, star-all-in, star-for}
 use Rattle.security.proofs.Steps.{Sound, step-refused}
 use Rattle.security.proofs.Replies.{step-cases}
-use Rattle.security.proofs.Probes.{Probe, alike, probe-map, probe-or, probe-search, probe-modes, probe-when, probe-differ}
 
 -- ---- replies that differ
 

@@ -3,22 +3,21 @@
 use Prim.Native.Nat.{ℕ, zero, suc, _<_, _≤_}
 use native.Mathlib.Omega.{arith}
 use native.Mathlib.Nat.{eq-or-lt-of-le, le-of-suc-le-suc}
-use mathlib.Core.Path.{_≡_, refl, sym, ap, ap₂, _∙_, subst}
+use mathlib.Core.Path.{_≡_, refl, sym, ap, _∙_, subst}
 use mathlib.Core.Logic.{_≢_, ⊎-elim}
-use mathlib.Core.Bool.{Bool, true, false, not, Bool·beq}
+use mathlib.Core.Bool.{Bool, true, false}
 use mathlib.Core.List.{List, [], _∷_, map}
 use lib.ListN.{length, getD}
 use Rattle.model.specs.declared.Monitor.{Monitor}
 use Rattle.model.specs.declared.Mode.{Mode}
 use Rattle.model.specs.declared.Mode.the-variants.{Read, Write, Append, Execute}
 use Rattle.model.specs.declared.Request.{Request}
-use Rattle.model.specs.declared.Decoded.the-variants.{Says}
 use Rattle.model.specs.declared.Decoded.{Decoded}
 use Rattle.model.specs.declared.Response.{Response}
 use Rattle.model.specs.Decisions.{number}
 use Rattle.model.specs.Requests.{encode, InRange}
 use Rattle.model.specs.Rules.{step}
-use Rattle.model.specs.Runs.{carryOut, respond, reply, replies}
+use Rattle.model.specs.Runs.{carryOut, respond, replies}
 use Rattle.model.proofs.Tests.{clash}
 use Rattle.model.proofs.Requests.{encode-decode}
 use Rattle.security.specs.Distinguish.{orElse, search, searchModes, when, differ}

@@ -4,28 +4,26 @@ use Prim.Native.Nat.{ℕ, _<_, _≤_}
 use native.Mathlib.Omega.{arith}
 use mathlib.Core.Path.{_≡_, refl, sym, ap, _∙_, subst}
 use mathlib.Core.Logic.{_↔_, _≢_}
-use mathlib.Core.Bool.{Bool, true, false, not, _&&_, cond}
-use mathlib.Core.List.{List}
-use lib.ListN.{length, getD, set}
+use mathlib.Core.Bool.{Bool, true, false, not, cond}
+use lib.ListN.{set}
 use borrow.Author.Tests.{leb-true}
 use lib.Seq.{set-getD, getD-set-same}
 use Rattle.model.specs.declared.Object.{Object}
 use Rattle.model.specs.declared.Monitor.{Monitor}
-use Rattle.model.specs.declared.Label.{Label}
-use Rattle.model.specs.declared.Label.the-variants.{Absent, Present}
+use Rattle.model.specs.declared.Label.the-variants.{Present}
 use Rattle.model.specs.declared.Request.{Request}
 use Rattle.model.specs.declared.Request.the-variants.{Get, Release, Give, Rescind, Create, Delete, ChangeLevel}
 use Rattle.model.specs.declared.Decision.the-variants.{Granted, Already, NotEnrolled, NotLive, AlreadyLive}
 use Rattle.model.specs.declared.Response.{Response}
-use Rattle.model.specs.Modes.{has, add, remove}
+use Rattle.model.specs.Modes.{has, remove}
 use Rattle.model.specs.State.{noObject, object, heldBy, rightsOf, withHeld, withRights, WellFormed}
-use Rattle.model.specs.Decisions.{number, refuses}
+use Rattle.model.specs.Decisions.{number}
 use Rattle.model.specs.Requests.{InRange}
 use Rattle.model.specs.Rules.{target, changed, already, afterwards, checks, step}
-use Rattle.model.proofs.Tests.{passed, split, apart, clash, and-left, and-right, and-both, not-on, not-off, cond-true, cond-false}
+use Rattle.model.proofs.Tests.{passed, split, apart, clash, and-left, and-right, and-both, not-on, not-off}
 use Rattle.model.proofs.Modes.{add-same, remove-same, add-has, remove-has}
 use Rattle.model.proofs.Levels.{same-label, label-same}
-use Rattle.security.proofs.Steps.{Sound, granted-or-refused, step-granted, step-refused}
+use Rattle.security.proofs.Steps.{granted-or-refused, step-granted, step-refused}
 
 -- ---- the state was so already
 

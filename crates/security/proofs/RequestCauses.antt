@@ -1,14 +1,13 @@
 -- The checks of a request answer the first of its causes, in the scope's order; 2 is exactly its first row.
 -- Assumes nothing.
-use Prim.Native.Nat.{ℕ, zero, suc, _<_, _≤_}
+use Prim.Native.Nat.{ℕ, _<_}
 use native.Mathlib.Omega.{arith}
-use mathlib.Core.Path.{_≡_, refl, sym, ap, _∙_, subst}
-use mathlib.Core.Logic.{_⊎_, inl, inr, ⊎-elim, _↔_, _≢_}
-use mathlib.Core.Bool.{Bool, true, false, not, _&&_}
-use mathlib.Core.List.{List, [], _∷_}
-use lib.ListN.{length, set}
+use mathlib.Core.Path.{_≡_, refl, ap, subst}
+use mathlib.Core.Logic.{_⊎_, inl, inr, ⊎-elim, _≢_}
+use mathlib.Core.Bool.{Bool, true, false, _&&_}
+use mathlib.Core.List.{[], _∷_}
+use lib.ListN.{length}
 use lib.Seq.{getD-set-same}
-use lib.Dec.{eqb}
 use borrow.Author.Tests.{eq-eqb, eqb-true}
 use Rattle.model.specs.declared.Level.{Level}
 use Rattle.model.specs.declared.Label.{Label}
@@ -19,16 +18,15 @@ use Rattle.model.specs.declared.Mode.{Mode}
 use Rattle.model.specs.declared.Mode.the-variants.{Read, Write, Append, Execute}
 use Rattle.model.specs.declared.Request.{Request}
 use Rattle.model.specs.declared.Request.the-variants.{Get, Release, Give, Rescind, Create, Delete, ChangeLevel}
-use Rattle.model.specs.declared.Decision.{Decision}
 use Rattle.model.specs.declared.Decision.the-variants.{Granted, NotEnrolled, NotLive, AlreadyLive, NoRight, NoLabel, SimpleBroken, StarBroken}
 use Rattle.model.specs.Tests.{implies}
 use Rattle.model.specs.Levels.{present, dominates, Dominates}
 use Rattle.model.specs.Modes.{has, observes, needsLabel}
-use Rattle.model.specs.State.{noObject, clearance, enrolled, object, objectAt, rightsOf, heldBy, withLabel}
+use Rattle.model.specs.State.{noObject, clearance, enrolled, object, rightsOf, heldBy, withLabel}
 use Rattle.model.specs.Properties.{Simple, Star, Permits}
 use Rattle.model.specs.Requests.{InRange}
-use Rattle.model.specs.Rules.{changed, afterwards, checks, owns, simpleAll, starFor, starAll}
-use Rattle.model.proofs.Tests.{set-all, split, apart, clash, not-false, and-left, and-right, and-false, implies-in, implies-out, implies-false, not-on, not-off}
+use Rattle.model.specs.Rules.{changed, afterwards, checks, owns, simpleAll, starAll}
+use Rattle.model.proofs.Tests.{set-all, apart, clash, and-left, and-right, and-false, implies-in, not-on, not-off}
 use Rattle.security.specs.First.{AnswersFirst}
 use Rattle.security.specs.Causes.{NotIn, requestOrder, RequestCause, LabelMissing}
 use Rattle.security.proofs.First.{answers-end, answers-skip, answers-check}

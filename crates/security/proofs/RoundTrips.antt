@@ -1,10 +1,10 @@
 -- Round trips, as the readers and the writer return them.
 -- Assumes nothing.
 use Prim.Native.Nat.{ℕ}
-use mathlib.Core.Path.{_≡_, refl, sym, ap, _∙_, subst}
-use mathlib.Core.Bool.{Bool, true, false, cond}
+use mathlib.Core.Path.{_≡_, ap, _∙_}
+use mathlib.Core.Bool.{true}
 use mathlib.Core.List.{List, _++_}
-use lib.ListN.{length, take, drop}
+use lib.ListN.{take, drop}
 use lib.Seq.{drop-at}
 use Rattle.bits.specs.Bits.{Bytes}
 use Rattle.bits.specs.Laws.{length-bitsToBytes}
@@ -12,7 +12,6 @@ use Rattle.model.specs.declared.Subject.{Subject}
 use Rattle.model.specs.declared.Monitor.{Monitor}
 use Rattle.model.specs.declared.Decision.{Decision}
 use Rattle.model.specs.declared.Decision.the-variants.{Granted}
-use Rattle.model.specs.declared.Response.{Response}
 use Rattle.model.specs.State.{emptyMonitor, fresh}
 use Rattle.model.specs.Decisions.{number, refuses}
 use Rattle.model.specs.Layout.{imageSize, imageBits, imageOf}
@@ -21,7 +20,7 @@ use Rattle.model.specs.Writing.{tooShort, writing, written}
 use Rattle.model.specs.Beginnings.{image, table, Accepted, Reached}
 use Rattle.model.proofs.Tests.{split, cond-true, cond-false}
 use Rattle.security.specs.Tables.{tableOf}
-use Rattle.security.proofs.Steps.{Sound, TableFits}
+use Rattle.security.proofs.Steps.{TableFits}
 use Rattle.security.proofs.Trips.{image-read-back, image-accepted, image-bytes-back, table-accepted, table-read-back, table-bytes-back}
 use Rattle.security.proofs.Demand3.{sound-reached, fills}
 

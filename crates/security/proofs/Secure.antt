@@ -1,30 +1,29 @@
 -- Each rule keeps the four properties: the first three at the object that it changes, star at each pair of objects.
 -- Assumes nothing.
-use Prim.Native.Nat.{ℕ, zero, suc, _<_, _≤_}
+use Prim.Native.Nat.{ℕ, _<_, _≤_}
 use native.Mathlib.Omega.{arith}
 use native.Mathlib.Decide.{ℕ-discrete}
 use mathlib.Core.Path.{_≡_, refl, sym, ap, _∙_, subst}
-use mathlib.Core.Logic.{_↔_, _≢_, ⊎-elim}
-use mathlib.Core.Bool.{Bool, true, false, not, _&&_, _||_, cond}
-use mathlib.Core.List.{List, [], _∷_}
-use lib.ListN.{length, getD, set}
+use mathlib.Core.Logic.{_≢_, ⊎-elim}
+use mathlib.Core.Bool.{true, not, _&&_}
+use mathlib.Core.List.{List}
+use lib.ListN.{length, set}
 use lib.Seq.{getD-set-other}
 use Rattle.model.specs.declared.Subject.{Subject}
 use Rattle.model.specs.declared.Object.{Object}
 use Rattle.model.specs.declared.Monitor.{Monitor}
 use Rattle.model.specs.declared.Mode.{Mode}
-use Rattle.model.specs.declared.Label.{Label}
-use Rattle.model.specs.declared.Label.the-variants.{Absent, Present}
+use Rattle.model.specs.declared.Label.the-variants.{Present}
 use Rattle.model.specs.declared.Request.{Request}
 use Rattle.model.specs.declared.Request.the-variants.{Get, Release, Give, Rescind, Create, Delete, ChangeLevel}
-use Rattle.model.specs.declared.Decision.the-variants.{Granted, NotEnrolled, NotLive, AlreadyLive, NoRight, NoLabel, SimpleBroken, StarBroken}
-use Rattle.model.specs.Tests.{implies, allOf}
+use Rattle.model.specs.declared.Decision.the-variants.{Granted, NotEnrolled, NotLive, NoRight, NoLabel, SimpleBroken, StarBroken}
+use Rattle.model.specs.Tests.{implies}
 use Rattle.model.specs.Levels.{Dominates, dominates, present}
-use Rattle.model.specs.Modes.{has, add, remove, observes, alters, needsLabel, anyObserves, anyAlters}
-use Rattle.model.specs.State.{noModes, noObject, clearanceAt, clearance, enrolled, objectAt, object, rightsOf, heldBy, withHeld, withRights, withLabel, WellFormedObject, WellFormed}
-use Rattle.model.specs.Properties.{Secure, Star, Simple}
+use Rattle.model.specs.Modes.{has, remove, observes, alters, needsLabel, anyObserves}
+use Rattle.model.specs.State.{noObject, clearanceAt, objectAt, object, rightsOf, heldBy, withHeld, withLabel, WellFormed}
+use Rattle.model.specs.Properties.{Secure, Star}
 use Rattle.model.specs.Rules.{target, changed, afterwards, checks, created, simpleAll, starPair, starFrom, starFor, starAll}
-use Rattle.model.proofs.Tests.{set-all, set-two, row-all, apart, clash, split, passed, and-left, and-right, and-both, or-left, or-right, implies-out, implies-in, below-out, below-in, all-out, all-in, beyond, le-or-lt}
+use Rattle.model.proofs.Tests.{set-all, set-two, row-all, apart, split, passed, and-left, and-right, and-both, or-left, or-right, implies-out, implies-in, below-out, below-in, all-out, all-in, beyond, le-or-lt}
 use Rattle.model.proofs.Modes.{has-add, has-remove, sameMode, held-add, held-remove, has-none, any-observes, any-alters, observes-some, alters-some}
 use Rattle.model.proofs.Levels.{dominates-decides}
 use Rattle.security.proofs.Form.{no-modes}

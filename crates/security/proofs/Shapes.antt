@@ -2,21 +2,20 @@
 -- Assumes nothing.
 use Prim.Native.Nat.{ℕ, _<_}
 use native.Mathlib.Omega.{arith}
-use mathlib.Core.Path.{_≡_, refl, _∙_}
-use mathlib.Core.Bool.{Bool, true, false, cond}
-use mathlib.Core.List.{List, [], map}
-use lib.ListN.{length, getD, take, drop, length-map}
-use Rattle.bits.specs.Bits.{fromBits, bytesToBits, cut, first}
+use mathlib.Core.Path.{_≡_, _∙_}
+use mathlib.Core.Bool.{Bool, false}
+use mathlib.Core.List.{List, []}
+use lib.ListN.{length, take, drop, length-map}
+use Rattle.bits.specs.Bits.{bytesToBits, first}
 use Rattle.bits.specs.Laws.{fromBits-take}
 use Rattle.bits.specs.Records.{length-cut}
-use Rattle.model.specs.declared.Label.{Label}
-use Rattle.model.specs.declared.Label.the-variants.{Absent, Present}
+use Rattle.model.specs.declared.Label.the-variants.{Absent}
 use Rattle.model.specs.declared.Subject.{Subject}
 use Rattle.model.specs.declared.Object.{Object}
 use Rattle.model.specs.declared.Monitor.{Monitor}
 use Rattle.model.specs.State.{nobody, noObject, clearance, object, rightsOf, heldBy, LabelFits, WellFormedObject, WellFormed}
 use Rattle.model.specs.Layout.{tableSize}
-use Rattle.model.specs.Reading.{fieldOf, labelFrom, subjectFrom, rightsFrom, heldFrom, setsIn, liveFrom, objectFrom, tableRecords, objectRecords, tableFrom, objectsFrom, monitorFrom}
+use Rattle.model.specs.Reading.{labelFrom, subjectFrom, rightsFrom, heldFrom, setsIn, liveFrom, objectFrom, tableRecords, objectRecords, tableFrom, objectsFrom, monitorFrom}
 use Rattle.model.proofs.Tests.{cond-all, map-all, clash}
 use Rattle.security.proofs.Form.{no-object-formed}
 use Rattle.security.proofs.Steps.{TableFits}

@@ -1,12 +1,10 @@
 -- The five tests of a state decide what they are for, at every state whose numbers fit.
 -- Assumes nothing.
-use Prim.Native.Nat.{ℕ, _<_, _≤_}
-use native.Mathlib.Omega.{arith}
-use mathlib.Core.Path.{_≡_, refl, sym, ap, _∙_, subst}
+use Prim.Native.Nat.{ℕ, _<_}
+use mathlib.Core.Path.{_≡_, refl, ap, subst}
 use mathlib.Core.Logic.{_⊎_, inl, inr, ⊎-elim, _≢_}
-use mathlib.Core.Bool.{Bool, true, false, _&&_, _||_}
+use mathlib.Core.Bool.{true, false, _&&_, _||_}
 use mathlib.Core.List.{List}
-use lib.ListN.{length, getD}
 use lib.Dec.{eqb}
 use borrow.Author.Tests.{eq-eqb, eqb-true}
 use Rattle.model.specs.declared.Label.{Label}
@@ -15,9 +13,9 @@ use Rattle.model.specs.declared.Subject.{Subject}
 use Rattle.model.specs.declared.Object.{Object}
 use Rattle.model.specs.declared.Monitor.{Monitor}
 use Rattle.model.specs.declared.Mode.{Mode}
-use Rattle.model.specs.Tests.{allBelow, allOf, implies}
+use Rattle.model.specs.Tests.{allOf, implies}
 use Rattle.model.specs.Levels.{present, subset}
-use Rattle.model.specs.Modes.{has, needsLabel, anyNeedsLabel}
+use Rattle.model.specs.Modes.{has, anyNeedsLabel}
 use Rattle.model.specs.State.{noObject, clearanceAt, clearance, enrolled, object, rightsOf, heldBy, WellFormedObject, WellFormed}
 use Rattle.model.specs.Properties.{Discretionary, Labelled, Simple, Star}
 use Rattle.model.specs.Rules.{simpleAll, starAll}

@@ -3,9 +3,9 @@
 use Prim.Native.Nat.{ℕ}
 use mathlib.Core.Path.{_≡_, refl, sym, ap, _∙_, subst}
 use mathlib.Core.Logic.{_⊎_, inl, inr, ⊎-elim}
-use mathlib.Core.Bool.{Bool, true, false, cond, not, _&&_}
+use mathlib.Core.Bool.{Bool, true, false, cond}
 use mathlib.Core.List.{List, [], _∷_}
-use lib.ListN.{length, set, length-set, length-replicate}
+use lib.ListN.{length, length-set, length-replicate}
 use Rattle.model.specs.declared.Subject.{Subject}
 use Rattle.model.specs.declared.Object.{Object}
 use Rattle.model.specs.declared.Monitor.{Monitor}
@@ -17,13 +17,13 @@ use Rattle.model.specs.declared.Decision.{Decision}
 use Rattle.model.specs.declared.Decision.the-variants.{Granted, Already, NotEnrolled, NotLive, AlreadyLive, NoRight, NoLabel, SimpleBroken, StarBroken}
 use Rattle.model.specs.declared.Response.{Response}
 use Rattle.model.specs.Tests.{unless}
-use Rattle.model.specs.State.{noObject, clearance, clearanceAt, objectAt, object, heldBy, fresh, LabelFits, WellFormedObject, WellFormed}
+use Rattle.model.specs.State.{noObject, clearanceAt, objectAt, object, heldBy, fresh, LabelFits, WellFormedObject, WellFormed}
 use Rattle.model.specs.Properties.{Secure}
-use Rattle.model.specs.Decisions.{number, refuses}
+use Rattle.model.specs.Decisions.{refuses}
 use Rattle.model.specs.Requests.{decode, InRange}
-use Rattle.model.specs.Rules.{target, changed, already, afterwards, checks, answer, step}
+use Rattle.model.specs.Rules.{target, already, afterwards, checks, answer, step}
 use Rattle.model.specs.Runs.{carryOut, respond, after}
-use Rattle.model.proofs.Tests.{set-all, replicate-at, split, apart, clash, passed, cond-true, cond-false}
+use Rattle.model.proofs.Tests.{set-all, replicate-at, cond-true, cond-false}
 use Rattle.model.proofs.Requests.{decode-range}
 use Rattle.security.proofs.Form.{no-modes, no-object-formed, changed-formed}
 use Rattle.security.proofs.Secure.{SecureObject, object-secure, idle-secure, changed-secure, StarFor, star-of, star-idle, changed-star}

@@ -1,25 +1,23 @@
 -- Round trips: a written image is accepted and gives its monitor back; the monitor of an accepted image is written as that image. So of tables.
 -- Assumes nothing.
-use Prim.Native.Nat.{ℕ, zero, suc, _+_, _-_, _*_, _<_, _≤_}
+use Prim.Native.Nat.{ℕ, _+_, _-_, _*_}
 use native.Mathlib.Omega.{arith}
-use mathlib.Core.Path.{_≡_, refl, sym, ap, ap₂, _∙_, subst}
-use mathlib.Core.Bool.{Bool, true, false, _&&_}
-use mathlib.Core.List.{List, [], _∷_, _++_, map}
+use mathlib.Core.Path.{_≡_, refl, sym, ap, ap₂, _∙_}
+use mathlib.Core.Bool.{Bool, true}
+use mathlib.Core.List.{List, [], _++_, map}
 use lib.ListN.{length, getD, take, drop, length-append, length-drop, take-append-drop}
 use lib.Seq.{take-at, drop-at, length-take-le}
 use borrow.Author.Tests.{eq-eqb, eqb-true}
 use Rattle.bits.specs.Bits.{Bytes, bytesToBits, bitsToBytes, cut, join}
 use Rattle.bits.specs.Laws.{length-bytesToBits, take-bytesToBits, drop-bytesToBits, bytesToBits-append, length-bitsToBytes, bytesToBits-bitsToBytes, bitsToBytes-bytesToBits}
 use Rattle.bits.specs.Records.{length-cut, join-cut, cut-length, length-join, cut-join, map-back}
-use Rattle.model.specs.declared.Label.{Label}
 use Rattle.model.specs.declared.Subject.{Subject}
-use Rattle.model.specs.declared.Object.{Object}
 use Rattle.model.specs.declared.Monitor.{Monitor}
 use Rattle.model.specs.declared.Decision.the-variants.{Granted, WrongLength, StrayBits}
 use Rattle.model.specs.Tests.{allOf}
 use Rattle.model.specs.State.{nobody, noObject, clearanceAt, clearance, object}
-use Rattle.model.specs.Layout.{tableSize, imageSize, labelBits, subjectBits, objectBits, tableBits, objectsBits, imageBits, imageOf}
-use Rattle.model.specs.Reading.{labelFrom, labelForm, subjectFrom, objectFrom, objectForm, tableFrom, tableForm, objectsFrom, objectsForm, monitorFrom, imageForm, stateChecks, tableChecks, imageChecks}
+use Rattle.model.specs.Layout.{tableSize, imageSize, subjectBits, objectBits, tableBits, objectsBits, imageBits, imageOf}
+use Rattle.model.specs.Reading.{labelForm, subjectFrom, objectFrom, objectForm, tableFrom, tableForm, objectsFrom, objectsForm, monitorFrom, imageForm, stateChecks, tableChecks, imageChecks}
 use Rattle.model.proofs.Tests.{pass, passed, and-both, and-left, and-right, all-at, all-map-at}
 use Rattle.model.proofs.Records.{label-length, label-read, label-form, label-back, object-length, object-read, object-form, object-back}
 use Rattle.security.specs.Tables.{tableOf}

@@ -1,12 +1,12 @@
 -- Each hypothesis of the theorems is met: by the marked run, by what it leaves, or by the shortest input that meets it.
 -- Assumes nothing.
 use Prim.Native.Nat.{ℕ}
-use mathlib.Core.Path.{_≡_, refl, sym, ap, _∙_}
+use mathlib.Core.Path.{_≡_, refl, sym, ap}
 use mathlib.Core.Logic.{_≢_}
-use mathlib.Core.Bool.{Bool, true, false}
+use mathlib.Core.Bool.{true}
 use mathlib.Core.List.{List, [], _∷_, map}
 use lib.ListN.{length, take}
-use Rattle.bits.specs.Bits.{odd, toBits, fromBits, bytesToBits, bitsToBytes, field, cut, join, allZero, Bytes}
+use Rattle.bits.specs.Bits.{odd, toBits, fromBits, bytesToBits, field, cut, allZero, Bytes}
 use Rattle.bits.specs.Laws.{bytes-bitsToBytes, length-bitsToBytes}
 use Rattle.model.specs.declared.Monitor.{Monitor}
 use Rattle.model.specs.declared.Mode.the-variants.{Read}
@@ -20,17 +20,16 @@ use Rattle.model.specs.State.{enrolled, object}
 use Rattle.model.specs.Decisions.{number, refuses}
 use Rattle.model.specs.Requests.{fields, modeAllowed, unusedZero, wellFormed, request, decodeFields, decode}
 use Rattle.model.specs.Rules.{simpleAll, starPair, starFrom, starFor, starAll, changed, already, checks, answer, step}
-use Rattle.model.specs.Runs.{respond, after, reply, replies}
+use Rattle.model.specs.Runs.{respond, after}
 use Rattle.model.specs.Layout.{imageSize, imageBits, imageOf}
 use Rattle.model.specs.Reading.{labelFrom, labelForm, tableFrom, tableForm, tableChecks, imageChecks, begin, readTable, readImage}
 use Rattle.model.specs.Writing.{tooShort, writing}
-use Rattle.model.specs.Beginnings.{table, image, Accepted, left, Reached, AllBytes}
+use Rattle.model.specs.Beginnings.{table, image, Accepted, left, Reached}
 use Rattle.model.proofs.Tests.{clash, cond-false}
 use borrow.Author.Tests.{le-ltb}
 use native.Mathlib.Omega.{arith}
 use Rattle.security.specs.Causes.{MalformedBytes, not-six-bytes}
 use Rattle.security.specs.MarkedRun.{tableW, Row, rows}
-use Rattle.security.proofs.Steps.{Sound}
 use Rattle.security.proofs.Trips.{image-accepted}
 use Rattle.security.proofs.Demand3.{sound-left}
 use Rattle.security.proofs.MarkedRun.{marked-run}

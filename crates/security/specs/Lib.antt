@@ -2,6 +2,7 @@
 pub mod First
 pub mod Causes
 pub mod Access
+pub mod Effects
 pub mod Tables
 pub mod Distinguish
 pub mod MarkedRun
