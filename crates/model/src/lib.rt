@@ -1,4 +1,6 @@
 // The types of the reference monitor. What they mean is said in specs/, in the order of specs/Lib.antt.
+ghost use mathlib.Core.Path.{_≡_};
+ghost use Rattle.model.specs.State.{fresh};
 
 // A class, 0 to 15, and a set of needs-to-know, 0 to 15, where need k weighs 2^k.
 pub struct Level {
@@ -36,6 +38,34 @@ pub struct Object {
 pub struct Monitor {
     pub subjects: [Subject; 16],
     pub objects: [Object; 64],
+}
+
+impl Monitor {
+    pub const SUBJECTS: usize = 16;
+
+    pub const OBJECTS: usize = 64;
+
+    // The size of an enrolment table, which is also where the object records of an image begin.
+    pub const TABLE_BYTES: usize = 42;
+
+    pub const IMAGE_BYTES: usize = 1274;
+
+    // A monitor begun fresh from an enrolment table, with no live object.
+    pub fn begin(table: [Subject; Monitor::SUBJECTS]) -> Monitor
+        ensures { λ r. ⌜ r ≡ fresh table ⌝ }
+    {
+        let none = Object {
+            live: false,
+            owner: 0,
+            label: Label::Absent,
+            rights: [0u8; 16],
+            held: [0u8; 16],
+        };
+        Monitor {
+            subjects: table,
+            objects: [none; Monitor::OBJECTS],
+        }
+    }
 }
 
 // The fields of a request's six bytes.
