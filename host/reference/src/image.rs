@@ -1,0 +1,173 @@
+//! Tables and images.
+
+use crate::bits::{BitReader, BitWriter};
+use crate::monitor::{Level, Monitor, Object, SUBJECTS};
+use crate::{reply, star};
+
+pub const TABLE_BYTES: usize = 42;
+pub const IMAGE_BYTES: usize = 1274;
+
+const LABEL_BITS: usize = 21;
+const OBJECT_BITS: usize = 154;
+
+impl Monitor {
+    /// A monitor begun from a table: checks 10, 11.
+    pub fn from_table(table: &[u8]) -> Result<Monitor, u8> {
+        if table.len() != TABLE_BYTES {
+            return Err(reply::LENGTH);
+        }
+        let mut bits = BitReader::new(table);
+        let mut form = true;
+        let subjects = read_subjects(&mut bits, &mut form);
+        if form {
+            Ok(Monitor::begin(subjects))
+        } else {
+            Err(reply::STRAY_BITS)
+        }
+    }
+
+    /// A monitor begun from an image: checks 10, 11, 12, 6, 7, 8, 9, each over the whole image before the next.
+    pub fn from_image(image: &[u8]) -> Result<Monitor, u8> {
+        if image.len() != IMAGE_BYTES {
+            return Err(reply::LENGTH);
+        }
+        let mut bits = BitReader::new(image);
+        let mut form = true;
+        let mut monitor = Monitor::begin(read_subjects(&mut bits, &mut form));
+        for object in &mut monitor.objects {
+            *object = read_object(&mut bits, &mut form);
+        }
+        if !form {
+            return Err(reply::STRAY_BITS);
+        }
+        match monitor.fault() {
+            None => Ok(monitor),
+            Some(number) => Err(number),
+        }
+    }
+
+    /// The first of checks 12, 6, 7, 8, 9 that the state fails.
+    pub fn fault(&self) -> Option<u8> {
+        let any = |bad: &dyn Fn(&Object, usize) -> bool| {
+            self.objects
+                .iter()
+                .flatten()
+                .any(|object| (0..SUBJECTS).any(|s| bad(object, s)))
+        };
+        let absent = |s: usize| self.subjects[s].is_none();
+        if any(&|o, s| absent(s) && (o.owner == s || o.rights[s] != 0 || o.held[s] != 0)) {
+            return Some(reply::ABSENT_SUBJECT);
+        }
+        if any(&|o, s| o.held[s] & !o.rights[s] != 0) {
+            return Some(reply::NO_RIGHT);
+        }
+        if any(&|o, s| (o.reads(s) || o.writes(s)) && o.label.is_none()) {
+            return Some(reply::NO_LABEL);
+        }
+        let cleared = |o: &Object, s: usize| match (&self.subjects[s], &o.label) {
+            (Some(clearance), Some(label)) => clearance.dominates(label),
+            _ => false,
+        };
+        if any(&|o, s| o.reads(s) && !cleared(o, s)) {
+            return Some(reply::SIMPLE);
+        }
+        if !(0..SUBJECTS).all(|s| star::kept(self.star, &self.objects, s)) {
+            return Some(reply::STAR);
+        }
+        None
+    }
+
+    /// Writes the image into the first bytes of the buffer; 13 and every byte left where it is too short.
+    pub fn write_image(&self, buffer: &mut [u8]) -> u8 {
+        if buffer.len() < IMAGE_BYTES {
+            return reply::SHORT_BUFFER;
+        }
+        let mut bits = BitWriter::new(&mut buffer[..IMAGE_BYTES]);
+        for clearance in &self.subjects {
+            write_label(&mut bits, clearance);
+        }
+        for object in &self.objects {
+            write_object(&mut bits, object);
+        }
+        reply::CHANGED
+    }
+
+    /// The bytes of the table with these subjects.
+    pub fn table(&self) -> [u8; TABLE_BYTES] {
+        let mut table = [0; TABLE_BYTES];
+        let mut bits = BitWriter::new(&mut table);
+        for clearance in &self.subjects {
+            write_label(&mut bits, clearance);
+        }
+        table
+    }
+}
+
+fn read_subjects(bits: &mut BitReader, form: &mut bool) -> [Option<Level>; SUBJECTS] {
+    let mut subjects = [None; SUBJECTS];
+    for subject in &mut subjects {
+        *subject = read_label(bits, form);
+    }
+    subjects
+}
+
+/// What is absent has all its other bits 0.
+fn read_label(bits: &mut BitReader, form: &mut bool) -> Option<Level> {
+    let present = bits.bit();
+    let class = bits.number(4) as u8;
+    let needs = bits.number(16) as u16;
+    if present {
+        return Some(Level { class, needs });
+    }
+    *form &= class == 0 && needs == 0;
+    None
+}
+
+fn read_object(bits: &mut BitReader, form: &mut bool) -> Option<Object> {
+    if !bits.bit() {
+        for _ in 1..OBJECT_BITS {
+            *form &= !bits.bit();
+        }
+        return None;
+    }
+    let owner = bits.number(4) as usize;
+    let label = read_label(bits, form);
+    let mut object = Object {
+        owner,
+        label,
+        rights: [0; SUBJECTS],
+        held: [0; SUBJECTS],
+    };
+    for s in 0..SUBJECTS {
+        object.rights[s] = bits.number(4) as u8;
+        object.held[s] = bits.number(4) as u8;
+    }
+    Some(object)
+}
+
+fn write_label(bits: &mut BitWriter, label: &Option<Level>) {
+    match label {
+        None => bits.number(0, LABEL_BITS),
+        Some(level) => {
+            bits.bit(true);
+            bits.number(level.class.into(), 4);
+            bits.number(level.needs.into(), 16);
+        }
+    }
+}
+
+fn write_object(bits: &mut BitWriter, object: &Option<Object>) {
+    let Some(object) = object else {
+        for _ in 0..OBJECT_BITS {
+            bits.bit(false);
+        }
+        return;
+    };
+    bits.bit(true);
+    bits.number(object.owner as u32, 4);
+    write_label(bits, &object.label);
+    for s in 0..SUBJECTS {
+        bits.number(object.rights[s].into(), 4);
+        bits.number(object.held[s].into(), 4);
+    }
+}

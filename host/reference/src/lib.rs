@@ -1,0 +1,36 @@
+//! The scope of circmon implemented a second time, in plain mutable Rust, to compare the proved monitor with.
+//! It is written from the scope's text and shares nothing with the Rattle crates.
+
+mod bits;
+mod image;
+mod monitor;
+mod program;
+mod request;
+mod star;
+
+pub use image::{IMAGE_BYTES, TABLE_BYTES};
+pub use monitor::{Level, Monitor, Object, OBJECTS, SUBJECTS};
+pub use program::{program, MOST_REQUESTS};
+pub use request::{Kind, Mode, Request, REQUEST_BYTES};
+pub use star::Star;
+
+/// The numbers that requests, readings and writings return.
+pub mod reply {
+    pub const CHANGED: u8 = 0;
+    pub const ALREADY: u8 = 1;
+    pub const MALFORMED: u8 = 2;
+    pub const NOT_ENROLLED: u8 = 3;
+    pub const NOT_LIVE: u8 = 4;
+    pub const LIVE: u8 = 5;
+    pub const NO_RIGHT: u8 = 6;
+    pub const NO_LABEL: u8 = 7;
+    pub const SIMPLE: u8 = 8;
+    pub const STAR: u8 = 9;
+    pub const LENGTH: u8 = 10;
+    pub const STRAY_BITS: u8 = 11;
+    pub const ABSENT_SUBJECT: u8 = 12;
+    pub const SHORT_BUFFER: u8 = 13;
+}
+
+#[cfg(test)]
+mod tests;

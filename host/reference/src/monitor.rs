@@ -1,0 +1,236 @@
+//! The state and the rules.
+
+use crate::reply;
+use crate::request::{Kind, Mode, Request};
+use crate::star::{self, Star};
+
+pub const SUBJECTS: usize = 16;
+pub const OBJECTS: usize = 64;
+
+const READS: u8 = 8 | 4;
+const WRITES: u8 = 4 | 2;
+
+#[derive(Clone, Copy, Debug, PartialEq, Eq)]
+pub struct Level {
+    pub class: u8,
+    pub needs: u16,
+}
+
+impl Level {
+    /// The class is at least the other's, and every need of the other is here.
+    pub fn dominates(&self, other: &Level) -> bool {
+        self.class >= other.class && other.needs & !self.needs == 0
+    }
+}
+
+#[derive(Clone, Debug, PartialEq, Eq)]
+pub struct Object {
+    pub owner: usize,
+    pub label: Option<Level>,
+    pub rights: [u8; SUBJECTS],
+    pub held: [u8; SUBJECTS],
+}
+
+impl Object {
+    pub fn reads(&self, subject: usize) -> bool {
+        self.held[subject] & READS != 0
+    }
+
+    pub fn writes(&self, subject: usize) -> bool {
+        self.held[subject] & WRITES != 0
+    }
+}
+
+#[derive(Clone, Debug)]
+pub struct Monitor {
+    pub subjects: [Option<Level>; SUBJECTS],
+    pub objects: [Option<Object>; OBJECTS],
+    /// which algorithm the star check uses; the answers are the same
+    pub star: Star,
+}
+
+/// Two monitors are the same state where subjects and objects are; how star is computed does not count.
+impl PartialEq for Monitor {
+    fn eq(&self, other: &Monitor) -> bool {
+        self.subjects == other.subjects && self.objects == other.objects
+    }
+}
+
+impl Monitor {
+    pub fn begin(subjects: [Option<Level>; SUBJECTS]) -> Monitor {
+        Monitor {
+            subjects,
+            objects: std::array::from_fn(|_| None),
+            star: Star::Plain,
+        }
+    }
+
+    pub fn empty() -> Monitor {
+        Monitor::begin([None; SUBJECTS])
+    }
+
+    /// Carries out a byte string and returns its reply.
+    pub fn request(&mut self, bytes: &[u8]) -> u8 {
+        match Request::decode(bytes) {
+            None => reply::MALFORMED,
+            Some(request) => self.step(request),
+        }
+    }
+
+    pub fn step(&mut self, request: Request) -> u8 {
+        let Request {
+            actor,
+            object,
+            kind,
+        } = request;
+        if self.subjects[actor].is_none() {
+            return reply::NOT_ENROLLED;
+        }
+        if let Kind::Give(other, _) | Kind::Rescind(other, _) = kind {
+            if self.subjects[other].is_none() {
+                return reply::NOT_ENROLLED;
+            }
+        }
+        match kind {
+            Kind::Get(mode) => self.get(actor, object, mode),
+            Kind::Release(mode) => self.release(actor, object, mode),
+            Kind::Give(other, mode) => self.give(actor, other, object, mode),
+            Kind::Rescind(other, mode) => self.rescind(actor, other, object, mode),
+            Kind::Create { execute } => self.create(actor, object, execute),
+            Kind::Delete => self.delete(actor, object),
+            Kind::ChangeLevel(level) => self.change_level(actor, object, level),
+        }
+    }
+
+    fn get(&mut self, actor: usize, object: usize, mode: Mode) -> u8 {
+        let clearance = self.subjects[actor];
+        let Some(it) = &mut self.objects[object] else {
+            return reply::NOT_LIVE;
+        };
+        if it.rights[actor] & mode.bit() == 0 {
+            return reply::NO_RIGHT;
+        }
+        if mode != Mode::Execute {
+            let Some(label) = it.label else {
+                return reply::NO_LABEL;
+            };
+            if mode.reads() && !clearance.is_some_and(|c| c.dominates(&label)) {
+                return reply::SIMPLE;
+            }
+        }
+        let before = it.held[actor];
+        it.held[actor] |= mode.bit();
+        if mode != Mode::Execute && !star::kept(self.star, &self.objects, actor) {
+            if let Some(it) = &mut self.objects[object] {
+                it.held[actor] = before;
+            }
+            return reply::STAR;
+        }
+        changed(before & mode.bit() == 0)
+    }
+
+    fn release(&mut self, actor: usize, object: usize, mode: Mode) -> u8 {
+        let Some(it) = &mut self.objects[object] else {
+            return reply::NOT_LIVE;
+        };
+        let held = it.held[actor] & mode.bit() != 0;
+        it.held[actor] &= !mode.bit();
+        changed(held)
+    }
+
+    /// Checks 4 and 6 of give and rescind: the actor is owner and has that right itself.
+    fn owned_with_right(
+        &mut self,
+        actor: usize,
+        object: usize,
+        mode: Mode,
+    ) -> Result<&mut Object, u8> {
+        let it = self.objects[object].as_mut().ok_or(reply::NOT_LIVE)?;
+        if it.owner != actor || it.rights[actor] & mode.bit() == 0 {
+            return Err(reply::NO_RIGHT);
+        }
+        Ok(it)
+    }
+
+    fn give(&mut self, actor: usize, other: usize, object: usize, mode: Mode) -> u8 {
+        match self.owned_with_right(actor, object, mode) {
+            Err(n) => n,
+            Ok(it) => {
+                let had = it.rights[other] & mode.bit() != 0;
+                it.rights[other] |= mode.bit();
+                changed(!had)
+            }
+        }
+    }
+
+    fn rescind(&mut self, actor: usize, other: usize, object: usize, mode: Mode) -> u8 {
+        match self.owned_with_right(actor, object, mode) {
+            Err(n) => n,
+            Ok(it) => {
+                let had = (it.rights[other] | it.held[other]) & mode.bit() != 0;
+                it.rights[other] &= !mode.bit();
+                it.held[other] &= !mode.bit();
+                changed(had)
+            }
+        }
+    }
+
+    fn create(&mut self, actor: usize, object: usize, execute: bool) -> u8 {
+        if self.objects[object].is_some() {
+            return reply::LIVE;
+        }
+        let mut rights = [0; SUBJECTS];
+        rights[actor] = if execute { 15 } else { 14 };
+        self.objects[object] = Some(Object {
+            owner: actor,
+            label: None,
+            rights,
+            held: [0; SUBJECTS],
+        });
+        reply::CHANGED
+    }
+
+    fn delete(&mut self, actor: usize, object: usize) -> u8 {
+        match &self.objects[object] {
+            None => reply::NOT_LIVE,
+            Some(it) if it.owner != actor => reply::NO_RIGHT,
+            Some(_) => {
+                self.objects[object] = None;
+                reply::CHANGED
+            }
+        }
+    }
+
+    fn change_level(&mut self, actor: usize, object: usize, level: Level) -> u8 {
+        let Some(it) = &mut self.objects[object] else {
+            return reply::NOT_LIVE;
+        };
+        if it.owner != actor {
+            return reply::NO_RIGHT;
+        }
+        for s in 0..SUBJECTS {
+            if it.reads(s) && !self.subjects[s].is_some_and(|c| c.dominates(&level)) {
+                return reply::SIMPLE;
+            }
+        }
+        let before = it.label;
+        it.label = Some(level);
+        for s in 0..SUBJECTS {
+            if !star::kept(self.star, &self.objects, s) {
+                if let Some(it) = &mut self.objects[object] {
+                    it.label = before;
+                }
+                return reply::STAR;
+            }
+        }
+        changed(before != Some(level))
+    }
+}
+
+fn changed(it: bool) -> u8 {
+    if it {
+        reply::CHANGED
+    } else {
+        reply::ALREADY
+    }
+}
