@@ -1,0 +1,68 @@
+-- The five answers, one inside the other, are the checks in their order.
+-- Assumes nothing.
+use mathlib.Core.Path.{_≡_, refl, ap, ap₂, _∙_}
+use mathlib.Core.Bool.{Bool, true, false, not}
+use Rattle.model.specs.declared.Decision.{Decision}
+use Rattle.model.specs.declared.Decision.the-variants.{NoRight, NoLabel, SimpleBroken, StarBroken, AbsentSubject}
+use Rattle.model.specs.Tests.{unless}
+use Rattle.model.specs.Reading.{stateChecks}
+use Rattle.star.specs.Between.{starBetween}
+use Rattle.star.proofs.Between.{between-all}
+use Rattle.checking.specs.declared.Findings.{Findings}
+use borrow.Author.Needs.{needs}
+use Rattle.checking.proofs.state_checks.Statement.{statement}
+use Rattle.checking.proofs.state_checks.Tie as tie
+
+not-not : (b : Bool) → not (not b) ≡ b
+not-not true = refl
+not-not false = refl
+
+-- a check with its test and the answer of the later ones put in
+answers : (d : Decision) {r k v : Decision} {a b : Bool} → a ≡ b → k ≡ v → r ≡ unless a d k → r ≡ unless b d v
+answers d p q e = e ∙ ap₂ (λ (x : Bool) (y : Decision). unless x d y) p q
+
+findings-over-requires : tie.Need-findings-over-requires
+findings-over-requires c κs = search needs
+
+star-broken-requires : tie.Need-star-broken-requires
+star-broken-requires c κs = search needs
+
+check-requires : tie.Need-check-requires
+check-requires c κs = search needs
+
+check-requires-2 : tie.Need-check-requires-2
+check-requires-2 c κs = search needs
+
+check-requires-3 : tie.Need-check-requires-3
+check-requires-3 c κs = search needs
+
+check-requires-4 : tie.Need-check-requires-4
+check-requires-4 c κs = search needs
+
+check-requires-5 : tie.Need-check-requires-5
+check-requires-5 c κs = search needs
+
+returns : tie.Need-returns
+unfolding stateChecks
+returns c =
+    let found = c .before .before .before .before .before .before .findings-over .ensures in
+    let objects = c .before .before .before .before .before .before .before .before .before .args .m .objects in
+    let star = ap not (c .before .before .before .before .before .star-broken .ensures) ∙ not-not (starBetween 0 16 objects) ∙ between-all objects in
+    let nine = answers StarBroken star refl (c .before .before .before .before .check .ensures) in
+    let eight = answers SimpleBroken (ap (λ (f : Findings). f .simple) found) nine (c .before .before .before .check2 .ensures) in
+    let seven = answers NoLabel (ap (λ (f : Findings). f .labelled) found) eight (c .before .before .check3 .ensures) in
+    let six = answers NoRight (ap (λ (f : Findings). f .matrix) found) seven (c .before .check4 .ensures) in
+    answers AbsentSubject (ap (λ (f : Findings). f .enrolled) found) six (c .check5 .ensures)
+
+pub state-checks-spec : {M : Type 1} → statement M
+state-checks-spec =
+    tie.close
+    (tie.spec
+    findings-over-requires
+    star-broken-requires
+    check-requires
+    check-requires-2
+    check-requires-3
+    check-requires-4
+    check-requires-5
+    returns)

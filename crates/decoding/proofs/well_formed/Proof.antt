@@ -1,0 +1,19 @@
+-- `decoding::well_formed` meets its contract.
+-- Assumes nothing.
+use borrow.Author.Needs.{needs}
+use Rattle.model.specs.Requests.{wellFormed}
+use Rattle.decoding.proofs.well_formed.Statement.{statement}
+use Rattle.decoding.proofs.well_formed.Tie as tie
+
+mode-allowed-requires : tie.Need-mode-allowed-requires
+mode-allowed-requires c κs = tt
+
+unused-zero-requires : tie.Need-unused-zero-requires
+unused-zero-requires c κs = tt
+
+returns : tie.Need-returns
+unfolding wellFormed
+returns c = rw (c .before .before .before .before .before .before .mode-allowed .ensures, c .before .before .before .before .before .unused-zero .ensures)
+
+pub well-formed-spec : {M : Type 1} → statement M
+well-formed-spec = tie.close (tie.spec mode-allowed-requires unused-zero-requires returns)

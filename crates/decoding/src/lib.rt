@@ -1,0 +1,109 @@
+// What the six bytes of a request say.
+ghost use mathlib.Core.Path.{_≡_};
+ghost use Rattle.model.specs.Requests.{modeAllowed, unusedZero, wellFormed, modeOf, request, decodeFields, decode};
+ghost use Rattle.decoding.specs.Word.{fieldsOfWord};
+use model::Decoded;
+use model::Fields;
+use model::Level;
+use model::Mode;
+use model::Request;
+
+// The fields of 48 bits that were read as one number: kind 4 bits, actor 5, other subject 5, object 7, mode 3, class 4, needs 16, spare 4.
+fn fields_of(word: u64) -> Fields
+    ensures { λ r. ⌜ r ≡ fieldsOfWord word ⌝ }
+{
+    Fields {
+        kind: ((word >> 44) % 16) as u8,
+        actor: ((word >> 39) % 32) as u8,
+        other: ((word >> 34) % 32) as u8,
+        object: ((word >> 27) % 128) as u8,
+        mode: ((word >> 24) % 8) as u8,
+        class: ((word >> 20) % 16) as u8,
+        needs: ((word >> 4) % 65536) as u16,
+        spare: (word % 16) as u8,
+    }
+}
+
+// ---- which fields are well formed
+
+fn mode_allowed(kind: u8, mode: u8) -> bool
+    ensures { λ r. ⌜ r ≡ modeAllowed kind mode ⌝ }
+{
+    if kind <= 4 {
+        return (1 <= mode) & (mode <= 4);
+    }
+    if kind == 5 {
+        return (mode == 0) | (mode == 4);
+    }
+    mode == 0
+}
+
+// The other subject stands in kinds 3 and 4, class and needs in kind 7 only, spare in none.
+fn unused_zero(f: Fields) -> bool
+    ensures { λ r. ⌜ r ≡ unusedZero f ⌝ }
+{
+    let no_level = (f.class == 0) & (f.needs == 0);
+    ((f.kind == 3) | ((f.kind == 4) | (f.other == 0)))
+        & (((f.kind == 7) | no_level) & (f.spare == 0))
+}
+
+fn well_formed(f: Fields) -> bool
+    ensures { λ r. ⌜ r ≡ wellFormed f ⌝ }
+{
+    let allowed = mode_allowed(f.kind, f.mode);
+    let zero = unused_zero(f);
+    ((1 <= f.kind) & (f.kind <= 7))
+        & ((f.actor < 16) & ((f.other < 16) & ((f.object < 64) & (allowed & zero))))
+}
+
+// ---- the request
+
+fn mode_of(x: u8) -> Mode
+    ensures { λ r. ⌜ r ≡ modeOf x ⌝ }
+{
+    match x {
+        1 => Mode::Read,
+        2 => Mode::Write,
+        3 => Mode::Append,
+        _ => Mode::Execute,
+    }
+}
+
+fn request_of(f: Fields) -> Request
+    ensures { λ r. ⌜ r ≡ request f ⌝ }
+{
+    let kind = f.kind;
+    let x = mode_of(f.mode);
+    let l = Level {
+        class: f.class,
+        needs: f.needs,
+    };
+    match kind {
+        1 => Request::Get(f.actor, f.object, x),
+        2 => Request::Release(f.actor, f.object, x),
+        3 => Request::Give(f.actor, f.other, f.object, x),
+        4 => Request::Rescind(f.actor, f.other, f.object, x),
+        5 => Request::Create(f.actor, f.object, f.mode == 4),
+        6 => Request::Delete(f.actor, f.object),
+        _ => Request::ChangeLevel(f.actor, f.object, l),
+    }
+}
+
+pub fn decode_fields(f: Fields) -> Decoded
+    ensures { λ r. ⌜ r ≡ decodeFields f ⌝ }
+{
+    if well_formed(f) {
+        Decoded::Says(request_of(f))
+    } else {
+        Decoded::Malformed
+    }
+}
+
+pub fn decode(b: &[u8]) -> Decoded
+    ensures { λ r. ⌜ r ≡ decode (now (b .entry)) ⌝ }
+{
+    if b.len() != 6 {
+        return Decoded::Malformed;
+    }
+    decode_fields(fields_of(bits::read_word(b)))
+}

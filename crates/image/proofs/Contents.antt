@@ -1,0 +1,145 @@
+-- What the bits of a flag, a label, two sets and an object say, from the numbers in their fields.
+-- Assumes nothing.
+use mathlib.Core.Path.{_≡_, refl, sym, ap, ap₂, _∙_}
+use mathlib.Core.Bool.{Bool, true, false, cond, _&&_, _||_}
+use mathlib.Core.List.{List, [], _∷_, _++_}
+use Prim.Native.Nat.{ℕ, _+_, _*_, _/_, _%_, _^_, _<_}
+use native.Mathlib.Omega.{arith}
+use borrow.Author.Tests.{le-leb, lt-leb}
+use lib.Bits.{bitAnd, and-mask}
+use lib.Dec.{leb, eqb}
+use lib.ListN.{length, take, drop, length-drop, take-append-drop}
+use lib.Seq.{take-all, take-take, take-add, drop-drop}
+use Rattle.bits.specs.Bits.{bit, fromBits, first, allZero}
+use Rattle.bits.specs.Laws.{fromBits-take, fromBits-split, allZero-fromBits}
+use Rattle.model.specs.declared.Level.{Level}
+use Rattle.model.specs.declared.Label.the-variants.{Absent, Present}
+use Rattle.model.specs.declared.Object.{Object}
+use Rattle.model.specs.Levels.{present}
+use Rattle.model.specs.State.{noObject}
+use Rattle.model.specs.Reading.{fieldOf, labelFrom, labelForm, rightsFrom, heldFrom, objectFrom, objectForm}
+use Rattle.image.specs.declared.FlagRead.{FlagRead}
+use Rattle.image.specs.declared.LabelRead.{LabelRead}
+use Rattle.image.specs.declared.SetsRead.{SetsRead}
+use Rattle.image.specs.Records.{flagOf, labelOf, setsOf, objectOf}
+
+-- the mask of four bits
+pub low-four : (n : ℕ) → bitAnd n 15 ≡ n % 16
+low-four n = and-mask n 4
+
+pub low-four-lt : (n : ℕ) → bitAnd n 15 < 16
+low-four-lt n = rw (low-four n) (omega arith)
+
+-- ---- no bit set
+
+zero-append : (a b : List Bool) → allZero (a ++ b) ≡ (allZero a && allZero b)
+unfolding allZero
+zero-append [] b = refl
+zero-append (true ∷ a) b = refl
+zero-append (false ∷ a) b = zero-append a b
+
+pub zero-parts : (w : ℕ) (b : List Bool) → (allZero (take w b) && allZero (drop w b)) ≡ allZero b
+zero-parts w b = sym (zero-append (take w b) (drop w b)) ∙ ap allZero (take-append-drop w b)
+
+-- one byte more
+pub zero-more : (b : List Bool) (i v : ℕ) (z : Bool) → z ≡ allZero (take (8 * i) b) → v ≡ fromBits (take 8 (drop (8 * i) b)) → (z && eqb v 0) ≡ allZero (take (8 * (i + 1)) b)
+zero-more b i v z e p =
+    let w : 8 * (i + 1) ≡ 8 * i + 8 = omega arith in
+    rw (w, take-add (8 * i) 8 b, zero-append (take (8 * i) b) (take 8 (drop (8 * i) b)), allZero-fromBits (take 8 (drop (8 * i) b)), e, p)
+
+-- ---- a flag and four bits
+
+flag-is : (x : Bool) (n : ℕ) → n < 16 → leb 16 (bit x * 16 + n) ≡ x
+flag-is true n h = le-leb 16 (1 * 16 + n) (omega arith)
+flag-is false n h = lt-leb 16 (0 * 16 + n) (omega arith)
+
+pub flag-from : (b : List Bool) (v : ℕ) → length b ≡ 5 → v ≡ fromBits b
+    → record { flag = leb 16 v; number = bitAnd v 15; blank = eqb v 0 } ≡ flagOf b
+unfolding fromBits
+flag-from [] v l e = absurd (omega arith)
+flag-from (x ∷ b) v l e =
+    let n : length b ≡ 4 = omega arith in
+    let whole : take 4 b ≡ b = take-all 4 b (omega arith) in
+    let small : fromBits b < 16 = rw whole at (fromBits-take 4 b) in
+    let value : v ≡ bit x * 16 + fromBits b = e ∙ ap (λ (k : ℕ). bit x * 2 ^ k + fromBits b) n in
+    let flag-eq : leb 16 v ≡ x = ap (leb 16) value ∙ flag-is x (fromBits b) small in
+    let number-eq : bitAnd v 15 ≡ fromBits (take 4 b) = low-four v ∙ ap (λ (k : ℕ). k % 16) value ∙ omega arith ∙ ap fromBits (sym whole) in
+    let blank-eq : eqb v 0 ≡ allZero (x ∷ b) = ap (λ (k : ℕ). eqb k 0) e ∙ sym (allZero-fromBits (x ∷ b)) in
+    λ i. record { flag = flag-eq i; number = number-eq i; blank = blank-eq i }
+
+-- the flag of a longer record is in its first five bits
+module _ (b : List Bool) (r : FlagRead) (e : r ≡ flagOf (take 5 b)) where
+  flag-first : r .flag ≡ first b
+  flag-first = ap (λ (f : FlagRead). f .flag) e ∙ same b
+    where
+      same : (b : List Bool) → first (take 5 b) ≡ first b
+      same [] = refl
+      same (x ∷ b) = refl
+
+  flag-number : r .number ≡ fieldOf b 1 4
+  flag-number = ap (λ (f : FlagRead). f .number) e ∙ same b
+    where
+      same : (b : List Bool) → fieldOf (take 5 b) 1 4 ≡ fieldOf b 1 4
+      same [] = refl
+      same (x ∷ b) = ap fromBits (take-take 4 4 b (omega arith))
+
+-- ---- a label
+
+module _ (b : List Bool) (l : length b ≡ 21) (r : FlagRead) (e : r ≡ flagOf (take 5 b)) (n : ℕ) (p : n ≡ fieldOf b 5 16) where
+  label-blank : (r .blank && eqb n 0) ≡ allZero b
+  label-blank =
+      let rest : take 16 (drop 5 b) ≡ drop 5 b = take-all 16 (drop 5 b) (rw (length-drop 5 b) (omega arith)) in
+      let head : r .blank ≡ allZero (take 5 b) = ap (λ (f : FlagRead). f .blank) e in
+      ap₂ (λ (x y : Bool). x && y) head (ap (λ (k : ℕ). eqb k 0) p ∙ sym (allZero-fromBits (take 16 (drop 5 b))) ∙ ap allZero rest) ∙ zero-parts 5 b
+
+  pub label-present : r .flag ≡ true → record { label = Present (record { class = r .number; needs = n }); blank = r .blank && eqb n 0 } ≡ labelOf b
+  unfolding labelFrom
+  label-present h =
+      let c = flag-number b r e in
+      let z = label-blank in
+      rw (sym (flag-first b r e) ∙ h) (λ i. record { label = Present (record { class = c i; needs = p i }); blank = z i })
+
+  pub label-absent : r .flag ≡ false → record { label = Absent; blank = r .blank && eqb n 0 } ≡ labelOf b
+  unfolding labelFrom
+  label-absent h = let z = label-blank in rw (sym (flag-first b r e) ∙ h) (λ i. record { label = Absent; blank = z i })
+
+-- the form of a label's record, from what was read of it
+pub label-formed : (b : List Bool) (r : LabelRead) → r ≡ labelOf b → (present (r .label) || r .blank) ≡ labelForm b
+unfolding labelFrom labelForm
+label-formed b r e = ap (λ (k : LabelRead). present (k .label) || k .blank) e ∙ ap (λ (x : Bool). x || allZero b) (same (first b) _)
+  where
+    same : (x : Bool) (v : Level) → present (cond x (Present v) Absent) ≡ x
+    same true v = refl
+    same false v = refl
+
+-- ---- two sets
+
+pub halves : (b : List Bool) → length b ≡ 8 → (fromBits b / 16 ≡ rightsFrom b) × (fromBits b % 16 ≡ heldFrom b)
+halves b l = (
+  omega (arith, fromBits-split 4 4 b l, fromBits-take 4 (drop 4 b)),
+  omega (arith, fromBits-split 4 4 b l, fromBits-take 4 (drop 4 b)),
+)
+
+-- ---- an object
+
+module _ (b : List Bool) (f : FlagRead) (pf : f ≡ flagOf (take 5 b)) (a : LabelRead) (pa : a ≡ labelOf (take 21 (drop 5 b)))
+    (u : SetsRead) (pu : u ≡ setsOf (drop 26 b)) where
+  pub object-off : (ob : Object) → ob ≡ noObject → f .flag ≡ false → record { object = ob; formed = f .blank && (a .blank && u .blank) } ≡ objectOf b
+  unfolding objectFrom objectForm
+  object-off ob e h =
+      let d : drop 21 (drop 5 b) ≡ drop 26 b = drop-drop 21 5 b in
+      let blank : (f .blank && (a .blank && u .blank)) ≡ allZero b =
+      ap (λ (x : FlagRead). x .blank && (a .blank && u .blank)) pf
+      ∙ ap₂ (λ (x : LabelRead) (y : SetsRead). allZero (take 5 b) && (x .blank && y .blank)) pa pu
+      ∙ ap (λ (x : List Bool). allZero (take 5 b) && (allZero (take 21 (drop 5 b)) && allZero x)) (sym d)
+      ∙ ap (λ (x : Bool). allZero (take 5 b) && x) (zero-parts 21 (drop 5 b)) ∙ zero-parts 5 b in
+      rw (sym (flag-first b f pf) ∙ h) (λ i. record { object = e i; formed = blank i })
+
+  pub object-on : (v : Bool) → v ≡ present (a .label) → f .flag ≡ true
+      → record { object = record { live = true; owner = f .number; label = a .label; rights = u .rights; held = u .held }; formed = v || a .blank } ≡ objectOf b
+  unfolding objectFrom objectForm
+  object-on v e h =
+      let c = flag-number b f pf in
+      let formed-eq = ap (λ (x : Bool). x || a .blank) e ∙ label-formed (take 21 (drop 5 b)) a pa in
+      rw (sym (flag-first b f pf) ∙ h)
+      (λ i. record { object = record { live = true; owner = c i; label = pa i .label; rights = pu i .rights; held = pu i .held }; formed = formed-eq i })

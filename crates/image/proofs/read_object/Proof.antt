@@ -1,0 +1,76 @@
+-- The five bits, the label and the sets give the object, live or not, and whether its record has its form.
+-- Assumes nothing.
+use mathlib.Core.Path.{_≡_, refl, ap, _∙_}
+use mathlib.Core.List.{List}
+use Prim.Native.Nat.{ℕ, _+_, _*_, _≤_}
+use native.Mathlib.Omega.{arith}
+use lib.ListN.{length, take, drop}
+use Rattle.image.specs.Records.{bitsAt, flagOf, labelOf, setsOf}
+use Rattle.image.proofs.Places.{part-at, last-at}
+use Rattle.image.proofs.Contents.{object-off, object-on}
+use Rattle.model.proofs.Tests.{not-on, not-off}
+use borrow.Author.Needs.{needs}
+use Rattle.image.proofs.read_object.Statement.{statement}
+use Rattle.image.proofs.read_object.Tie as tie
+
+-- where the three parts stand in the record
+parts : (s : List ℕ) (at : ℕ) → at + 154 ≤ 8 * length s
+    → (bitsAt s at 5 ≡ take 5 (bitsAt s at 154)) × (bitsAt s (at + 5) 21 ≡ take 21 (drop 5 (bitsAt s at 154))) × (bitsAt s (at + 26) 128 ≡ drop 26 (bitsAt s at 154))
+parts s at h = (
+  part-at s at 154 0 5 at (omega arith) (omega arith),
+  part-at s at 154 5 21 (at + 5) refl (omega arith),
+  last-at s at 26 128 (at + 26) refl h,
+)
+
+read-flag-requires : tie.Need-read-flag-requires
+read-flag-requires c κs = search needs
+
+add-read-label : tie.Need-add-read-label
+add-read-label c = search needs
+
+read-label-requires : tie.Need-read-label-requires
+read-label-requires c κs = search needs
+
+add-read-sets : tie.Need-add-read-sets
+add-read-sets c = search needs
+
+read-sets-requires : tie.Need-read-sets-requires
+read-sets-requires c κs = search needs
+
+no-object-requires : tie.Need-no-object-requires
+no-object-requires c κs = search needs
+
+returns : tie.Need-returns
+returns c =
+    let read = c .before .before .before .before .before .before in
+    let a = read .before .before .before .before .args in
+    let P = parts (a .bytes .now) (a .at) (omega arith) in
+    object-off (bitsAt (a .bytes .now) (a .at) 154) (read .before .before .read-flag .result) (read .before .before .read-flag .ensures ∙ ap flagOf (P .0))
+    (read .before .read-label .result) (read .before .read-label .ensures ∙ ap labelOf (P .1)) (read .read-sets .result) (read .read-sets .ensures ∙ ap setsOf (P .2))
+    (c .before .before .before .no-object .result) (c .before .before .before .no-object .ensures) (not-on _ (c .before .before .before .before .if1 .taken))
+
+is-present-requires : tie.Need-is-present-requires
+is-present-requires c κs = search needs
+
+returns-2 : tie.Need-returns-2
+returns-2 c =
+    let read = c .before .before .before .before .before .before in
+    let a = read .before .before .before .before .args in
+    let P = parts (a .bytes .now) (a .at) (omega arith) in
+    object-on (bitsAt (a .bytes .now) (a .at) 154) (read .before .before .read-flag .result) (read .before .before .read-flag .ensures ∙ ap flagOf (P .0))
+    (read .before .read-label .result) (read .before .read-label .ensures ∙ ap labelOf (P .1)) (read .read-sets .result) (read .read-sets .ensures ∙ ap setsOf (P .2))
+    (c .before .is-present .result) (c .before .is-present .ensures) (not-off _ (c .before .before .before .before .if1 .left))
+
+pub read-object-spec : {M : Type 1} → statement M
+read-object-spec =
+    tie.close
+    (tie.spec
+    read-flag-requires
+    add-read-label
+    read-label-requires
+    add-read-sets
+    read-sets-requires
+    no-object-requires
+    returns
+    is-present-requires
+    returns-2)

@@ -1,0 +1,2 @@
+-- What the readers of records return.
+pub mod Records

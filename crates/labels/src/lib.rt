@@ -1,0 +1,191 @@
+// Labels, sets of modes and answers. Each function computes the definition that its contract names, for every argument.
+ghost use mathlib.Core.Path.{_≡_};
+ghost use mathlib.Core.Bool.{_&&_};
+ghost use Rattle.model.specs.Tests.{implies, unless};
+ghost use Rattle.model.specs.Levels.{subset, levelDominates, dominates, present, sameLabel};
+ghost use Rattle.model.specs.Modes.{weight, has, add, remove, observes, needsLabel, anyObserves, anyAlters, anyNeedsLabel};
+ghost use Rattle.model.specs.Decisions.{number, refuses};
+use model::Decision;
+use model::Label;
+use model::Level;
+use model::Mode;
+
+// ---- tests
+
+pub fn both(a: bool, b: bool) -> bool
+    ensures { λ r. ⌜ r ≡ (a && b) ⌝ }
+{
+    a & b
+}
+
+pub fn implies(a: bool, b: bool) -> bool
+    ensures { λ r. ⌜ r ≡ implies a b ⌝ }
+{
+    !a | b
+}
+
+// A check that fails gives its answer; where it passes, what the later checks gave stands.
+pub fn check(passes: bool, d: Decision, later: Decision) -> Decision
+    ensures { λ r. ⌜ r ≡ unless passes d later ⌝ }
+{
+    if passes { later } else { d }
+}
+
+// ---- labels
+
+// Every need of b is in a.
+fn includes(a: u16, b: u16) -> bool
+    ensures { λ r. ⌜ r ≡ subset 16 b a ⌝ }
+{
+    b & a == b
+}
+
+fn level_dominates(a: Level, b: Level) -> bool
+    ensures { λ r. ⌜ r ≡ levelDominates a b ⌝ }
+{
+    (b.class <= a.class) & includes(a.needs, b.needs)
+}
+
+pub fn dominates(a: Label, b: Label) -> bool
+    ensures { λ r. ⌜ r ≡ dominates a b ⌝ }
+{
+    match a {
+        Label::Absent => false,
+        Label::Present(x) => match b {
+            Label::Absent => false,
+            Label::Present(y) => level_dominates(x, y),
+        },
+    }
+}
+
+pub fn is_present(l: Label) -> bool
+    ensures { λ r. ⌜ r ≡ present l ⌝ }
+{
+    match l {
+        Label::Absent => false, // not class 0 without needs
+        Label::Present(_) => true,
+    }
+}
+
+// The label is there and is the level v.
+pub fn is_level(l: Label, v: Level) -> bool
+    ensures { λ r. ⌜ r ≡ sameLabel l (Label.Present v) ⌝ }
+{
+    match l {
+        Label::Absent => false,
+        Label::Present(x) => (x.class == v.class) & (x.needs == v.needs),
+    }
+}
+
+// ---- modes
+
+fn weight(x: Mode) -> u8
+    ensures { λ r. ⌜ r ≡ weight x ⌝ }
+{
+    match x {
+        Mode::Read => 8,
+        Mode::Write => 4,
+        Mode::Append => 2,
+        Mode::Execute => 1,
+    }
+}
+
+pub fn observes(x: Mode) -> bool
+    ensures { λ r. ⌜ r ≡ observes x ⌝ }
+{
+    match x {
+        Mode::Read => true,
+        Mode::Write => true,
+        Mode::Append => false,
+        Mode::Execute => false,
+    }
+}
+
+pub fn needs_label(x: Mode) -> bool
+    ensures { λ r. ⌜ r ≡ needsLabel x ⌝ }
+{
+    match x {
+        Mode::Read => true,
+        Mode::Write => true,
+        Mode::Append => true,
+        Mode::Execute => false,
+    }
+}
+
+// ---- sets of modes, one bit for each mode; also of numbers above 15, which are no sets of four modes
+
+pub fn has(x: Mode, n: u8) -> bool
+    ensures { λ r. ⌜ r ≡ has x n ⌝ }
+{
+    n & weight(x) != 0
+}
+
+pub fn add(x: Mode, n: u8) -> u8
+    ensures { λ r. ⌜ r ≡ add x n ⌝ }
+{
+    n | weight(x)
+}
+
+pub fn remove(x: Mode, n: u8) -> u8
+    ensures { λ r. ⌜ r ≡ remove x n ⌝ }
+{
+    n - (n & weight(x))
+}
+
+// r or w
+pub fn any_observes(n: u8) -> bool
+    ensures { λ r. ⌜ r ≡ anyObserves n ⌝ }
+{
+    n & 12 != 0
+}
+
+// a or w
+pub fn any_alters(n: u8) -> bool
+    ensures { λ r. ⌜ r ≡ anyAlters n ⌝ }
+{
+    n & 6 != 0
+}
+
+// r, w or a
+pub fn any_needs_label(n: u8) -> bool
+    ensures { λ r. ⌜ r ≡ anyNeedsLabel n ⌝ }
+{
+    n & 14 != 0
+}
+
+// Each of the four modes that is in h is in r.
+pub fn within(h: u8, r: u8) -> bool
+    ensures { λ t. ⌜ t ≡ subset 4 h r ⌝ }
+{
+    let x = h % 16;
+    x & r == x
+}
+
+// ---- answers
+
+pub fn number(d: Decision) -> u8
+    ensures { λ r. ⌜ r ≡ number d ⌝ }
+{
+    match d {
+        Decision::Granted => 0,
+        Decision::Already => 1,
+        Decision::MalformedRequest => 2,
+        Decision::NotEnrolled => 3,
+        Decision::NotLive => 4,
+        Decision::AlreadyLive => 5,
+        Decision::NoRight => 6,
+        Decision::NoLabel => 7,
+        Decision::SimpleBroken => 8,
+        Decision::StarBroken => 9,
+        Decision::WrongLength => 10,
+        Decision::StrayBits => 11,
+        Decision::AbsentSubject => 12,
+        Decision::ShortBuffer => 13,
+    }
+}
+
+pub fn refuses(d: Decision) -> bool
+    ensures { λ r. ⌜ r ≡ refuses d ⌝ }
+{
+    2 <= number(d)
+}

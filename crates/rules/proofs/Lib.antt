@@ -1,0 +1,3 @@
+-- A step by the values that the code computes.
+pub mod Late
+pub mod Answered

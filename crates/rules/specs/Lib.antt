@@ -1,0 +1,2 @@
+-- Which checks are over the whole state.
+pub mod Late

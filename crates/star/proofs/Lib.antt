@@ -1,0 +1,3 @@
+-- The star property by lists of objects, and over some of the subjects.
+pub mod Listed
+pub mod Between

@@ -1,0 +1,13 @@
+-- The star property of the subjects from one on to below another: of one subject in get, of all in change of level and in an image.
+-- Assumes nothing.
+use Prim.Native.Nat.{ℕ}
+use mathlib.Core.Bool.{Bool, _&&_}
+use mathlib.Core.List.{List}
+use lib.Dec.{leb, ltb}
+use Rattle.model.specs.declared.Object.{Object}
+use Rattle.model.specs.Tests.{allBelow, implies}
+use Rattle.model.specs.State.{subjectCount}
+use Rattle.model.specs.Rules.{starFor}
+
+unfoldable pub starBetween : ℕ → ℕ → List Object → Bool
+starBetween low high l = allBelow subjectCount (λ (s : ℕ). implies (leb low s && ltb s high) (starFor s l))

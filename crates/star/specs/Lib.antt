@@ -1,0 +1,2 @@
+-- The star property over some of the subjects.
+pub mod Between

@@ -1,0 +1,3 @@
+-- Laws that the proofs of more than one function use.
+pub mod Words
+pub mod Streams

@@ -1,0 +1,56 @@
+-- What is appended: one field, the sets of one subject more, one record more, all records.
+-- Assumes nothing.
+use mathlib.Core.Path.{_≡_, refl, sym, ap, _∙_}
+use mathlib.Core.Bool.{Bool}
+use mathlib.Core.List.{List, [], _∷_, _++_, append-assoc, append-nil, map}
+use Prim.Native.Nat.{ℕ, zero, suc, _+_, _*_, _≤_, _<_}
+use native.Mathlib.Nat.{not-suc-le-zero, le-of-suc-le-suc}
+use native.Mathlib.Numerals.{add-one}
+use native.Mathlib.Omega.{arith}
+use lib.ListN.{length, take, getD}
+use lib.Seq.{take-all}
+use Rattle.bits.specs.Bits.{toBits, join, waiting, stored}
+use Rattle.bits.specs.Stream.{Appends, appends}
+use Rattle.model.specs.Layout.{setsBits}
+
+-- what the function of bits that appends a field ensures, as a law of the stream
+pub appended : (s t : List ℕ) (at acc w x rest : ℕ) → w ≤ 8 → at + w ≤ 8 * length s → (rest ≡ waiting acc w x) × (t ≡ stored s at acc w x)
+    → Appends s at acc (toBits w x) t (at + w) rest
+appended s t at acc w x rest hw h e = rw (e .0, e .1) (appends s at acc w x hw h)
+
+-- one subject more
+sets-suc : (i : ℕ) (r h : List ℕ) → i < length r → i < length h
+    → setsBits (take i r) (take i h) ++ (toBits 4 (getD r i 0) ++ toBits 4 (getD h i 0)) ≡ setsBits (take (suc i) r) (take (suc i) h)
+unfolding setsBits
+sets-suc i [] h p q = absurd (not-suc-le-zero p)
+sets-suc i (x ∷ r) [] p q = absurd (not-suc-le-zero q)
+sets-suc zero (x ∷ r) (y ∷ h) p q = sym (append-nil (toBits 4 x ++ toBits 4 y))
+sets-suc (suc i) (x ∷ r) (y ∷ h) p q = rw (← sets-suc i r h (le-of-suc-le-suc p) (le-of-suc-le-suc q)) (simp append-assoc)
+
+pub sets-more : (i : ℕ) (r h : List ℕ) → i < length r → i < length h
+    → setsBits (take i r) (take i h) ++ (toBits 4 (getD r i 0) ++ toBits 4 (getD h i 0)) ≡ setsBits (take (i + 1) r) (take (i + 1) h)
+sets-more i r h p q = rw (add-one i) (sets-suc i r h p q)
+
+pub no-sets : [] ≡ setsBits [] []
+unfolding setsBits
+no-sets = refl
+
+-- one record more
+join-suc : {A : Type 0} (f : A → List Bool) (i : ℕ) (xs : List A) (d : A) → i < length xs
+    → join (map f (take i xs)) ++ f (getD xs i d) ≡ join (map f (take (suc i) xs))
+unfolding join
+join-suc f i [] d h = absurd (not-suc-le-zero h)
+join-suc f zero (x ∷ xs) d h = sym (append-nil (f x))
+join-suc f (suc i) (x ∷ xs) d h = append-assoc (f x) (join (map f (take i xs))) (f (getD xs i d)) ∙ rw (join-suc f i xs d (le-of-suc-le-suc h))
+
+pub join-more : {A : Type 0} (f : A → List Bool) (i : ℕ) (xs : List A) (d : A) → i < length xs
+    → join (map f (take i xs)) ++ f (getD xs i d) ≡ join (map f (take (i + 1) xs))
+join-more f i xs d h = rw (add-one i) (join-suc f i xs d h)
+
+-- all records
+pub join-all : {A : Type 0} (f : A → List Bool) (i n : ℕ) (xs : List A) → i ≡ n → length xs ≡ n → join (map f (take i xs)) ≡ join (map f xs)
+join-all f i n xs e l = ap (λ (k : ℕ). join (map f (take k xs))) e ∙ ap (λ (ys : List _). join (map f ys)) (take-all n xs (omega arith))
+
+pub no-records : [] ≡ join {A = Bool} []
+unfolding join
+no-records = refl

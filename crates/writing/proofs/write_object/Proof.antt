@@ -1,0 +1,70 @@
+-- Five bits, the label and the sets, one behind the other, are the object's record.
+-- Assumes nothing.
+use mathlib.Core.Path.{ap, _∙_}
+use mathlib.Core.Bool.{Bool}
+use mathlib.Core.List.{List, _∷_, _++_, append-assoc}
+use native.Mathlib.Omega.{arith}
+use lib.Dec.{lit≤}
+use Rattle.bits.specs.Bits.{toBits}
+use Rattle.bits.specs.Stream.{next, ends}
+use Rattle.model.specs.Layout.{labelBits, setsBits, objectBits}
+use Rattle.writing.proofs.Words.{flag-bits}
+use Rattle.writing.proofs.Streams.{appended}
+use borrow.Author.Needs.{needs}
+use Rattle.writing.proofs.write_object.Statement.{statement}
+use Rattle.writing.proofs.write_object.Tie as tie
+
+cast-side-by-side : tie.Need-cast-side-by-side
+cast-side-by-side c = search needs
+
+side-by-side-requires : tie.Need-side-by-side-requires
+side-by-side-requires c κs = search needs
+
+append-requires : tie.Need-append-requires
+append-requires c κs = search needs
+
+add-write-label : tie.Need-add-write-label
+add-write-label c = search needs
+
+write-label-requires : tie.Need-write-label-requires
+write-label-requires c κs = search needs
+
+add-write-sets : tie.Need-add-write-sets
+add-write-sets c = search needs
+
+write-sets-requires : tie.Need-write-sets-requires
+write-sets-requires c κs = search needs
+
+same-length : tie.Need-same-length
+same-length c = search needs
+
+returns : tie.Need-returns
+unfolding objectBits
+returns c =
+    let third = c .before .before in
+    let second = third .before .before .before .before in
+    let first = second .before .before .before .before in
+    let word = first .before in
+    let a = word .before .before .before .before .before .args in
+    let ob = a .object in
+    let head = word .side-by-side in
+    let A = appended (a .out .now) (first .append .last .0) (a .at) (a .acc) 5 (head .result) (first .append .result) (lit≤ tt) (omega arith) (first .append .ensures) in
+    let record-bits =
+    ap (λ (l : List Bool). (l ++ labelBits (ob .label)) ++ setsBits (ob .rights) (ob .held)) (ap (toBits 5) (head .ensures) ∙ flag-bits (ob .live) (ob .owner))
+    ∙ append-assoc (ob .live ∷ toBits 4 (ob .owner)) (labelBits (ob .label)) (setsBits (ob .rights) (ob .held)) in
+    ends _ _ record-bits (omega arith)
+    (next _ _ (omega arith) (next _ _ (omega arith) A (second .write-label .ensures)) (third .write-sets .ensures))
+
+pub write-object-spec : {M : Type 1} → statement M
+write-object-spec =
+    tie.close
+    (tie.spec
+    cast-side-by-side
+    side-by-side-requires
+    append-requires
+    add-write-label
+    write-label-requires
+    add-write-sets
+    write-sets-requires
+    same-length
+    returns)

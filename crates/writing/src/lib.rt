@@ -1,0 +1,117 @@
+// The image writer: records of 21 and of 154 bits, one behind the other across byte borders.
+// The bits of a byte that is not full yet wait in a register, which each function is given and hands back.
+ghost use mathlib.Core.Path.{_≡_};
+ghost use Prim.Native.Nat.{_+_, _*_, _%_, _≤_, _<_};
+ghost use lib.ListN.{length};
+ghost use Rattle.bits.specs.Bits.{toBits};
+ghost use Rattle.bits.specs.Stream.{Appends};
+ghost use Rattle.model.specs.Layout.{imageSize, labelBits, setsBits, objectBits, tableBits, objectsBits};
+ghost use Rattle.model.specs.Writing.{writing, written};
+use model::Decision;
+use model::Label;
+use model::Monitor;
+use model::Object;
+use model::Subject;
+
+// The four low bits of one number and those of another behind them: the two sets of a subject, live and owner, present and class.
+fn side_by_side(high: u8, low: u8) -> u32
+    ensures { λ r. ⌜ r ≡ high % 16 * 16 + low % 16 ⌝ }
+{
+    (((high & 15) as u32) << 4) | ((low & 15) as u32)
+}
+
+// The 21 bits of a label, or of none, as one number.
+fn label_word(label: Label) -> u32
+    ensures { λ r. ⌜ toBits 21 r ≡ labelBits label ⌝ }
+{
+    match label {
+        Label::Absent => 0,
+        Label::Present(level) => {
+            let class = level.class;
+            let needs = level.needs;
+            (side_by_side(1, class) << 16) | (needs as u32)
+        }
+    }
+}
+
+fn write_label(out: &mut [u8], at: usize, acc: u32, label: Label) -> u32
+    requires { ⌜ (at + 21 ≤ 8 * imageSize) × (imageSize ≤ length (now out)) ⌝ }
+    ensures { λ r. ⌜ Appends (now (out .entry)) at acc (labelBits label) (now (out .exit)) (at + 21) r ⌝ }
+{
+    let word = label_word(label);
+    let first = bits::append(out, at, acc, 5, word >> 16);
+    let second = bits::append(out, at + 5, first, 8, word >> 8);
+    bits::append(out, at + 13, second, 8, word)
+}
+
+fn write_sets(out: &mut [u8], at: usize, acc: u32, rights: [u8; 16], held: [u8; 16]) -> u32
+    requires { ⌜ (at + 128 ≤ 8 * imageSize) × (imageSize ≤ length (now out)) × (acc < 256) ⌝ }
+    ensures { λ r. ⌜ Appends (now (out .entry)) at acc (setsBits rights held) (now (out .exit)) (at + 128) r ⌝ }
+{
+    let mut waiting = acc;
+    let mut s: usize = 0;
+    while s < 16 {
+        let x = side_by_side(rights[s], held[s]);
+        waiting = bits::append(out, at + 8 * s, waiting, 8, x);
+        s += 1;
+    }
+    waiting
+}
+
+fn write_object(out: &mut [u8], at: usize, acc: u32, object: Object) -> u32
+    requires { ⌜ (at + 154 ≤ 8 * imageSize) × (imageSize ≤ length (now out)) ⌝ }
+    ensures { λ r. ⌜ Appends (now (out .entry)) at acc (objectBits object) (now (out .exit)) (at + 154) r ⌝ }
+{
+    let live = object.live;
+    let owner = object.owner;
+    let label = object.label;
+    let rights = object.rights;
+    let held = object.held;
+    let head = bits::append(out, at, acc, 5, side_by_side(live as u8, owner));
+    let labelled = write_label(out, at + 5, head, label);
+    write_sets(out, at + 26, labelled, rights, held)
+}
+
+// The table at the start of the image.
+fn write_subjects(out: &mut [u8], subjects: [Subject; 16]) -> u32
+    requires { ⌜ imageSize ≤ length (now out) ⌝ }
+    ensures { λ r. ⌜ Appends (now (out .entry)) 0 0 (tableBits subjects) (now (out .exit)) 336 r ⌝ }
+{
+    let mut waiting: u32 = 0;
+    let mut s: usize = 0;
+    while s < Monitor::SUBJECTS {
+        let subject = subjects[s];
+        let clearance = subject.clearance;
+        waiting = write_label(out, 21 * s, waiting, clearance);
+        s += 1;
+    }
+    waiting
+}
+
+// The object records, behind the table.
+fn write_objects(out: &mut [u8], acc: u32, objects: [Object; 64]) -> u32
+    requires { ⌜ (imageSize ≤ length (now out)) × (acc < 256) ⌝ }
+    ensures { λ r. ⌜ Appends (now (out .entry)) 336 acc (objectsBits objects) (now (out .exit)) (8 * imageSize) r ⌝ }
+{
+    let mut waiting = acc;
+    let mut o: usize = 0;
+    while o < Monitor::OBJECTS {
+        waiting = write_object(out, 336 + 154 * o, waiting, objects[o]);
+        o += 1;
+    }
+    waiting
+}
+
+// The image into the first 1,274 bytes of out; a shorter buffer is left as it is.
+pub fn write_image(m: Monitor, out: &mut [u8]) -> Decision
+    ensures { λ r. ⌜ (r ≡ writing (now (out .entry))) × (now (out .exit) ≡ written m (now (out .entry))) ⌝ }
+{
+    if out.len() < Monitor::IMAGE_BYTES {
+        return Decision::ShortBuffer;
+    }
+    let subjects = m.subjects;
+    let objects = m.objects;
+    let waiting = write_subjects(out, subjects);
+    write_objects(out, waiting, objects);
+    Decision::Granted
+}

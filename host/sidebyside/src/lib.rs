@@ -1,0 +1,50 @@
+//! What the tests share: both monitors on one run.
+
+use circmon::Unit;
+use load::{Random, Shape};
+use reference::{Monitor, IMAGE_BYTES};
+
+/// The image of a state of the second implementation.
+pub fn image(monitor: &Monitor) -> Vec<u8> {
+    let mut image = vec![0; IMAGE_BYTES];
+    assert_eq!(monitor.write_image(&mut image), 0);
+    image
+}
+
+/// Shapes of runs: few objects and many conflicts, many objects, few levels, many levels.
+pub const SHAPES: [Shape; 5] = [
+    Shape { objects: 2, classes: 3, needs: 2, damaged: 9 },
+    Shape { objects: 5, classes: 2, needs: 3, damaged: 20 },
+    Shape { objects: 16, classes: 4, needs: 2, damaged: 30 },
+    Shape { objects: 64, classes: 3, needs: 1, damaged: 50 },
+    Shape { objects: 64, classes: 16, needs: 16, damaged: 40 },
+];
+
+/// How often each reply was given.
+#[derive(Default, Debug)]
+pub struct Count(pub [usize; 16]);
+
+/// Runs both on one load, comparing every reply, and the image at every `every` requests and at the end.
+pub fn compare_run(seed: u64, shape: Shape, requests: usize, every: usize, count: &mut Count) {
+    let random = &mut Random::new(seed);
+    let table = load::table(random, shape);
+    let mut monitor = Monitor::from_table(&table).expect("a table that was written");
+    let mut unit = Unit::from_table(&table).unwrap_or_else(|n| panic!("seed {seed}: table refused with {n}"));
+    for at in 0..requests {
+        let bytes = load::bytes(random, shape, &monitor);
+        let reply = monitor.request(&bytes);
+        assert_eq!(unit.request(&bytes), reply, "seed {seed}, request {at}: {bytes:02x?}");
+        count.0[usize::from(reply)] += 1;
+        if at % every == 0 || at + 1 == requests {
+            assert_eq!(unit.image()[..], image(&monitor)[..], "seed {seed}: images after request {at}");
+        }
+    }
+    round_trip(seed, &monitor, &unit);
+}
+
+/// The image of a run is read by both and written back byte for byte.
+pub fn round_trip(seed: u64, monitor: &Monitor, unit: &Unit) {
+    let bytes = image(monitor);
+    assert_eq!(Monitor::from_image(&bytes).as_ref(), Ok(monitor), "seed {seed}: read back by the second implementation");
+    assert_eq!(Unit::from_image(&bytes).as_ref(), Ok(unit), "seed {seed}: read back by the proved monitor");
+}
