@@ -4,8 +4,9 @@ mod scope;
 ghost use mathlib.Core.Path.{_≡_};
 ghost use mathlib.Core.Bool.{cond};
 ghost use Rattle.model.specs.Runs.{respond};
-use crate::scope::scope_of;
-use crate::scope::simple_where;
+pub use scope::scope_of;
+pub use scope::simple_where;
+pub use scope::Scope;
 use decoding::decode;
 use labels::check;
 use labels::refuses;
@@ -19,7 +20,7 @@ use request_checks::early;
 use request_checks::parts_of;
 use star::star_broken;
 
-fn granted(was: bool) -> Decision
+pub fn granted(was: bool) -> Decision
     ensures { λ r. ⌜ r ≡ cond was Decision.Already Decision.Granted ⌝ }
 {
     if was {

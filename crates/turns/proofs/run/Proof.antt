@@ -1,0 +1,264 @@
+-- `turns::run` meets its contract: the monitor in the local is the state so far, and the buffer begins with the replies so far.
+-- Assumes nothing.
+use mathlib.Core.Path.{_≡_, refl, sym, ap, _∙_, subst}
+use Prim.Native.Nat.{_-_, min}
+use Prim.Native.Nat.{_*_, _≤_}
+use mathlib.Core.Logic.{⊎-elim}
+use mathlib.Core.List.{[]}
+use lib.ListN.{length, getD, take, drop, set, length-set}
+use Rattle.model.specs.declared.Monitor.{Monitor}
+use Rattle.model.specs.Runs.{carryOut}
+use borrow.Author.Needs.{needs}
+use native.Mathlib.Omega.{arith}
+use Rattle.model.specs.Requests.{decode}
+use Rattle.model.specs.Program.{pieces}
+use Rattle.model.specs.State.{noObject, object, withObject}
+use Rattle.model.proofs.Tests.{any-default, mapped-length}
+use Rattle.star.proofs.Listed.{blank}
+use Rattle.rules.proofs.Answered.{Numbers}
+use Rattle.turns.proofs.Turn.{SaidInRange, decoded-in-range, said-numbers, Turned, turned-by, settled}
+use Rattle.turns.proofs.Runs.{Looping, start, further, ended, piece-at, length-pieces}
+use Rattle.turns.proofs.run.Statement.{statement}
+use Rattle.turns.proofs.run.Tie as tie
+use Rattle.turns.proofs.run.Reads as reads
+use Rattle.turns.proofs.run.Lts as lts
+use Rattle.decoding.proofs.decode.Reads as decode-reads
+use Rattle.labels.proofs.number.Reads as number-reads
+use Rattle.turns.proofs.piece_count.Reads as piece-count-reads
+use Rattle.turns.proofs.smaller.Reads as smaller-reads
+use Rattle.turns.proofs.verdict.decide.Reads as decide-reads
+use Rattle.turns.proofs.verdict.kept_record.Reads as kept-record-reads
+use Rattle.turns.proofs.verdict.last_answer.Reads as last-answer-reads
+use Rattle.turns.proofs.verdict.parts_said.Reads as parts-said-reads
+use Rattle.turns.proofs.verdict.state_checks.Reads as state-checks-reads
+
+abbrev Inv-loop : tie.InvT-loop
+Inv-loop requests out₀ n₀ count i₀ out n i = Looping requests out₀ n₀ count out n i
+
+abbrev μ-loop : tie.MeasureT-loop
+μ-loop requests out₀ n₀ count i₀ out n i = count - i
+
+-- a piece, by its place
+piece : (c : tie.After-decode Inv-loop μ-loop) → c .decode .result ≡ decode (getD (pieces (c .before .before .before .before .before .before .before .before .before .args .requests .now)) (c .before .before .before .before .loop .i) [])
+piece c =
+    let requests = c .before .before .before .before .before .before .before .before .before .args .requests .now in
+    let i = c .before .before .before .before .loop .i in
+    c .decode .ensures
+    ∙ ap decode
+    (ap (λ k. take (k - i * 6) (drop (i * 6) requests)) (c .before .before .smaller2 .ensures)
+    ∙ sym (piece-at requests i (omega (arith, c .before .before .before .loop-test .taken, c .before .before .before .before .loop .inv .counted))))
+
+-- what it says is in range
+said : (c : tie.After-decode Inv-loop μ-loop) → SaidInRange (c .decode .result)
+said c = subst SaidInRange (sym (c .decode .ensures)) (decoded-in-range _)
+
+-- the numbers that a piece names are in range
+named : (c : tie.After-parts-said Inv-loop μ-loop) → Numbers (c .parts-said .result)
+named c =
+    subst Numbers (sym (c .parts-said .ensures)) (said-numbers (c .before .decode .result) (said (c .before)))
+
+-- the record that the code reads is that of the piece's object
+read-object : (c : tie.After-parts-said Inv-loop μ-loop)
+    → getD (c .before .before .before .before .before .loop .n .objects) (c .parts-said .result .object) blank ≡ object (c .before .before .before .before .before .loop .n) (c .parts-said .result .object)
+read-object c =
+    any-default (c .before .before .before .before .before .loop .n .objects) (c .parts-said .result .object) blank noObject
+    (omega (arith, named c .object, c .before .before .before .before .before .loop .inv .objects-length))
+
+turn : (c : tie.After-decide Inv-loop μ-loop)
+    → Turned (c .before .before .before .before .before .before .before .before .decode .result) (c .before .before .before .before .before .before .before .before .before .before .before .before .loop .n) (c .before .before .before .before .before .before .before .parts-said .result)
+    (getD (c .before .before .before .before .before .before .before .before .before .before .before .before .loop .n .objects) (c .before .before .before .before .before .before .before .parts-said .result .object) blank) (c .decide .result)
+turn c = turned-by _ _ _ _ _ (said (c .before .before .before .before .before .before .before .before)) (c .before .before .before .before .before .before .before .parts-said .ensures) (read-object (c .before .before .before .before .before .before .before)) (c .decide .ensures)
+
+-- a turn answers its piece, with more to ask of the whole state or without
+answered : (c : tie.Joined1 Inv-loop μ-loop)
+    → record { decision = c .if1 .d; monitor = c .if1 .n } ≡ carryOut (c .before .before .before .before .before .before .before .before .before .before .before .decode .result) (c .before .before .before .before .before .before .before .before .before .before .before .before .before .before .before .loop .n)
+answered c =
+    let n = c .before .before .before .before .before .before .before .before .before .before .before .before .before .before .before .loop .n in
+    let o = c .before .before .before .before .before .before .before .before .before .before .parts-said .result .object in
+    let new = c .before .before .before .decide .result .object in
+    let T = turn (c .before .before .before) in
+    ⊎-elim
+    (λ w.
+    (let d = w .5 ∙ w .2 .ensures in
+    let m = w .4 ∙ ap (λ k. withObject (withObject n o new) o k) (w .3 .ensures) in
+    λ i. record { decision = d i; monitor = m i })
+    ∙ T .asks (w .1 .result) (w .1 .ensures) (w .0 .taken))
+    (λ w. (let d = w .2 in let m = w .1 in λ i. record { decision = d i; monitor = m i }) ∙ T .still (w .0 .left))
+    (c .if1 .came)
+
+-- no turn changes how many objects there are
+objects-kept : (c : tie.Joined1 Inv-loop μ-loop) → length (c .if1 .n .objects) ≡ length (c .before .before .before .before .before .before .before .before .before .before .before .before .before .before .before .loop .n .objects)
+objects-kept c =
+    let l = c .before .before .before .before .before .before .before .before .before .before .before .before .before .before .before .loop .n .objects in
+    let o = c .before .before .before .before .before .before .before .before .before .before .parts-said .result .object in
+    let new = c .before .before .before .decide .result .object in
+    ⊎-elim
+    (λ w. ap (λ (m : Monitor). length (m .objects)) (w .4) ∙ length-set (set l o new) o (w .3 .result) ∙ length-set l o new)
+    (λ w. ap (λ (m : Monitor). length (m .objects)) (w .1) ∙ length-set l o new)
+    (c .if1 .came)
+
+piece-count-requires : tie.Need-piece-count-requires Inv-loop μ-loop
+piece-count-requires c κs = tt
+
+smaller-requires : tie.Need-smaller-requires Inv-loop μ-loop
+smaller-requires c κs = tt
+
+loop-holds : tie.Need-loop-holds Inv-loop μ-loop
+loop-holds c =
+    record {
+      bound = omega arith;
+      counted = c .smaller .ensures ∙ ap (λ k. min k (length (c .before .before .before .before .args .out .now))) (c .before .piece-count .ensures);
+      so-far = start _ _ _;
+      out-length = refl;
+      objects-length = mapped-length (c .before .before .before .before .args .m .objects) (Rattle.model.proofs.Object.the-type .to) 64 (c .before .before .before .before .good .0 .1 .1 .1 .0 .1 .0 .1);
+    }
+
+mul-at : tie.Need-mul-at Inv-loop μ-loop
+mul-at c = search needs
+
+add-smaller : tie.Need-add-smaller Inv-loop μ-loop
+add-smaller c = search needs
+
+smaller-requires-2 : tie.Need-smaller-requires-2 Inv-loop μ-loop
+smaller-requires-2 c κs = tt
+
+sub-decode : tie.Need-sub-decode Inv-loop μ-loop
+sub-decode c = search needs
+
+part-decode-start : tie.Need-part-decode-start Inv-loop μ-loop
+part-decode-start c = search needs
+
+part-decode-end : tie.Need-part-decode-end Inv-loop μ-loop
+part-decode-end c = search needs
+
+decode-requires : tie.Need-decode-requires Inv-loop μ-loop
+decode-requires c κs = tt
+
+parts-said-requires : tie.Need-parts-said-requires Inv-loop μ-loop
+parts-said-requires c κs = tt
+
+cast-o : tie.Need-cast-o Inv-loop μ-loop
+cast-o c = search needs
+
+mul-ob : tie.Need-mul-ob Inv-loop μ-loop
+mul-ob c = search needs
+
+element-copy-out-ob : tie.Need-element-copy-out-ob Inv-loop μ-loop
+element-copy-out-ob c = named (c .before) .object
+
+cast-one : tie.Need-cast-one Inv-loop μ-loop
+cast-one c = search needs
+
+mul-one : tie.Need-mul-one Inv-loop μ-loop
+mul-one c = search needs
+
+element-copy-out-one : tie.Need-element-copy-out-one Inv-loop μ-loop
+element-copy-out-one c = named (c .before .before .before) .actor
+
+cast-two : tie.Need-cast-two Inv-loop μ-loop
+cast-two c = search needs
+
+mul-two : tie.Need-mul-two Inv-loop μ-loop
+mul-two c = search needs
+
+element-copy-out-two : tie.Need-element-copy-out-two Inv-loop μ-loop
+element-copy-out-two c = named (c .before .before .before .before .before) .other
+
+decide-requires : tie.Need-decide-requires Inv-loop μ-loop
+decide-requires c κs = tt
+
+mul-new : tie.Need-mul-new Inv-loop μ-loop
+mul-new c = search needs
+
+element-set-from-new : tie.Need-element-set-from-new Inv-loop μ-loop
+element-set-from-new c = named (c .before .before .before .before .before .before .before .before ) .object
+
+state-checks-requires : tie.Need-state-checks-requires Inv-loop μ-loop
+state-checks-requires c κs = tt
+
+last-answer-requires : tie.Need-last-answer-requires Inv-loop μ-loop
+last-answer-requires c κs = tt
+
+kept-record-requires : tie.Need-kept-record-requires Inv-loop μ-loop
+kept-record-requires c κs = tt
+
+mul-kept : tie.Need-mul-kept Inv-loop μ-loop
+mul-kept c = search needs
+
+element-set-from-kept : tie.Need-element-set-from-kept Inv-loop μ-loop
+element-set-from-kept c = named (c .before .before .before .before .before .before .before .before .before .before .before .before .before ) .object
+
+number-requires : tie.Need-number-requires Inv-loop μ-loop
+number-requires c κs = tt
+
+slice-write-out : tie.Need-slice-write-out Inv-loop μ-loop
+slice-write-out c = omega (arith, c .before .before .before .before .before .before .before .before .before .before .before .before .before .before .before .loop-test .taken, c .before .before .before .before .before .before .before .before .before .before .before .before .before .before .before .before .loop .inv .counted, c .before .before .before .before .before .before .before .before .before .before .before .before .before .before .before .before .loop .inv .out-length)
+
+add-i : tie.Need-add-i Inv-loop μ-loop
+add-i c = omega (arith, c .before .before .before .before .before .before .before .before .before .before .before .before .before .before .before .loop-test .taken, c .before .before .before .before .before .before .before .before .before .before .before .before .before .before .before .before .loop .inv .counted, c .before .before .before .before .before .before .before .before .before .before .before .before .before .before .before .before .before .smaller .ensures)
+
+loop-less : tie.Need-loop-less Inv-loop μ-loop
+loop-less c = omega (arith, c .before .before .before .before .before .before .before .before .before .before .before .before .before .before .before .loop-test .taken)
+
+loop-again : tie.Need-loop-again Inv-loop μ-loop
+loop-again c =
+    let L = c .before .before .before .before .before .before .before .before .before .before .before .before .before .before .before .before .loop .inv in
+    let i = c .before .before .before .before .before .before .before .before .before .before .before .before .before .before .before .before .loop .i in
+    let b = getD (pieces (c .before .before .before .before .before .before .before .before .before .before .before .before .before .before .before .before .before .before .before .before .before .args .requests .now)) i [] in
+    let done = settled b (c .before .before .before .before .before .before .before .before .before .before .before .before .decode .result) (c .before .before .before .before .before .before .before .before .before .before .before .before .before .before .before .before .loop .n) (c .before .if1 .n) (c .before .if1 .d) (c .number .result) (piece (c .before .before .before .before .before .before .before .before .before .before .before .before)) (answered (c .before)) (c .number .ensures) in
+    let h = c .before .before .before .before .before .before .before .before .before .before .before .before .before .before .before .loop-test .taken in
+    record {
+      bound = omega (arith, h);
+      counted = L .counted;
+      so-far = further _ _ _ _ _ i b _ _ (L .so-far) (omega (arith, h, L .counted, length-pieces (c .before .before .before .before .before .before .before .before .before .before .before .before .before .before .before .before .before .before .before .before .before .args .requests .now))) (omega (arith, h, L .counted)) refl (done .0) (done .1);
+      out-length = length-set (c .before .before .before .before .before .before .before .before .before .before .before .before .before .before .before .before .loop .out) i (c .number .result) ∙ L .out-length;
+      objects-length = objects-kept (c .before) ∙ L .objects-length;
+    }
+
+same-length : tie.Need-same-length Inv-loop μ-loop
+same-length c = c .before .loop .inv .out-length
+
+returns : tie.Need-returns Inv-loop μ-loop
+returns c = ended _ _ _ _ _ _ _ (c .before .loop .inv) (c .loop-test .left)
+
+pub run-spec : {M : Type 1} → statement M
+run-spec =
+    tie.close
+    (tie.spec
+    Inv-loop
+    μ-loop
+    piece-count-requires
+    smaller-requires
+    loop-holds
+    mul-at
+    add-smaller
+    smaller-requires-2
+    sub-decode
+    part-decode-start
+    part-decode-end
+    decode-requires
+    parts-said-requires
+    cast-o
+    mul-ob
+    element-copy-out-ob
+    cast-one
+    mul-one
+    element-copy-out-one
+    cast-two
+    mul-two
+    element-copy-out-two
+    decide-requires
+    mul-new
+    element-set-from-new
+    state-checks-requires
+    last-answer-requires
+    kept-record-requires
+    mul-kept
+    element-set-from-kept
+    number-requires
+    slice-write-out
+    add-i
+    loop-less
+    loop-again
+    same-length
+    returns)
