@@ -19,11 +19,11 @@ use model::Object;
 use model::Subject;
 
 // Which of the checks passed: 12, 6, 7 and 8.
-pub struct Findings {
-    pub enrolled: bool,
-    pub matrix: bool,
-    pub labelled: bool,
-    pub simple: bool,
+struct Findings {
+    enrolled: bool,
+    matrix: bool,
+    labelled: bool,
+    simple: bool,
 }
 
 // The checks passed at both places.

@@ -1,5 +1,3 @@
 -- Laws that the proofs of more than one function use.
-pub mod Places
-pub mod Contents
-pub mod Gathering
+-- Assumes nothing.
 pub mod Answers

@@ -4,9 +4,6 @@ mod scope;
 ghost use mathlib.Core.Path.{_≡_};
 ghost use mathlib.Core.Bool.{cond};
 ghost use Rattle.model.specs.Runs.{respond};
-pub use scope::scope_of;
-pub use scope::simple_where;
-pub use scope::Scope;
 use decoding::decode;
 use labels::check;
 use labels::refuses;
@@ -18,6 +15,9 @@ use records::already;
 use records::changed;
 use request_checks::early;
 use request_checks::parts_of;
+pub use scope::Scope;
+pub use scope::scope_of;
+pub use scope::simple_where;
 use star::star_broken;
 
 pub fn granted(was: bool) -> Decision

@@ -6,9 +6,8 @@ use native.Mathlib.Numerals.{add-one}
 use mathlib.Core.Path.{_≡_, refl, sym, ap, ap₂, _∙_}
 use mathlib.Core.Logic.{⊎-elim}
 use mathlib.Core.List.{List, [], _∷_, _++_}
-use lib.ListN.{length, take, drop, getD, set, length-append, length-drop}
+use lib.ListN.{length, take, drop, getD, set, length-drop}
 use lib.Seq.{take-all}
-use Rattle.bits.specs.Bits.{cut}
 use Rattle.bits.specs.Records.{length-cut, cut-at}
 use Rattle.model.specs.declared.Monitor.{Monitor}
 use Rattle.model.specs.Runs.{respond, reply, after, replies}
@@ -107,7 +106,7 @@ pub record Looping (requests out₀ : List ℕ) (m : Monitor) (count : ℕ) (out
   pub objects-length : length (n .objects) ≡ 64
 
 -- as many pieces as were counted are those that have room
-taken : {A : Type 0} (l : List A) (room : ℕ) → take (min (length l) room) l ≡ take room l
+pub taken : {A : Type 0} (l : List A) (room : ℕ) → take (min (length l) room) l ≡ take room l
 taken [] zero = refl
 taken [] (suc room) = let e : min 0 (suc room) ≡ 0 = omega arith in rw e
 taken (x ∷ l) zero = let e : min (suc (length l)) 0 ≡ 0 = omega arith in rw e

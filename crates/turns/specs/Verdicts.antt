@@ -1,7 +1,6 @@
 -- What the record of an object and two clearances decide of a byte string.
 -- Assumes nothing.
-use Prim.Native.Nat.{ℕ}
-use mathlib.Core.Bool.{Bool, false, cond}
+use mathlib.Core.Bool.{false, cond}
 use Rattle.model.specs.declared.Label.{Label}
 use Rattle.model.specs.declared.Object.{Object}
 use Rattle.model.specs.declared.Request.{Request}

@@ -32,7 +32,7 @@ pair-bits j high low h =
     ∙ ap (λ (l : List Bool). toBits j high ++ l) (toBits-mod 4 low)
 
 -- a bool as a number
-pub flag-bit : (b : Bool) → toBits 1 (boolByte b) ≡ b ∷ []
+flag-bit : (b : Bool) → toBits 1 (boolByte b) ≡ b ∷ []
 unfolding toBits odd
 flag-bit true = refl
 flag-bit false = refl

@@ -34,6 +34,7 @@ fn label_word(label: Label) -> u32
     }
 }
 
+// A label's record at bit at; acc has the bits that wait there, and the result those that wait behind it.
 fn write_label(out: &mut [u8], at: usize, acc: u32, label: Label) -> u32
     requires { ⌜ (at + 21 ≤ 8 * imageSize) × (imageSize ≤ length (now out)) ⌝ }
     ensures { λ r. ⌜ Appends (now (out .entry)) at acc (labelBits label) (now (out .exit)) (at + 21) r ⌝ }
@@ -44,13 +45,14 @@ fn write_label(out: &mut [u8], at: usize, acc: u32, label: Label) -> u32
     bits::append(out, at + 13, second, 8, word)
 }
 
+// The right bits and the access bits of the sixteen subjects: eight bits for each.
 fn write_sets(out: &mut [u8], at: usize, acc: u32, rights: [u8; 16], held: [u8; 16]) -> u32
     requires { ⌜ (at + 128 ≤ 8 * imageSize) × (imageSize ≤ length (now out)) × (acc < 256) ⌝ }
     ensures { λ r. ⌜ Appends (now (out .entry)) at acc (setsBits rights held) (now (out .exit)) (at + 128) r ⌝ }
 {
     let mut waiting = acc;
     let mut s: usize = 0;
-    while s < 16 {
+    while s < Monitor::SUBJECTS {
         let x = side_by_side(rights[s], held[s]);
         waiting = bits::append(out, at + 8 * s, waiting, 8, x);
         s += 1;
@@ -58,6 +60,7 @@ fn write_sets(out: &mut [u8], at: usize, acc: u32, rights: [u8; 16], held: [u8; 
     waiting
 }
 
+// An object's record: live, owner, the label, the sets.
 fn write_object(out: &mut [u8], at: usize, acc: u32, object: Object) -> u32
     requires { ⌜ (at + 154 ≤ 8 * imageSize) × (imageSize ≤ length (now out)) ⌝ }
     ensures { λ r. ⌜ Appends (now (out .entry)) at acc (objectBits object) (now (out .exit)) (at + 154) r ⌝ }
@@ -88,7 +91,7 @@ fn write_subjects(out: &mut [u8], subjects: [Subject; 16]) -> u32
     waiting
 }
 
-// The object records, behind the table.
+// The object records, behind the 336 bits of the table.
 fn write_objects(out: &mut [u8], acc: u32, objects: [Object; 64]) -> u32
     requires { ⌜ (imageSize ≤ length (now out)) × (acc < 256) ⌝ }
     ensures { λ r. ⌜ Appends (now (out .entry)) 336 acc (objectsBits objects) (now (out .exit)) (8 * imageSize) r ⌝ }

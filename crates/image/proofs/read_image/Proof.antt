@@ -6,28 +6,30 @@ use mathlib.Core.List.{List}
 use Prim.Native.Nat.{ℕ, _-_}
 use native.Mathlib.Omega.{arith}
 use lib.ListN.{length, take, drop, length-drop}
-use lib.Seq.{take-all}
+use lib.Seq.{take-all, length-take-le}
 use Rattle.model.specs.declared.Decision.{Decision}
 use Rattle.model.specs.declared.Decision.the-variants.{StrayBits}
 use Rattle.model.specs.declared.Monitor.{Monitor}
 use Rattle.model.specs.Tests.{unless}
 use Rattle.model.specs.Reading.{monitorFrom, imageForm, stateChecks, imageChecks, readImage}
-use Rattle.image.specs.declared.TableRead.{TableRead}
-use Rattle.image.specs.declared.ObjectsRead.{ObjectsRead}
-use Rattle.image.specs.Records.{tableOf, objectsOf}
+use Rattle.image_records.specs.declared.TableRead.{TableRead}
+use Rattle.image_records.specs.declared.ObjectsRead.{ObjectsRead}
+use Rattle.image_records.specs.Records.{subjectsRead, objectsRead}
+use Rattle.image_records.proofs.Lengths.{table-read, objects-read}
 use Rattle.image.proofs.Answers.{wrong-length, right-length}
 use borrow.Author.Needs.{needs}
 use Rattle.image.proofs.read_image.Statement.{statement}
 use Rattle.image.proofs.read_image.Tie as tie
 
 -- the two parts, as the code has the slices, say the monitor and have the image's form
-parts : (s : List ℕ) (t : TableRead) (o : ObjectsRead) → t ≡ tableOf (take 42 s) → o ≡ objectsOf (take (length s - 42) (drop 42 s))
+parts : (s : List ℕ) (t : TableRead) (o : ObjectsRead) → length s ≡ 1274 → t ≡ subjectsRead (take 42 s) → o ≡ objectsRead (take (length s - 42) (drop 42 s))
     → (record { subjects = t .subjects; objects = o .objects } ≡ monitorFrom s) × ((t .formed && o .formed) ≡ imageForm s)
 unfolding monitorFrom imageForm
-parts s t o p q =
+parts s t o h p q =
     let rest : take (length s - 42) (drop 42 s) ≡ drop 42 s = take-all (length s - 42) (drop 42 s) (rw (length-drop 42 s) (omega arith)) in
-    let r : o ≡ objectsOf (drop 42 s) = q ∙ ap objectsOf rest in
-    (λ i. record { subjects = p i .subjects; objects = r i .objects }, λ i. p i .formed && r i .formed)
+    let u = p ∙ table-read (take 42 s) (length-take-le 42 s (omega arith)) in
+    let v = q ∙ ap objectsRead rest ∙ objects-read (drop 42 s) (length-drop 42 s ∙ omega arith) in
+    (λ i. record { subjects = u i .subjects; objects = v i .objects }, λ i. u i .formed && v i .formed)
 
 empty-monitor-requires : tie.Need-empty-monitor-requires
 empty-monitor-requires c κs = search needs
@@ -80,13 +82,13 @@ returns-2 c =
     let checked = c .before in
     let objects = checked .before .before .before .before .before .before .read-objects in
     let subjects = checked .before .before .before .before .before .before .before .before .read-subjects in
-    let length-known = checked .before .before .before .before .before .before .before .before .before .before .if1 .left in
+    let size = checked .before .before .before .before .before .before .before .before .before .before .if1 .left in
     let s = checked .before .before .before .before .before .before .before .before .before .before .before .before .args .image .now in
     let m : Monitor = record { subjects = subjects .result .subjects; objects = objects .result .objects } in
-    let both = parts s (subjects .result) (objects .result) (subjects .ensures) (objects .ensures) in
+    let both = parts s (subjects .result) (objects .result) size (subjects .ensures) (objects .ensures) in
     let state = checked .before .state-checks .ensures ∙ ap stateChecks (both .0) in
     let decision = checked .check .ensures ∙ ap₂ (λ (b : Bool) (d : Decision). unless b StrayBits d) (both .1) state in
-    right-length s 1274 (unless (imageForm s) StrayBits (stateChecks (monitorFrom s))) _ (c .begun2 .result) m (monitorFrom s) length-known decision (both .0) (c .begun2 .ensures)
+    right-length s 1274 (unless (imageForm s) StrayBits (stateChecks (monitorFrom s))) _ (c .begun2 .result) m (monitorFrom s) size decision (both .0) (c .begun2 .ensures)
 
 pub read-image-spec : {M : Type 1} → statement M
 read-image-spec =

@@ -5,7 +5,8 @@ use Rattle.model.specs.declared.Decision.the-variants.{Granted, StrayBits}
 use Rattle.model.specs.Tests.{unless}
 use Rattle.model.specs.State.{fresh}
 use Rattle.model.specs.Reading.{tableFrom, tableForm, tableChecks, readTable}
-use Rattle.image.specs.declared.TableRead.{TableRead}
+use Rattle.image_records.specs.declared.TableRead.{TableRead}
+use Rattle.image_records.proofs.Lengths.{table-read}
 use Rattle.image.proofs.Answers.{wrong-length, right-length}
 use borrow.Author.Needs.{needs}
 use Rattle.image.proofs.read_table.Statement.{statement}
@@ -39,11 +40,12 @@ returns-2 : tie.Need-returns-2
 unfolding readTable tableChecks
 returns-2 c =
     let checked = c .before .before .before in
-    let read = checked .before .read-subjects .ensures in
     let s = checked .before .before .before .before .args .table .now in
+    let size = checked .before .before .if1 .left in
+    let read = checked .before .read-subjects .ensures ∙ table-read s size in
     let decision = checked .check .ensures ∙ ap (λ (t : TableRead). unless (t .formed) StrayBits Granted) read in
     let monitor = c .before .begin .ensures ∙ ap (λ (t : TableRead). fresh (t .subjects)) read in
-    right-length s 42 (unless (tableForm s) StrayBits Granted) _ (c .begun2 .result) _ (fresh (tableFrom s)) (checked .before .before .if1 .left) decision monitor (c .begun2 .ensures)
+    right-length s 42 (unless (tableForm s) StrayBits Granted) _ (c .begun2 .result) _ (fresh (tableFrom s)) size decision monitor (c .begun2 .ensures)
 
 pub read-table-spec : {M : Type 1} → statement M
 read-table-spec =

@@ -145,7 +145,7 @@ refuses-requires c κs = tt
 
 -- src/lib.rt:53:9
 returns-2 : tie.Need-returns-2
-returns-2 c = 
+returns-2 c =
     early-refused _ _ _ _ _ (c .before .before .before .before .before .before .before .before .before .parts-of .ensures) (read-object (c .before .before .before .before .before .before .before .before .before)) (c .before .before .early .ensures) (sym (c .before .refuses .ensures) ∙ c .if1 .taken) ∙ answers (c .before .before .before .before .before .before .before .before .before)
 
 -- src/lib.rt:55:9
@@ -194,7 +194,7 @@ element-set-from-ob c = named (c .before .before .before .before .before .before
 
 -- src/lib.rt:66:13
 returns-3 : tie.Need-returns-3
-returns-3 c = 
+returns-3 c =
     late-refused _ _ _ _ _ (c .before .before .before .before .before .before .before .before .before .before .before .before .before .before .before .before .before .before .before .before .parts-of .ensures) (read-object (c .before .before .before .before .before .before .before .before .before .before .before .before .before .before .before .before .before .before .before .before)) (c .before .before .before .before .before .before .before .before .before .before .before .before .before .early .ensures) _ _
     (sym (c .before .before .before .before .before .before .before .before .before .before .before .before .refuses .ensures) ∙ c .before .before .before .before .before .before .before .before .before .before .before .if1 .left) (last-is (c .before .before)) (sym (c .before .refuses2 .ensures) ∙ c .if3 .taken)
     ∙ answers (c .before .before .before .before .before .before .before .before .before .before .before .before .before .before .before .before .before .before .before .before)
@@ -209,7 +209,7 @@ granted-requires c κs = tt
 
 -- src/lib.rt:35:1
 returns-4 : tie.Need-returns-4
-returns-4 c = 
+returns-4 c =
     both-granted _ _ _ _ _ (c .before .before .before .before .before .before .before .before .before .before .before .before .before .before .before .parts-of .ensures) (read-object (c .before .before .before .before .before .before .before .before .before .before .before .before .before .before .before)) (c .before .before .before .before .before .before .before .before .early .ensures) _ _ _
     (sym (c .before .before .before .before .before .before .before .refuses .ensures) ∙ c .before .before .before .before .before .before .if1 .left) (late-passed (c .before .before)) (c .before .before .before .before .before .changed .ensures) (c .before .already .ensures) (c .granted .ensures)
     ∙ answers (c .before .before .before .before .before .before .before .before .before .before .before .before .before .before .before)

@@ -2,7 +2,7 @@
 -- Assumes nothing.
 use mathlib.Core.Path.{_≡_, refl, sym, ap, _∙_, subst}
 use Prim.Native.Nat.{_-_, min}
-use Prim.Native.Nat.{_*_, _≤_}
+use Prim.Native.Nat.{_*_}
 use mathlib.Core.Logic.{⊎-elim}
 use mathlib.Core.List.{[]}
 use lib.ListN.{length, getD, take, drop, set, length-set}
@@ -171,7 +171,7 @@ mul-new : tie.Need-mul-new Inv-loop μ-loop
 mul-new c = search needs
 
 element-set-from-new : tie.Need-element-set-from-new Inv-loop μ-loop
-element-set-from-new c = named (c .before .before .before .before .before .before .before .before ) .object
+element-set-from-new c = named (c .before .before .before .before .before .before .before .before) .object
 
 state-checks-requires : tie.Need-state-checks-requires Inv-loop μ-loop
 state-checks-requires c κs = tt
@@ -186,7 +186,7 @@ mul-kept : tie.Need-mul-kept Inv-loop μ-loop
 mul-kept c = search needs
 
 element-set-from-kept : tie.Need-element-set-from-kept Inv-loop μ-loop
-element-set-from-kept c = named (c .before .before .before .before .before .before .before .before .before .before .before .before .before ) .object
+element-set-from-kept c = named (c .before .before .before .before .before .before .before .before .before .before .before .before .before) .object
 
 number-requires : tie.Need-number-requires Inv-loop μ-loop
 number-requires c κs = tt

@@ -12,11 +12,11 @@ use Rattle.bits.specs.Bits.{fromBits, bytesToBits, cut, allZero}
 use Rattle.bits.specs.Fields.{field-within}
 use Rattle.bits.specs.Records.{cut-take}
 use Rattle.model.specs.Reading.{rightsFrom, heldFrom}
-use Rattle.image.proofs.Places.{length-at, byte-at}
-use Rattle.image.proofs.Contents.{low-four, low-four-lt, zero-more, halves}
-use Rattle.image.proofs.Gathering.{none-gathered, gather-more, gathered}
-use Rattle.image.proofs.read_sets.Statement.{statement}
-use Rattle.image.proofs.read_sets.Tie as tie
+use Rattle.image_records.proofs.Places.{length-at, byte-at}
+use Rattle.image_records.proofs.Contents.{low-four, low-four-lt, zero-more, halves}
+use Rattle.image_records.proofs.Gathering.{none-gathered, gather-more, gathered}
+use Rattle.image_records.proofs.read_sets.Statement.{statement}
+use Rattle.image_records.proofs.read_sets.Tie as tie
 
 -- the bits from bit at on
 abbrev from : List ℕ → ℕ → List Bool

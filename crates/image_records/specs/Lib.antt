@@ -1,2 +1,3 @@
 -- What the readers of records return.
+-- Assumes nothing.
 pub mod Records

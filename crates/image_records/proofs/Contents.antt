@@ -18,10 +18,10 @@ use Rattle.model.specs.declared.Object.{Object}
 use Rattle.model.specs.Levels.{present}
 use Rattle.model.specs.State.{noObject}
 use Rattle.model.specs.Reading.{fieldOf, labelFrom, labelForm, rightsFrom, heldFrom, objectFrom, objectForm}
-use Rattle.image.specs.declared.FlagRead.{FlagRead}
-use Rattle.image.specs.declared.LabelRead.{LabelRead}
-use Rattle.image.specs.declared.SetsRead.{SetsRead}
-use Rattle.image.specs.Records.{flagOf, labelOf, setsOf, objectOf}
+use Rattle.image_records.specs.declared.FlagRead.{FlagRead}
+use Rattle.image_records.specs.declared.LabelRead.{LabelRead}
+use Rattle.image_records.specs.declared.SetsRead.{SetsRead}
+use Rattle.image_records.specs.Records.{flagOf, labelOf, setsOf, objectOf}
 
 -- the mask of four bits
 pub low-four : (n : ℕ) → bitAnd n 15 ≡ n % 16
@@ -38,7 +38,7 @@ zero-append [] b = refl
 zero-append (true ∷ a) b = refl
 zero-append (false ∷ a) b = zero-append a b
 
-pub zero-parts : (w : ℕ) (b : List Bool) → (allZero (take w b) && allZero (drop w b)) ≡ allZero b
+zero-parts : (w : ℕ) (b : List Bool) → (allZero (take w b) && allZero (drop w b)) ≡ allZero b
 zero-parts w b = sym (zero-append (take w b) (drop w b)) ∙ ap allZero (take-append-drop w b)
 
 -- one byte more

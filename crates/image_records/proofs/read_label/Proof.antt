@@ -3,12 +3,12 @@
 use mathlib.Core.Path.{refl, ap, _∙_}
 use Prim.Native.Nat.{_+_}
 use native.Mathlib.Omega.{arith}
-use Rattle.image.specs.Records.{bitsAt, flagOf}
-use Rattle.image.proofs.Places.{length-at, part-at, field-at}
-use Rattle.image.proofs.Contents.{label-present, label-absent}
+use Rattle.image_records.specs.Records.{bitsAt, flagOf}
+use Rattle.image_records.proofs.Places.{length-at, part-at, field-at}
+use Rattle.image_records.proofs.Contents.{label-present, label-absent}
 use borrow.Author.Needs.{needs}
-use Rattle.image.proofs.read_label.Statement.{statement}
-use Rattle.image.proofs.read_label.Tie as tie
+use Rattle.image_records.proofs.read_label.Statement.{statement}
+use Rattle.image_records.proofs.read_label.Tie as tie
 
 read-flag-requires : tie.Need-read-flag-requires
 read-flag-requires c κs = search needs

@@ -10,7 +10,7 @@ use Rattle.bits.specs.Bits.{fromBits, bytesToBits, field}
 use Rattle.bits.specs.Laws.{length-bytesToBits}
 use Rattle.bits.specs.Fields.{field-within}
 use Rattle.bits.specs.Records.{field-record}
-use Rattle.image.specs.Records.{bitsAt}
+use Rattle.image_records.specs.Records.{bitsAt}
 
 pub length-at : (s : List ℕ) (at w : ℕ) → at + w ≤ 8 * length s → length (bitsAt s at w) ≡ w
 length-at s at w h = length-take-le w (drop at (bytesToBits s)) (rw (length-drop at (bytesToBits s), length-bytesToBits s) (omega arith))

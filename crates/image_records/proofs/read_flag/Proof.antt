@@ -3,12 +3,12 @@
 use mathlib.Core.Path.{_∙_}
 use native.Mathlib.Omega.{arith}
 use Rattle.bits.specs.Fields.{field-within}
-use Rattle.image.specs.Records.{bitsAt}
-use Rattle.image.proofs.Places.{length-at}
-use Rattle.image.proofs.Contents.{low-four-lt, flag-from}
+use Rattle.image_records.specs.Records.{bitsAt}
+use Rattle.image_records.proofs.Places.{length-at}
+use Rattle.image_records.proofs.Contents.{low-four-lt, flag-from}
 use borrow.Author.Needs.{needs}
-use Rattle.image.proofs.read_flag.Statement.{statement}
-use Rattle.image.proofs.read_flag.Tie as tie
+use Rattle.image_records.proofs.read_flag.Statement.{statement}
+use Rattle.image_records.proofs.read_flag.Tie as tie
 
 read-field-requires : tie.Need-read-field-requires
 read-field-requires c κs = search needs

@@ -1,4 +1,4 @@
--- After s turns the records of the subjects below s are read, and have their form or not.
+-- Bytes of another length have no form. After s turns the records of the subjects below s are read, and have their form or not.
 -- Assumes nothing.
 use mathlib.Core.Path.{_≡_, refl, ap, _∙_}
 use mathlib.Core.Bool.{Bool, _||_}
@@ -6,16 +6,19 @@ use mathlib.Core.List.{map}
 use Prim.Native.Nat.{ℕ, _-_, _*_, _<_, _≤_}
 use native.Mathlib.Omega.{arith}
 use borrow.Author.Needs.{needs}
+use borrow.Author.Tests.{ne-eqb}
 use lib.ListN.{length, take, drop, length-set}
 use Rattle.bits.specs.Bits.{bytesToBits, cut}
 use Rattle.model.specs.declared.Subject.{Subject}
 use Rattle.model.specs.Tests.{allOf}
 use Rattle.model.specs.Reading.{subjectFrom, labelForm, tableFrom, tableForm}
-use Rattle.image.specs.declared.LabelRead.{LabelRead}
-use Rattle.image.proofs.Contents.{label-formed}
-use Rattle.image.proofs.Gathering.{none-gathered, gather-more, gathered, none-formed, form-more}
-use Rattle.image.proofs.read_subjects.Statement.{statement}
-use Rattle.image.proofs.read_subjects.Tie as tie
+use Rattle.image_records.specs.declared.LabelRead.{LabelRead}
+use Rattle.image_records.specs.Records.{subjectsRead}
+use Rattle.image_records.proofs.Contents.{label-formed}
+use Rattle.image_records.proofs.Gathering.{none-gathered, gather-more, gathered, none-formed, form-more}
+use Rattle.image_records.proofs.Lengths.{table-read}
+use Rattle.image_records.proofs.read_subjects.Statement.{statement}
+use Rattle.image_records.proofs.read_subjects.Tie as tie
 
 abbrev Inv-loop : tie.InvT-loop
 Inv-loop bytes subjects₀ formed₀ s₀ subjects formed s =
@@ -26,6 +29,10 @@ Inv-loop bytes subjects₀ formed₀ s₀ subjects formed s =
 
 abbrev μ-loop : tie.MeasureT-loop
 μ-loop bytes subjects₀ formed₀ s₀ subjects formed s = 16 - s
+
+returns : tie.Need-returns Inv-loop μ-loop
+unfolding subjectsRead
+returns c = rw (ne-eqb (length (c .before .before .args .bytes .now)) 42 (c .if1 .taken))
 
 loop-holds : tie.Need-loop-holds Inv-loop μ-loop
 loop-holds c = (omega arith, refl, none-gathered subjectFrom 21 (bytesToBits _), none-formed labelForm 21 (bytesToBits _))
@@ -55,7 +62,7 @@ loop-again : tie.Need-loop-again Inv-loop μ-loop
 loop-again c =
     let read = c .before .before .read-label in
     let loop = c .before .before .before .before .loop in
-    let b = bytesToBits (c .before .before .before .before .before .before .args .bytes .now) in
+    let b = bytesToBits (c .before .before .before .before .before .before .before .args .bytes .now) in
     let i = loop .s in
     let v : Subject = record { clearance = read .result .label } in
     let says : v ≡ subjectFrom (take 21 (drop (21 * i) b)) = ap (λ (k : LabelRead). record { clearance = k .label }) (read .ensures) in
@@ -67,15 +74,16 @@ loop-again c =
       form-more labelForm 21 b i (loop .formed) _ (loop .inv .3) form,
     )
 
-returns : tie.Need-returns Inv-loop μ-loop
+returns-2 : tie.Need-returns-2 Inv-loop μ-loop
 unfolding tableFrom tableForm
-returns c =
+returns-2 c =
     let loop = c .before .loop in
-    let b = bytesToBits (c .before .before .before .args .bytes .now) in
+    let s = c .before .before .before .before .args .bytes .now in
+    let b = bytesToBits s in
     let end : loop .s ≡ 16 = omega arith in
     let subjects-eq = gathered subjectFrom 16 21 b (loop .subjects) (loop .s) (loop .inv .1) end (loop .inv .2) in
     let formed-eq = loop .inv .3 ∙ ap (λ (k : ℕ). allOf labelForm (cut k 21 b)) end in
-    λ i. record { subjects = subjects-eq i; formed = formed-eq i }
+    rw (table-read s (c .before .before .if1 .left)) (λ i. record { subjects = subjects-eq i; formed = formed-eq i })
 
 pub read-subjects-spec : {M : Type 1} → statement M
 read-subjects-spec =
@@ -83,6 +91,7 @@ read-subjects-spec =
     (tie.spec
     Inv-loop
     μ-loop
+    returns
     loop-holds
     mul-read-label
     read-label-requires
@@ -92,4 +101,4 @@ read-subjects-spec =
     add-s
     loop-less
     loop-again
-    returns)
+    returns-2)

@@ -5,13 +5,13 @@ use mathlib.Core.List.{List}
 use Prim.Native.Nat.{ℕ, _+_, _*_, _≤_}
 use native.Mathlib.Omega.{arith}
 use lib.ListN.{length, take, drop}
-use Rattle.image.specs.Records.{bitsAt, flagOf, labelOf, setsOf}
-use Rattle.image.proofs.Places.{part-at, last-at}
-use Rattle.image.proofs.Contents.{object-off, object-on}
+use Rattle.image_records.specs.Records.{bitsAt, flagOf, labelOf, setsOf}
+use Rattle.image_records.proofs.Places.{part-at, last-at}
+use Rattle.image_records.proofs.Contents.{object-off, object-on}
 use Rattle.model.proofs.Tests.{not-on, not-off}
 use borrow.Author.Needs.{needs}
-use Rattle.image.proofs.read_object.Statement.{statement}
-use Rattle.image.proofs.read_object.Tie as tie
+use Rattle.image_records.proofs.read_object.Statement.{statement}
+use Rattle.image_records.proofs.read_object.Tie as tie
 
 -- where the three parts stand in the record
 parts : (s : List ℕ) (at : ℕ) → at + 154 ≤ 8 * length s

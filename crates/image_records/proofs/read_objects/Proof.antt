@@ -1,18 +1,22 @@
--- After o turns the records of the objects below o are read, and have their form or not.
+-- Bytes of another length have no form. After o turns the records of the objects below o are read, and have their form or not.
 -- Assumes nothing.
 use mathlib.Core.Path.{_≡_, refl, ap, _∙_}
+use mathlib.Core.Bool.{false}
 use mathlib.Core.List.{map}
 use Prim.Native.Nat.{ℕ, _-_, _<_, _≤_}
 use native.Mathlib.Omega.{arith}
 use borrow.Author.Needs.{needs}
-use lib.ListN.{length, take, length-set}
+use borrow.Author.Tests.{ne-eqb}
+use lib.ListN.{replicate, length, take, length-set}
 use Rattle.bits.specs.Bits.{bytesToBits, cut}
 use Rattle.model.specs.Tests.{allOf}
 use Rattle.model.specs.Reading.{objectFrom, objectForm, objectsFrom, objectsForm}
-use Rattle.image.specs.declared.ObjectRead.{ObjectRead}
-use Rattle.image.proofs.Gathering.{none-gathered, gather-more, gathered, none-formed, form-more}
-use Rattle.image.proofs.read_objects.Statement.{statement}
-use Rattle.image.proofs.read_objects.Tie as tie
+use Rattle.image_records.specs.declared.ObjectRead.{ObjectRead}
+use Rattle.image_records.specs.Records.{objectsRead}
+use Rattle.image_records.proofs.Gathering.{none-gathered, gather-more, gathered, none-formed, form-more}
+use Rattle.image_records.proofs.Lengths.{objects-read}
+use Rattle.image_records.proofs.read_objects.Statement.{statement}
+use Rattle.image_records.proofs.read_objects.Tie as tie
 
 abbrev Inv-loop : tie.InvT-loop
 Inv-loop bytes objects₀ formed₀ o₀ objects formed o =
@@ -26,6 +30,12 @@ abbrev μ-loop : tie.MeasureT-loop
 
 no-object-requires : tie.Need-no-object-requires Inv-loop μ-loop
 no-object-requires c κs = search needs
+
+returns : tie.Need-returns Inv-loop μ-loop
+unfolding objectsRead
+returns c =
+    let e = c .before .no-object .ensures in
+    rw (ne-eqb (length (c .before .before .before .args .bytes .now)) 1232 (c .if1 .taken)) (λ i. record { objects = replicate 64 (e i); formed = false })
 
 loop-holds : tie.Need-loop-holds Inv-loop μ-loop
 loop-holds c = (omega arith, refl, none-gathered objectFrom 154 (bytesToBits _), none-formed objectForm 154 (bytesToBits _))
@@ -52,7 +62,7 @@ loop-again : tie.Need-loop-again Inv-loop μ-loop
 loop-again c =
     let read = c .before .before .read-object in
     let loop = c .before .before .before .before .loop in
-    let b = bytesToBits (c .before .before .before .before .before .before .before .args .bytes .now) in
+    let b = bytesToBits (c .before .before .before .before .before .before .before .before .args .bytes .now) in
     let i = loop .o in
     let says = ap (λ (k : ObjectRead). k .object) (read .ensures) in
     let form = ap (λ (k : ObjectRead). k .formed) (read .ensures) in
@@ -63,15 +73,16 @@ loop-again c =
       form-more objectForm 154 b i (loop .formed) (read .result .formed) (loop .inv .3) form,
     )
 
-returns : tie.Need-returns Inv-loop μ-loop
+returns-2 : tie.Need-returns-2 Inv-loop μ-loop
 unfolding objectsFrom objectsForm
-returns c =
+returns-2 c =
     let loop = c .before .loop in
-    let b = bytesToBits (c .before .before .before .before .args .bytes .now) in
+    let s = c .before .before .before .before .before .args .bytes .now in
+    let b = bytesToBits s in
     let end : loop .o ≡ 64 = omega arith in
     let objects-eq = gathered objectFrom 64 154 b (loop .objects) (loop .o) (loop .inv .1) end (loop .inv .2) in
     let formed-eq = loop .inv .3 ∙ ap (λ (k : ℕ). allOf objectForm (cut k 154 b)) end in
-    λ i. record { objects = objects-eq i; formed = formed-eq i }
+    rw (objects-read s (c .before .before .if1 .left)) (λ i. record { objects = objects-eq i; formed = formed-eq i })
 
 pub read-objects-spec : {M : Type 1} → statement M
 read-objects-spec =
@@ -80,6 +91,7 @@ read-objects-spec =
     Inv-loop
     μ-loop
     no-object-requires
+    returns
     loop-holds
     mul-read-object
     read-object-requires
@@ -88,4 +100,4 @@ read-objects-spec =
     add-o
     loop-less
     loop-again
-    returns)
+    returns-2)

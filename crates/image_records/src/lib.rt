@@ -1,0 +1,202 @@
+// The records of table and image, of 21 and of 154 bits, read across byte borders: what they say, and whether they have their form.
+ghost use mathlib.Core.Path.{_≡_};
+ghost use Prim.Native.Nat.{_+_, _*_, _≤_};
+ghost use lib.ListN.{length};
+ghost use Rattle.model.specs.Layout.{imageSize};
+ghost use Rattle.model.specs.State.{noObject};
+ghost use Rattle.image_records.specs.Records.{bitsAt, flagOf, labelOf, setsOf, objectOf, subjectsRead, objectsRead};
+use model::Label;
+use model::Level;
+use model::Monitor;
+use model::Object;
+use model::Subject;
+
+// A bit, the number in the four bits behind it, and whether all five are 0.
+struct FlagRead {
+    flag: bool,
+    number: u8,
+    blank: bool,
+}
+
+// A label, and whether no bit of its record is set.
+struct LabelRead {
+    label: Label,
+    blank: bool,
+}
+
+// The rights and the accesses at one object, and whether no bit of them is set.
+struct SetsRead {
+    rights: [u8; 16],
+    held: [u8; 16],
+    blank: bool,
+}
+
+// An object, and whether its record has its form: what is absent has no other bit set.
+struct ObjectRead {
+    object: Object,
+    formed: bool,
+}
+
+// What the bytes of a table say, and whether each record has its form.
+pub struct TableRead {
+    pub subjects: [Subject; 16],
+    pub formed: bool,
+}
+
+// What the bytes of the object records say, and whether each record has its form.
+pub struct ObjectsRead {
+    pub objects: [Object; 64],
+    pub formed: bool,
+}
+
+// The size of all object records.
+const OBJECTS_BYTES: usize = 1232;
+
+// Five bits: live and owner, or present and class.
+fn read_flag(bytes: &[u8], at: usize) -> FlagRead
+    requires { ⌜ at + 5 ≤ 8 * length (now bytes) ⌝ }
+    ensures { λ r. ⌜ r ≡ flagOf (bitsAt (now (bytes .entry)) at 5) ⌝ }
+{
+    let head = bits::read_field(bytes, at, 5);
+    FlagRead {
+        flag: 16 <= head,
+        number: (head & 15) as u8,
+        blank: head == 0,
+    }
+}
+
+// A label's record, of 21 bits from bit at on.
+fn read_label(bytes: &[u8], at: usize) -> LabelRead
+    requires { ⌜ (at + 21 ≤ 8 * length (now bytes)) × (length (now bytes) ≤ imageSize) ⌝ }
+    ensures { λ r. ⌜ r ≡ labelOf (bitsAt (now (bytes .entry)) at 21) ⌝ }
+{
+    let head = read_flag(bytes, at);
+    let needs = bits::read_field(bytes, at + 5, 16);
+    let blank = head.blank & (needs == 0);
+    if head.flag {
+        return LabelRead {
+            label: Label::Present(Level {
+                class: head.number,
+                needs: needs as u16,
+            }),
+            blank,
+        };
+    }
+    LabelRead {
+        label: Label::Absent,
+        blank,
+    }
+}
+
+// The sets of the sixteen subjects at one object: eight bits for each, the rights and then the accesses.
+fn read_sets(bytes: &[u8], at: usize) -> SetsRead
+    requires { ⌜ (at + 128 ≤ 8 * length (now bytes)) × (length (now bytes) ≤ imageSize) ⌝ }
+    ensures { λ r. ⌜ r ≡ setsOf (bitsAt (now (bytes .entry)) at 128) ⌝ }
+{
+    let mut rights = [0u8; 16];
+    let mut held = [0u8; 16];
+    let mut blank = true;
+    let mut s: usize = 0;
+    while s < Monitor::SUBJECTS {
+        let sets = bits::read_byte(bytes, at + 8 * s);
+        rights[s] = (sets >> 4) as u8;
+        held[s] = (sets & 15) as u8;
+        blank = blank & (sets == 0);
+        s += 1;
+    }
+    SetsRead {
+        rights,
+        held,
+        blank,
+    }
+}
+
+// What stands where no object is live: no owner, label, right or access.
+fn no_object() -> Object
+    ensures { λ r. ⌜ r ≡ noObject ⌝ }
+{
+    Object {
+        live: false,
+        owner: 0,
+        label: Label::Absent,
+        rights: [0u8; 16],
+        held: [0u8; 16],
+    }
+}
+
+// An object's record, of 154 bits from bit at on.
+fn read_object(bytes: &[u8], at: usize) -> ObjectRead
+    requires { ⌜ (at + 154 ≤ 8 * length (now bytes)) × (length (now bytes) ≤ imageSize) ⌝ }
+    ensures { λ r. ⌜ r ≡ objectOf (bitsAt (now (bytes .entry)) at 154) ⌝ }
+{
+    let head = read_flag(bytes, at);
+    let read = read_label(bytes, at + 5);
+    let sets = read_sets(bytes, at + 26);
+    if !head.flag {
+        return ObjectRead {
+            object: no_object(),
+            formed: head.blank & (read.blank & sets.blank),
+        };
+    }
+    let label = read.label;
+    let rights = sets.rights;
+    let held = sets.held;
+    ObjectRead {
+        object: Object {
+            live: true,
+            owner: head.number,
+            label,
+            rights,
+            held,
+        },
+        formed: labels::is_present(label) | read.blank,
+    }
+}
+
+// The records of a table; bytes of another length have no form, and nobody in them.
+pub fn read_subjects(bytes: &[u8]) -> TableRead
+    ensures { λ r. ⌜ r ≡ subjectsRead (now (bytes .entry)) ⌝ }
+{
+    let mut subjects = [Subject {
+        clearance: Label::Absent,
+    }; Monitor::SUBJECTS];
+    if bytes.len() != Monitor::TABLE_BYTES {
+        return TableRead {
+            subjects,
+            formed: false,
+        };
+    }
+    let mut formed = true;
+    let mut s: usize = 0;
+    while s < Monitor::SUBJECTS {
+        let read = read_label(bytes, 21 * s);
+        let clearance = read.label;
+        subjects[s] = Subject { clearance };
+        formed = formed & (labels::is_present(clearance) | read.blank);
+        s += 1;
+    }
+    TableRead { subjects, formed }
+}
+
+// The object records, in the part of an image that begins with them; bytes of another length have no form, and no object in them.
+pub fn read_objects(bytes: &[u8]) -> ObjectsRead
+    ensures { λ r. ⌜ r ≡ objectsRead (now (bytes .entry)) ⌝ }
+{
+    let mut objects = [no_object(); Monitor::OBJECTS];
+    if bytes.len() != OBJECTS_BYTES {
+        return ObjectsRead {
+            objects,
+            formed: false,
+        };
+    }
+    let mut formed = true;
+    let mut o: usize = 0;
+    while o < Monitor::OBJECTS {
+        let read = read_object(bytes, 154 * o);
+        let object = read.object;
+        objects[o] = object;
+        formed = formed & read.formed;
+        o += 1;
+    }
+    ObjectsRead { objects, formed }
+}

@@ -1,0 +1,3 @@
+-- A whole run from a table.
+pub mod Replay
+pub mod Lines

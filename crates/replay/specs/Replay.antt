@@ -1,0 +1,26 @@
+-- One reply byte for each piece of six bytes, from a monitor begun from a table.
+-- Assumes nothing.
+use Prim.Native.Nat.{ℕ}
+use mathlib.Core.Bool.{cond}
+use mathlib.Core.List.{List, _++_}
+use lib.ListN.{length, drop}
+use lib.Dec.{ltb}
+use Rattle.model.specs.declared.Decision.{Decision}
+use Rattle.model.specs.declared.Decision.the-variants.{Granted, ShortBuffer}
+use Rattle.model.specs.Decisions.{refuses}
+use Rattle.model.specs.Runs.{replies}
+use Rattle.model.specs.Reading.{readTable}
+use Rattle.model.specs.Program.{pieces}
+use Rattle.turns.specs.Turns.{pieceCount}
+
+-- the number of reading the table, then 13 where there is no room for a reply to each piece, else 0
+unfoldable pub replayAnswer : List ℕ → List ℕ → ℕ → Decision
+replayAnswer table requests room =
+    cond (refuses (readTable table .decision)) (readTable table .decision)
+    (cond (ltb room (pieceCount (length requests))) ShortBuffer Granted)
+
+-- a refusal leaves every byte; else the replies, and every later byte left
+unfoldable pub replayed : List ℕ → List ℕ → List ℕ → List ℕ
+replayed table requests out =
+    cond (refuses (replayAnswer table requests (length out))) out
+    (replies (pieces requests) (readTable table .monitor) ++ drop (pieceCount (length requests)) out)

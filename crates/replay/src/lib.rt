@@ -1,0 +1,64 @@
+// A whole run from a table: one reply byte for each piece, or the lines that the program prints.
+mod lines;
+
+ghost use mathlib.Core.Path.{_≡_};
+ghost use Prim.Native.Nat.{_≤_};
+ghost use lib.ListN.{length, replicate};
+ghost use Rattle.model.specs.Program.{program};
+ghost use Rattle.replay.specs.Lines.{put};
+ghost use Rattle.replay.specs.Replay.{replayAnswer, replayed};
+use crate::lines::put_line;
+use crate::lines::put_lines;
+use image::read_table;
+use labels::number;
+use labels::refuses;
+use model::Decision;
+use model::Monitor;
+use turns::piece_count;
+use turns::run;
+use turns::smaller;
+
+// One reply byte for each piece of six bytes, a short last one counted; a refusal leaves every byte of the buffer.
+pub fn replay(table: &[u8], requests: &[u8], out: &mut [u8]) -> Decision
+    ensures { λ r. ⌜ (r ≡ replayAnswer (now (table .entry)) (now (requests .entry)) (length (now (out .entry)))) × (now (out .exit) ≡ replayed (now (table .entry)) (now (requests .entry)) (now (out .entry))) ⌝ }
+{
+    let begun = read_table(table);
+    let decision = begun.decision;
+    if refuses(decision) {
+        return decision;
+    }
+    if out.len() < piece_count(requests.len()) {
+        return Decision::ShortBuffer;
+    }
+    let monitor = begun.monitor;
+    let _ = run(monitor, requests, out);
+    Decision::Granted
+}
+
+// What the program prints: the first len bytes.
+pub struct Printed {
+    pub bytes: [u8; 12288],
+    pub len: usize,
+}
+
+// The whole of `circmon`: from the bytes on standard input to those on standard output. A line has at most three bytes,
+// and there are at most 4,096 of them.
+pub fn program(input: &[u8]) -> Printed
+    ensures { λ r. ⌜ (r .bytes ≡ put (replicate 12288 0) 0 (program (now (input .entry)))) × (r .len ≡ length (program (now (input .entry)))) × (r .len ≤ 12288) ⌝ }
+{
+    let mut bytes = [0u8; 12288];
+    let end = smaller(Monitor::TABLE_BYTES, input.len());
+    let begun = read_table(&input[0..end]);
+    let decision = begun.decision;
+    if refuses(decision) {
+        let len = put_line(&mut bytes, 0, number(decision));
+        return Printed { bytes, len };
+    }
+    let last = smaller(input.len(), end + 24576);
+    let mut replies = [0u8; 4096];
+    let monitor = begun.monitor;
+    let _ = run(monitor, &input[end..last], &mut replies);
+    let count = piece_count(last - end);
+    let len = put_lines(&mut bytes, &replies, count);
+    Printed { bytes, len }
+}
