@@ -1,0 +1,2 @@
+-- The answers at the boundary.
+pub mod Boundary

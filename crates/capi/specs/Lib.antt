@@ -1,0 +1,2 @@
+-- What the functions for C and Rust return and leave.
+pub mod Boundary

@@ -1,0 +1,46 @@
+/* circmon: a Bell-LaPadula reference monitor. Link with libcapi.a, which `rt staticlib capi` writes to target/staticlib.
+ *
+ * Each function is proved to meet its contract for every pointer that comes with the length of what it points to. Two
+ * buffers of one call must not overlap. No function keeps a pointer, allocates, or has a state of its own.
+ *
+ * Numbers: 0 granted and changed, or accepted, or written; 1 granted and so already; 2 malformed; 3 not enrolled;
+ * 4 object not live; 5 create on a live object; 6 right or ownership missing; 7 no label; 8 the simple property would
+ * break; 9 the star property would break; 10 another length; 11 a stray bit in what is absent; 12 an absent subject owns,
+ * has a right or holds; 13 the buffer is too short. */
+#ifndef CIRCMON_H
+#define CIRCMON_H
+
+#include <stddef.h>
+#include <stdint.h>
+
+#ifdef __cplusplus
+extern "C" {
+#endif
+
+#define CIRCMON_TABLE_BYTES 42
+#define CIRCMON_IMAGE_BYTES 1274
+#define CIRCMON_REQUEST_BYTES 6
+
+/* Begins a monitor from an enrolment table and writes its image.
+ * Returns 10 or 11 where the table is refused; then 13 where the buffer has under 1,274 bytes; else 0.
+ * A refusal leaves every byte of the buffer. 0 fills its first 1,274 bytes and leaves any later byte. */
+uint8_t circmon_begin(const uint8_t *table, size_t table_len, uint8_t *image, size_t image_len);
+
+/* Reads an image. Returns 0 where it is accepted, else the first refusal of 10, 11, 12, 6, 7, 8, 9. */
+uint8_t circmon_read(const uint8_t *image, size_t image_len);
+
+/* Carries out a request on the state in the buffer, which is exactly an image.
+ * Where the image is refused with n, returns 128 + n and leaves every byte.
+ * Else returns the reply, 0 to 9, and writes the image of the state after the request in place. */
+uint8_t circmon_request(uint8_t *image, size_t image_len, const uint8_t *request, size_t request_len);
+
+/* Runs requests of six bytes in a row, from a monitor begun from a table; a short last piece counts and gets 2.
+ * Returns 10 or 11 where the table is refused; then 13 where replies is shorter than the number of pieces; else 0.
+ * A refusal leaves every byte of replies. 0 writes one reply byte for each piece and leaves any later byte. */
+uint8_t circmon_replay(const uint8_t *table, size_t table_len, const uint8_t *requests, size_t requests_len,
+                       uint8_t *replies, size_t replies_len);
+
+#ifdef __cplusplus
+}
+#endif
+#endif
