@@ -1,0 +1,105 @@
+//! The boundary: the header in a C program, and the program `circmon` on files.
+
+use load::Random;
+use reference::{program, MOST_REQUESTS};
+use sidebyside::SHAPES;
+use std::io::Write;
+use std::path::{Path, PathBuf};
+use std::process::{Command, Stdio};
+
+fn root() -> PathBuf {
+    Path::new(env!("CARGO_MANIFEST_DIR")).join("../..").canonicalize().unwrap()
+}
+
+#[test]
+fn a_c_program_over_the_header() {
+    let root = root();
+    let binary = Path::new(env!("CARGO_TARGET_TMPDIR")).join("smoke");
+    let status = Command::new("cc")
+        .args(["-std=c11", "-Wall", "-Wextra", "-Werror", "-I"])
+        .arg(root.join("include"))
+        .arg(root.join("host/sidebyside/c/smoke.c"))
+        .arg(root.join("target/staticlib/libcapi.a"))
+        .arg("-o")
+        .arg(&binary)
+        .status()
+        .expect("a C compiler");
+    assert!(status.success());
+    let output = Command::new(&binary).output().unwrap();
+    let expected = "begin 0\nrequest 0\nrequest 7\nrequest 0\nread 0\nshort 13\nreplay 0\nreplies 0 7 0 238\n";
+    assert_eq!(String::from_utf8_lossy(&output.stdout), expected);
+}
+
+/// What `circmon` itself prints.
+fn circmon(input: &[u8]) -> String {
+    let mut child = Command::new(root().join("target/bin/circmon"))
+        .stdin(Stdio::piped())
+        .stdout(Stdio::piped())
+        .spawn()
+        .expect("target/bin/circmon, which `rt check` builds");
+    let mut stdin = child.stdin.take().unwrap();
+    let bytes = input.to_vec();
+    // the program stops reading after 4,096 requests, so a longer write may fail
+    let writer = std::thread::spawn(move || {
+        let _ = stdin.write_all(&bytes);
+    });
+    let output = child.wait_with_output().unwrap();
+    writer.join().unwrap();
+    String::from_utf8(output.stdout).unwrap()
+}
+
+fn run(seed: u64, requests: usize, tail: usize) -> Vec<u8> {
+    let random = &mut Random::new(seed);
+    let shape = SHAPES[seed as usize % SHAPES.len()];
+    let table = load::table(random, shape);
+    let mut monitor = reference::Monitor::from_table(&table).unwrap();
+    let mut input = table.to_vec();
+    for _ in 0..requests {
+        let request = load::request(random, shape, &monitor).encode();
+        monitor.request(&request);
+        input.extend(request);
+    }
+    input.extend(random.bytes(tail));
+    input
+}
+
+#[test]
+fn circmon_prints_what_the_second_implementation_prints() {
+    for (seed, requests, tail) in [
+        (1, 0, 0),
+        (2, 1, 0),
+        (3, 300, 5),
+        (4, 2000, 1),
+        (5, MOST_REQUESTS - 1, 3),
+        (6, MOST_REQUESTS, 0),
+        (7, MOST_REQUESTS, 4),
+        (8, MOST_REQUESTS + 1, 0),
+        (9, MOST_REQUESTS + 500, 2),
+    ] {
+        let input = run(seed, requests, tail);
+        assert_eq!(circmon(&input), program(&input), "seed {seed}, {requests} requests, {tail} bytes behind them");
+    }
+}
+
+#[test]
+fn circmon_refuses_tables() {
+    let input = run(10, 20, 0);
+    for length in [0, 1, 41] {
+        assert_eq!(circmon(&input[..length]), "10\n", "{length} bytes");
+    }
+    let mut stray = vec![0; 42];
+    stray[2] = 1;
+    stray.extend([0x50, 0x80, 0, 0, 0, 0]);
+    assert_eq!(circmon(&stray), "11\n");
+    assert_eq!(program(&stray), "11\n");
+}
+
+#[test]
+fn w_with_steps_1_3_and_4_prints_0_0_1() {
+    let mut input = vec![0x88, 0x00, 0x0C, 0xC0, 0x00, 0xE0];
+    input.resize(42, 0);
+    for request in [[0x50, 0x80, 0, 0, 0, 0], [0x70, 0x80, 0, 0, 0, 0], [0x70, 0x80, 0, 0, 0, 0]] {
+        input.extend(request);
+    }
+    assert_eq!(circmon(&input), "0\n0\n1\n");
+}
