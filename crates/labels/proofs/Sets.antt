@@ -5,7 +5,7 @@ use native.Mathlib.Nat.{pow-suc}
 use native.Mathlib.Numerals.{add-one}
 use native.Mathlib.Omega.{arith}
 use mathlib.Core.Path.{_≡_, refl, sym, ap, _∙_}
-use mathlib.Core.Bool.{Bool, true, false, not, _&&_, Bool·beq}
+use mathlib.Core.Bool.{Bool, true, not, _&&_, Bool·beq}
 use lib.Dec.{leb, eqb}
 use lib.Bits.{bitAnd, bitOr, and-step, and-zero-l}
 use lib.Pow.{field, mod-mod-pow}
@@ -36,7 +36,8 @@ unfolding has remove
 remove-and x n h = eqb-true _ _ (bytes (λ x n. eqb (n - bitAnd n (weight x)) (remove x n)) refl x n h)
 
 -- a test at each byte that some modes are in the set
-some-and : (k : ℕ) (f : ℕ → Bool) → allBelow 256 (λ n. Bool·beq (not (eqb (bitAnd n k) 0)) (f n)) ≡ true → (n : ℕ) → n < 256 → not (eqb (bitAnd n k) 0) ≡ f n
+some-and : (k : ℕ) (f : ℕ → Bool) → allBelow 256 (λ n. Bool·beq (not (eqb (bitAnd n k) 0)) (f n)) ≡ true
+    → (n : ℕ) → n < 256 → not (eqb (bitAnd n k) 0) ≡ f n
 some-and k f e n h = same-bool _ _ (below-out 256 (λ n. Bool·beq (not (eqb (bitAnd n k) 0)) (f n)) e n h)
 
 pub observes-and : (n : ℕ) → n < 256 → not (eqb (bitAnd n 12) 0) ≡ anyObserves n

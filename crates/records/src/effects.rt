@@ -92,6 +92,7 @@ pub fn no_object() -> Object
 
 // ---- the request
 
+// The record after the request, also where a check would refuse it.
 pub fn changed(q: Request, ob: Object) -> Object
     ensures { λ r. ⌜ r ≡ changed q ob ⌝ }
 {
@@ -124,6 +125,7 @@ pub fn changed(q: Request, ob: Object) -> Object
     }
 }
 
+// The request would change nothing.
 pub fn already(q: Request, ob: Object) -> bool
     ensures { λ r. ⌜ r ≡ already q ob ⌝ }
 {

@@ -1,5 +1,4 @@
--- The checks of each kind in two stages: first those that the record of the object and the clearances of the actor and of the other
--- subject decide, and after them those that need all subjects or all objects.
+-- The checks of each kind in two stages: those that the object's record and two clearances decide, then those over all subjects or objects.
 -- Assumes nothing.
 use Prim.Native.Nat.{ℕ}
 use mathlib.Core.Bool.{cond, not, _&&_}
@@ -16,7 +15,7 @@ use Rattle.model.specs.Levels.{dominates, present}
 use Rattle.model.specs.Modes.{has, observes, needsLabel}
 use Rattle.model.specs.State.{object, rightsOf}
 use Rattle.model.specs.Decisions.{refuses}
-use Rattle.model.specs.Rules.{owns, simpleAll, starFor, starAll, changed, afterwards}
+use Rattle.model.specs.Rules.{owns, mayGive, simpleAll, starFor, starAll, changed, afterwards}
 
 -- a: the actor's clearance, b: that of the other subject, s: the actor
 unfoldable pub earlyGet : ℕ → Mode → Label → Object → Decision
@@ -39,7 +38,7 @@ unfoldable pub earlyGive : ℕ → Mode → Label → Label → Object → Decis
 earlyGive s x a b ob =
     unless (present a && present b) NotEnrolled
     (unless (ob .live) NotLive
-    (unless (owns s ob && has x (rightsOf ob s)) NoRight
+    (unless (mayGive s x ob) NoRight
     Granted))
 
 unfoldable pub earlyCreate : Label → Object → Decision

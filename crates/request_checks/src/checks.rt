@@ -46,11 +46,8 @@ fn early_give(s: u8, x: Mode, a: Label, b: Label, ob: Object) -> Decision
     let enrolled = is_present(a) & is_present(b);
     let allowed = (ob.owner == s) & has(x, rights_of(ob, s));
     let right = check(allowed, Decision::NoRight, Decision::Granted);
-    check(
-        enrolled,
-        Decision::NotEnrolled,
-        check(ob.live, Decision::NotLive, right),
-    )
+    let live = check(ob.live, Decision::NotLive, right);
+    check(enrolled, Decision::NotEnrolled, live)
 }
 
 fn early_create(a: Label, ob: Object) -> Decision

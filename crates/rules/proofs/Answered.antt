@@ -1,5 +1,4 @@
--- The answer to a well-formed request, by the values that the code computes: its parts, the record of its object, the first stage of
--- the checks, the changed record, whether it was so already, and the second stage.
+-- The answer to a well-formed request, by the values that the code computes on its way to it.
 -- Assumes nothing.
 use Prim.Native.Nat.{ℕ, _<_}
 use mathlib.Core.Path.{_≡_, refl, sym, ap, ap₂, _∙_}

@@ -2,23 +2,18 @@
 -- Assumes nothing.
 use Prim.Native.Nat.{ℕ, _+_, _<_, _≤_}
 use native.Mathlib.Omega.{arith}
-use mathlib.Core.Path.{_≡_, refl, sym, ap, _∙_}
+use mathlib.Core.Path.{_≡_, refl, ap}
 use mathlib.Core.Bool.{Bool, true, false, cond}
-use mathlib.Core.List.{List}
 use Rattle.model.specs.declared.Object.{Object}
 use Rattle.model.specs.declared.Monitor.{Monitor}
-use Rattle.model.specs.declared.Mode.{Mode}
 use Rattle.model.specs.declared.Request.{Request}
 use Rattle.model.specs.declared.Request.the-variants.{Get, Release, Give, Rescind, Create, Delete, ChangeLevel}
-use Rattle.model.specs.declared.Decision.{Decision}
 use Rattle.model.specs.declared.Decision.the-variants.{Granted, SimpleBroken, StarBroken}
 use Rattle.model.specs.Tests.{implies, unless}
 use Rattle.model.specs.Modes.{needsLabel}
 use Rattle.model.specs.State.{object}
 use Rattle.model.specs.Requests.{InRange}
 use Rattle.model.specs.Rules.{target, changed, afterwards, starFor, starAll, simpleAll}
-use Rattle.model.proofs.Tests.{split}
-use Rattle.star.specs.Between.{starBetween}
 use Rattle.star.proofs.Between.{between-in, between-one, between-all}
 use Rattle.request_checks.specs.Stages.{late}
 use Rattle.rules.specs.Late.{over, scopeOf, asked}

@@ -1,2 +1,3 @@
 -- Which checks are over the whole state.
 pub mod Late
+pub mod Verdicts

@@ -21,6 +21,7 @@ fn over(low: usize, high: usize, simple: bool) -> Scope
     Scope { low, high, simple }
 }
 
+// Get asks of the actor alone, but for e; a change of level of all subjects; the other kinds of none.
 pub fn scope_of(q: Request) -> Scope
     ensures { λ r. ⌜ r ≡ scopeOf q ⌝ }
 {
@@ -42,6 +43,7 @@ pub fn scope_of(q: Request) -> Scope
     }
 }
 
+// The simple property of all subjects at the changed record, where it is asked.
 pub fn simple_where(asked: bool, subjects: [Subject; 16], ob: Object) -> bool
     ensures { λ r. ⌜ r ≡ implies asked (simpleAll subjects ob) ⌝ }
 {

@@ -12,7 +12,7 @@ use lib.Seq.{getD-set-same, getD-set-other}
 use Rattle.bits.specs.Bits.{bit}
 use Rattle.model.specs.declared.Label.{Label}
 use Rattle.model.specs.declared.Object.{Object}
-use Rattle.model.specs.Tests.{allOf, implies}
+use Rattle.model.specs.Tests.{allOf}
 use Rattle.model.specs.Levels.{dominates}
 use Rattle.model.specs.Modes.{anyObserves, anyAlters}
 use Rattle.model.specs.State.{heldBy}

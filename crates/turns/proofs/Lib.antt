@@ -1,3 +1,2 @@
--- One turn of a run, and the list of turns.
-pub mod Turn
+-- A run, one turn longer.
 pub mod Runs

@@ -1,3 +1,2 @@
--- A list of requests in a row, and one turn in the parts that the code computes.
+-- The pieces of a row of requests.
 pub mod Turns
-pub mod Verdicts

@@ -1,19 +1,18 @@
 // A list of requests on one monitor, which stays in one local: a turn stores the record of one object.
-mod verdict;
-
 ghost use mathlib.Core.Path.{_≡_};
 ghost use mathlib.Core.List.{_++_};
 ghost use Prim.Native.Nat.{min};
 ghost use lib.ListN.{length, drop};
 ghost use Rattle.model.specs.Runs.{after, replies};
 ghost use Rattle.turns.specs.Turns.{pieceCount, turns};
-use crate::verdict::decide;
-use crate::verdict::kept_record;
-use crate::verdict::last_answer;
-use crate::verdict::state_checks;
 use decoding::decode;
 use labels::number;
 use model::Monitor;
+use rules::decide;
+use rules::kept_record;
+use rules::last_answer;
+use rules::parts_said;
+use rules::state_checks;
 
 pub fn smaller(a: usize, b: usize) -> usize
     ensures { λ r. ⌜ r ≡ min a b ⌝ }
@@ -44,7 +43,7 @@ pub fn run(m: Monitor, requests: &[u8], out: &mut [u8]) -> Monitor
         let at = i * 6;
         let end = smaller(at + 6, requests.len());
         let said = decode(&requests[at..end]);
-        let parts = verdict::parts_said(said);
+        let parts = parts_said(said);
         let o = parts.object as usize;
         let ob = n.objects[o];
         let one = n.subjects[parts.actor as usize];

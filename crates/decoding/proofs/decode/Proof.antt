@@ -1,9 +1,8 @@
 -- `decoding::decode` meets its contract.
 -- Assumes nothing.
 use mathlib.Core.Path.{ap, _∙_}
-use borrow.Author.Needs.{needs}
 use borrow.Author.Tests.{eq-eqb, ne-eqb}
-use Rattle.model.specs.Requests.{fields, decodeFields, decode}
+use Rattle.model.specs.Requests.{decodeFields, decode}
 use Rattle.decoding.specs.Word.{fieldsOfWord}
 use Rattle.decoding.proofs.Word.{fields-word}
 use Rattle.decoding.proofs.decode.Statement.{statement}
@@ -24,7 +23,10 @@ decode-fields-requires c κs = tt
 
 returns-2 : tie.Need-returns-2
 unfolding decode
-returns-2 c = rw (eq-eqb _ _ (c .before .before .before .if1 .left)) (c .decode-fields .ensures ∙ ap decodeFields (c .before .fields-of .ensures ∙ ap fieldsOfWord (c .before .before .read-word .ensures .0) ∙ fields-word _))
+returns-2 c =
+    rw (eq-eqb _ _ (c .before .before .before .if1 .left))
+    (c .decode-fields .ensures
+    ∙ ap decodeFields (c .before .fields-of .ensures ∙ ap fieldsOfWord (c .before .before .read-word .ensures .0) ∙ fields-word _))
 
 pub decode-spec : {M : Type 1} → statement M
 decode-spec =

@@ -1,7 +1,6 @@
 -- `decoding::decode_fields` meets its contract.
 -- Assumes nothing.
 use mathlib.Core.Path.{sym, _∙_}
-use borrow.Author.Needs.{needs}
 use Rattle.model.specs.Requests.{decodeFields}
 use Rattle.decoding.proofs.decode_fields.Statement.{statement}
 use Rattle.decoding.proofs.decode_fields.Tie as tie

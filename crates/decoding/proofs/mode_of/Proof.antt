@@ -14,7 +14,10 @@ returns-3 : tie.Need-returns-3
 returns-3 c = rw (c .match .keys3)
 
 returns-4 : tie.Need-returns-4
-returns-4 c = rw (ne-eqb (c .before .args .x) 1 (c .match .rest .0 .0 .1), ne-eqb (c .before .args .x) 2 (c .match .rest .0 .1), ne-eqb (c .before .args .x) 3 (c .match .rest .1))
+returns-4 c =
+    let x = c .before .args .x in
+    let n = c .match .rest in
+    rw (ne-eqb x 1 (n .0 .0 .1), ne-eqb x 2 (n .0 .1), ne-eqb x 3 (n .1))
 
 pub mode-of-spec : {M : Type 1} → statement M
 mode-of-spec = tie.close (tie.spec returns returns-2 returns-3 returns-4)

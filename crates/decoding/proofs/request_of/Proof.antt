@@ -1,6 +1,5 @@
 -- `decoding::request_of` meets its contract.
 -- Assumes nothing.
-use borrow.Author.Needs.{needs}
 use borrow.Author.Tests.{ne-eqb}
 use Rattle.model.specs.Requests.{request}
 use Rattle.decoding.proofs.request_of.Statement.{statement}

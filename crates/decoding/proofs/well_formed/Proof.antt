@@ -1,6 +1,5 @@
 -- `decoding::well_formed` meets its contract.
 -- Assumes nothing.
-use borrow.Author.Needs.{needs}
 use Rattle.model.specs.Requests.{wellFormed}
 use Rattle.decoding.proofs.well_formed.Statement.{statement}
 use Rattle.decoding.proofs.well_formed.Tie as tie

@@ -1,7 +1,6 @@
 -- `labels::add` meets its contract.
 -- Assumes nothing.
 use native.Mathlib.Omega.{arith}
-use borrow.Author.Needs.{needs}
 use Rattle.labels.proofs.Sets.{add-or}
 use Rattle.labels.proofs.add.Statement.{statement}
 use Rattle.labels.proofs.add.Tie as tie

@@ -1,7 +1,6 @@
 -- `labels::has` meets its contract.
 -- Assumes nothing.
 use native.Mathlib.Omega.{arith}
-use borrow.Author.Needs.{needs}
 use Rattle.labels.proofs.Sets.{has-and}
 use Rattle.labels.proofs.has.Statement.{statement}
 use Rattle.labels.proofs.has.Tie as tie

@@ -1,6 +1,5 @@
 -- `labels::level_dominates` meets its contract.
 -- Assumes nothing.
-use borrow.Author.Needs.{needs}
 use Rattle.model.specs.Levels.{levelDominates}
 use Rattle.labels.proofs.level_dominates.Statement.{statement}
 use Rattle.labels.proofs.level_dominates.Tie as tie

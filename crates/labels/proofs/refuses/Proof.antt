@@ -2,7 +2,6 @@
 -- Assumes nothing.
 use mathlib.Core.Path.{ap}
 use lib.Dec.{leb}
-use borrow.Author.Needs.{needs}
 use Rattle.labels.proofs.refuses.Statement.{statement}
 use Rattle.labels.proofs.refuses.Tie as tie
 

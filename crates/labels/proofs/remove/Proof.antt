@@ -2,7 +2,6 @@
 -- Assumes nothing.
 use native.Mathlib.Omega.{arith}
 use lib.Bits.{and-le-l}
-use borrow.Author.Needs.{needs}
 use Rattle.labels.proofs.Sets.{remove-and}
 use Rattle.labels.proofs.remove.Statement.{statement}
 use Rattle.labels.proofs.remove.Tie as tie

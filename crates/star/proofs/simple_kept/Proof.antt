@@ -1,4 +1,4 @@
--- `star::simple_kept` meets its contract.
+-- `star::simple_kept` meets its contract: the subjects below s pass the test.
 -- Assumes nothing.
 use Prim.Native.Nat.{ℕ, _-_, _<_, _≤_}
 use native.Mathlib.Omega.{arith}
@@ -29,8 +29,11 @@ Inv-loop subjects held label s₀ s = (s ≤ 16) × ((k : ℕ) → k < s → pas
 abbrev μ-loop : tie.MeasureT-loop
 μ-loop subjects held label s₀ s = 16 - s
 
-tested : (c : tie.After-implies Inv-loop μ-loop)
-    → c .implies .result ≡ passes (c .before .before .before .before .before .before .before .args .t1) (c .before .before .before .before .before .before .before .args .ob .held) (c .before .before .before .before .before .before .before .args .ob .label) (c .before .before .before .before .before .loop .s)
+-- the test at each subject, where the loop stands
+abbrev passes-at : tie.Start Inv-loop μ-loop → ℕ → Bool
+passes-at c = passes (c .args .t1) (c .args .ob .held) (c .args .ob .label)
+
+tested : (c : tie.After-implies Inv-loop μ-loop) → c .implies .result ≡ passes-at (c .before .before .before .before .before .before .before) (c .before .before .before .before .before .loop .s)
 unfolding passes
 tested c = c .implies .ensures ∙ ap₂ implies (c .before .before .any-observes .ensures) (c .before .dominates .ensures)
 
@@ -58,10 +61,9 @@ implies-requires c κs = tt
 returns : tie.Need-returns Inv-loop μ-loop
 unfolding simpleAll passes
 returns c =
-    let l = c .before .before .before .before .before .before .before .before .args .t1 in
-    let ob = c .before .before .before .before .before .before .before .before .args .ob in
-    sym (split (allBelow 16 (passes l (ob .held) (ob .label)))
-    (λ t. apart (below-out 16 (passes l (ob .held) (ob .label)) t (c .before .before .before .before .before .before .loop .s) (omega arith)) (sym (tested (c .before)) ∙ not-on _ (c .if1 .taken)))
+    let test = passes-at (c .before .before .before .before .before .before .before .before) in
+    sym (split (allBelow 16 test)
+    (λ t. apart (below-out 16 test t (c .before .before .before .before .before .before .loop .s) (omega arith)) (sym (tested (c .before)) ∙ not-on _ (c .if1 .taken)))
     (λ f. f))
 
 add-s : tie.Need-add-s Inv-loop μ-loop
@@ -79,8 +81,7 @@ returns-2 : tie.Need-returns-2 Inv-loop μ-loop
 unfolding simpleAll passes
 returns-2 c =
     let inv = c .before .loop .inv in
-    let ob = c .before .before .before .args .ob in
-    sym (below-in 16 (passes (c .before .before .before .args .t1) (ob .held) (ob .label)) (λ k h. inv .1 k (omega (arith, c .loop-test .left, inv .0))))
+    sym (below-in 16 (passes-at (c .before .before .before)) (λ k h. inv .1 k (omega (arith, c .loop-test .left, inv .0))))
 
 pub simple-kept-spec : {M : Type 1} → statement M
 simple-kept-spec =

@@ -16,7 +16,7 @@ use Rattle.model.specs.State.{noObject, object, withObject}
 use Rattle.model.proofs.Tests.{any-default, mapped-length}
 use Rattle.star.proofs.Listed.{blank}
 use Rattle.rules.proofs.Answered.{Numbers}
-use Rattle.turns.proofs.Turn.{SaidInRange, decoded-in-range, said-numbers, Turned, turned-by, settled}
+use Rattle.rules.proofs.Turn.{SaidInRange, decoded-in-range, said-numbers, Turned, turned-by, settled}
 use Rattle.turns.proofs.Runs.{Looping, start, further, ended, piece-at, length-pieces}
 use Rattle.turns.proofs.run.Statement.{statement}
 use Rattle.turns.proofs.run.Tie as tie
@@ -26,11 +26,11 @@ use Rattle.decoding.proofs.decode.Reads as decode-reads
 use Rattle.labels.proofs.number.Reads as number-reads
 use Rattle.turns.proofs.piece_count.Reads as piece-count-reads
 use Rattle.turns.proofs.smaller.Reads as smaller-reads
-use Rattle.turns.proofs.verdict.decide.Reads as decide-reads
-use Rattle.turns.proofs.verdict.kept_record.Reads as kept-record-reads
-use Rattle.turns.proofs.verdict.last_answer.Reads as last-answer-reads
-use Rattle.turns.proofs.verdict.parts_said.Reads as parts-said-reads
-use Rattle.turns.proofs.verdict.state_checks.Reads as state-checks-reads
+use Rattle.rules.proofs.decide.Reads as decide-reads
+use Rattle.rules.proofs.kept_record.Reads as kept-record-reads
+use Rattle.rules.proofs.last_answer.Reads as last-answer-reads
+use Rattle.rules.proofs.parts_said.Reads as parts-said-reads
+use Rattle.rules.proofs.state_checks.Reads as state-checks-reads
 
 abbrev Inv-loop : tie.InvT-loop
 Inv-loop requests out₀ n₀ count i₀ out n i = Looping requests out₀ n₀ count out n i

@@ -73,7 +73,14 @@ returns-3 c = rw (c .before .before .before .q3 .given .1, c .has3 .ensures, c .
 
 returns-4 : tie.Need-returns-4
 unfolding already
-returns-4 c = rw (c .before .before .before .before .before .q4 .given .1, c .has5 .ensures, c .before .held-by3 .ensures, c .before .before .has4 .ensures, c .before .before .before .rights-of2 .ensures)
+returns-4 c =
+    rw (
+      c .before .before .before .before .before .q4 .given .1,
+      c .has5 .ensures,
+      c .before .held-by3 .ensures,
+      c .before .before .has4 .ensures,
+      c .before .before .before .rights-of2 .ensures,
+    )
 
 returns-5 : tie.Need-returns-5
 unfolding already

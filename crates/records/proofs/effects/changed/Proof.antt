@@ -1,6 +1,11 @@
 -- `records::effects::changed` meets its contract.
 -- Assumes nothing.
+use Prim.Native.Nat.{ℕ}
+use mathlib.Core.Path.{ap, ap₂, _∙_}
 use borrow.Author.Needs.{needs}
+use Rattle.model.specs.declared.Object.{Object}
+use Rattle.model.specs.Modes.{add, remove}
+use Rattle.model.specs.State.{withHeld, withRights}
 use Rattle.model.specs.Rules.{changed}
 use Rattle.records.proofs.effects.changed.Statement.{statement}
 use Rattle.records.proofs.effects.changed.Tie as tie
@@ -82,19 +87,38 @@ with-level-requires c κs = tt
 
 returns : tie.Need-returns
 unfolding changed
-returns c = rw (c .before .before .before .before .q .given .1, c .with-held .ensures, c .before .add .ensures, c .before .before .held-by .ensures)
+returns c =
+    let q = c .before .before .before .before .q .given in
+    rw (q .1)
+    (c .with-held .ensures
+    ∙ ap (withHeld (c .before .before .before .before .before .before .args .ob) (q .0 .0)) (c .before .add .ensures ∙ ap (add _) (c .before .before .held-by .ensures)))
 
 returns-2 : tie.Need-returns-2
 unfolding changed
-returns-2 c = rw (c .before .before .before .before .q2 .given .1, c .with-held2 .ensures, c .before .remove .ensures, c .before .before .held-by2 .ensures)
+returns-2 c =
+    let q = c .before .before .before .before .q2 .given in
+    rw (q .1)
+    (c .with-held2 .ensures
+    ∙ ap (withHeld (c .before .before .before .before .before .before .args .ob) (q .0 .0)) (c .before .remove .ensures ∙ ap (remove _) (c .before .before .held-by2 .ensures)))
 
 returns-3 : tie.Need-returns-3
 unfolding changed
-returns-3 c = rw (c .before .before .before .before .q3 .given .1, c .with-rights .ensures, c .before .add2 .ensures, c .before .before .rights-of .ensures)
+returns-3 c =
+    let q = c .before .before .before .before .q3 .given in
+    rw (q .1)
+    (c .with-rights .ensures
+    ∙ ap (withRights (c .before .before .before .before .before .before .args .ob) (q .0 .1 .0)) (c .before .add2 .ensures ∙ ap (add _) (c .before .before .rights-of .ensures)))
 
 returns-4 : tie.Need-returns-4
 unfolding changed
-returns-4 c = rw (c .before .before .before .before .before .before .before .q4 .given .1, c .with-held3 .ensures, c .before .with-rights2 .ensures, c .before .before .remove3 .ensures, c .before .before .before .held-by3 .ensures, c .before .before .before .before .remove2 .ensures, c .before .before .before .before .before .rights-of2 .ensures)
+returns-4 c =
+    let q = c .before .before .before .before .before .before .before .q4 .given in
+    let t = q .0 .1 .0 in
+    let right = c .before .before .before .before .remove2 .ensures ∙ ap (remove _) (c .before .before .before .before .before .rights-of2 .ensures) in
+    let access = c .before .before .remove3 .ensures ∙ ap (remove _) (c .before .before .before .held-by3 .ensures) in
+    rw (q .1)
+    (c .with-held3 .ensures
+    ∙ ap₂ (λ (ob : Object) (n : ℕ). withHeld ob t n) (c .before .with-rights2 .ensures ∙ ap (withRights (c .before .before .before .before .before .before .before .before .before .args .ob) t) right) access)
 
 returns-5 : tie.Need-returns-5
 unfolding changed

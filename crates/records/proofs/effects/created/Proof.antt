@@ -3,7 +3,6 @@
 use mathlib.Core.Path.{_≡_, _∙_}
 use mathlib.Core.Logic.{⊎-elim}
 use mathlib.Core.Bool.{cond}
-use borrow.Author.Needs.{needs}
 use Rattle.records.proofs.effects.created.Statement.{statement}
 use Rattle.records.proofs.effects.created.Tie as tie
 

@@ -1,6 +1,5 @@
 -- `records::effects::with_held` meets its contract.
 -- Assumes nothing.
-use borrow.Author.Needs.{needs}
 use Rattle.records.proofs.effects.with_held.Statement.{statement}
 use Rattle.records.proofs.effects.with_held.Tie as tie
 

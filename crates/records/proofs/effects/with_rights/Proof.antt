@@ -1,6 +1,5 @@
 -- `records::effects::with_rights` meets its contract.
 -- Assumes nothing.
-use borrow.Author.Needs.{needs}
 use Rattle.records.proofs.effects.with_rights.Statement.{statement}
 use Rattle.records.proofs.effects.with_rights.Tie as tie
 

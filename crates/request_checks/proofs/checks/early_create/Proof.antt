@@ -1,6 +1,5 @@
 -- `request_checks::checks::early_create` meets its contract.
 -- Assumes nothing.
-use borrow.Author.Needs.{needs}
 use Rattle.request_checks.specs.Stages.{earlyCreate}
 use Rattle.request_checks.proofs.checks.early_create.Statement.{statement}
 use Rattle.request_checks.proofs.checks.early_create.Tie as tie

@@ -1,6 +1,5 @@
 -- `request_checks::checks::early_get` meets its contract.
 -- Assumes nothing.
-use borrow.Author.Needs.{needs}
 use Rattle.request_checks.specs.Stages.{earlyGet}
 use Rattle.request_checks.proofs.checks.early_get.Statement.{statement}
 use Rattle.request_checks.proofs.checks.early_get.Tie as tie
@@ -49,7 +48,23 @@ check-requires-5 c κs = tt
 
 returns : tie.Need-returns
 unfolding earlyGet
-returns c = rw (c .check5 .ensures, c .before .is-present2 .ensures, c .before .before .check4 .ensures, c .before .before .before .check3 .ensures, c .before .before .before .before .check2 .ensures, c .before .before .before .before .before .has .ensures, c .before .before .before .before .before .before .rights-of .ensures, c .before .before .before .before .before .before .before .check .ensures, c .before .before .before .before .before .before .before .before .implies2 .ensures, c .before .before .before .before .before .before .before .before .before .is-present .ensures, c .before .before .before .before .before .before .before .before .before .before .needs-label .ensures, c .before .before .before .before .before .before .before .before .before .before .before .implies .ensures, c .before .before .before .before .before .before .before .before .before .before .before .before .dominates .ensures, c .before .before .before .before .before .before .before .before .before .before .before .before .before .observes .ensures)
+returns c =
+    rw (
+      c .check5 .ensures,
+      c .before .is-present2 .ensures,
+      c .before .before .check4 .ensures,
+      c .before .before .before .check3 .ensures,
+      c .before .before .before .before .check2 .ensures,
+      c .before .before .before .before .before .has .ensures,
+      c .before .before .before .before .before .before .rights-of .ensures,
+      c .before .before .before .before .before .before .before .check .ensures,
+      c .before .before .before .before .before .before .before .before .implies2 .ensures,
+      c .before .before .before .before .before .before .before .before .before .is-present .ensures,
+      c .before .before .before .before .before .before .before .before .before .before .needs-label .ensures,
+      c .before .before .before .before .before .before .before .before .before .before .before .implies .ensures,
+      c .before .before .before .before .before .before .before .before .before .before .before .before .dominates .ensures,
+      c .before .before .before .before .before .before .before .before .before .before .before .before .before .observes .ensures,
+    )
 
 pub early-get-spec : {M : Type 1} → statement M
 early-get-spec =

@@ -1,6 +1,5 @@
 -- `request_checks::checks::early_give` meets its contract.
 -- Assumes nothing.
-use borrow.Author.Needs.{needs}
 use Rattle.request_checks.specs.Stages.{earlyGive}
 use Rattle.request_checks.proofs.checks.early_give.Statement.{statement}
 use Rattle.request_checks.proofs.checks.early_give.Tie as tie
@@ -28,7 +27,16 @@ check-requires-3 c κs = tt
 
 returns : tie.Need-returns
 unfolding earlyGive
-returns c = rw (c .check3 .ensures, c .before .check2 .ensures, c .before .before .check .ensures, c .before .before .before .has .ensures, c .before .before .before .before .rights-of .ensures, c .before .before .before .before .before .before .is-present2 .ensures, c .before .before .before .before .before .before .before .is-present .ensures)
+returns c =
+    rw (
+      c .check3 .ensures,
+      c .before .check2 .ensures,
+      c .before .before .check .ensures,
+      c .before .before .before .has .ensures,
+      c .before .before .before .before .rights-of .ensures,
+      c .before .before .before .before .before .before .is-present2 .ensures,
+      c .before .before .before .before .before .before .before .is-present .ensures,
+    )
 
 pub early-give-spec : {M : Type 1} → statement M
 early-give-spec =

@@ -1,6 +1,5 @@
 -- `request_checks::checks::early_owner` meets its contract.
 -- Assumes nothing.
-use borrow.Author.Needs.{needs}
 use Rattle.request_checks.specs.Stages.{earlyOwner}
 use Rattle.request_checks.proofs.checks.early_owner.Statement.{statement}
 use Rattle.request_checks.proofs.checks.early_owner.Tie as tie

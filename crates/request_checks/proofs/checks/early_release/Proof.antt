@@ -1,6 +1,5 @@
 -- `request_checks::checks::early_release` meets its contract.
 -- Assumes nothing.
-use borrow.Author.Needs.{needs}
 use Rattle.request_checks.specs.Stages.{earlyRelease}
 use Rattle.request_checks.proofs.checks.early_release.Statement.{statement}
 use Rattle.request_checks.proofs.checks.early_release.Tie as tie

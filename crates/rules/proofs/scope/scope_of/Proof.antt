@@ -1,121 +1,93 @@
-use borrow.Author.Needs.{needs}
+-- `rules::scope::scope_of` meets its contract.
+-- Assumes nothing.
 use mathlib.Core.Path.{sym, _∙_}
+use borrow.Author.Needs.{needs}
 use Rattle.rules.specs.Late.{scopeOf}
 use Rattle.rules.proofs.scope.scope_of.Statement.{statement}
 use Rattle.rules.proofs.scope.scope_of.Tie as tie
-use Rattle.rules.proofs.scope.scope_of.Reads as reads
-use Rattle.rules.proofs.scope.scope_of.Lts as lts
-use Rattle.labels.proofs.needs_label.Reads as needs-label-reads
-use Rattle.rules.proofs.scope.over.Reads as over-reads
 
--- src/scope.rt:28:22
 enum-known-q : tie.Need-enum-known-q
 enum-known-q c = search needs
 
--- src/scope.rt:29:23
 cast-low : tie.Need-cast-low
 cast-low c = search needs
 
--- src/scope.rt:30:16
 needs-label-requires : tie.Need-needs-label-requires
 needs-label-requires c κs = search needs
 
--- src/scope.rt:31:27
 add-over : tie.Need-add-over
 add-over c = search needs
 
--- src/scope.rt:31:17
 over-requires : tie.Need-over-requires
 over-requires c κs = search needs
 
--- src/scope.rt:33:17
 over-requires-2 : tie.Need-over-requires-2
 over-requires-2 c κs = search needs
 
--- src/scope.rt:36:38
 enum-told : tie.Need-enum-told
 enum-told c = search needs
 
--- src/scope.rt:36:38
 over-requires-3 : tie.Need-over-requires-3
 over-requires-3 c κs = search needs
 
--- src/scope.rt:37:38
 enum-told-2 : tie.Need-enum-told-2
 enum-told-2 c = search needs
 
--- src/scope.rt:37:38
 over-requires-4 : tie.Need-over-requires-4
 over-requires-4 c κs = search needs
 
--- src/scope.rt:38:41
 enum-told-3 : tie.Need-enum-told-3
 enum-told-3 c = search needs
 
--- src/scope.rt:38:41
 over-requires-5 : tie.Need-over-requires-5
 over-requires-5 c κs = search needs
 
--- src/scope.rt:39:37
 enum-told-4 : tie.Need-enum-told-4
 enum-told-4 c = search needs
 
--- src/scope.rt:39:37
 over-requires-6 : tie.Need-over-requires-6
 over-requires-6 c κs = search needs
 
--- src/scope.rt:40:34
 enum-told-5 : tie.Need-enum-told-5
 enum-told-5 c = search needs
 
--- src/scope.rt:40:34
 over-requires-7 : tie.Need-over-requires-7
 over-requires-7 c κs = search needs
 
--- src/scope.rt:41:42
 enum-told-6 : tie.Need-enum-told-6
 enum-told-6 c = search needs
 
--- src/scope.rt:41:42
 over-requires-8 : tie.Need-over-requires-8
 over-requires-8 c κs = search needs
 
--- src/scope.rt:24:1
 returns : tie.Need-returns
 unfolding scopeOf
 returns c = rw (c .before .before .before .before .q .given .1, sym (c .before .before .needs-label .ensures) ∙ c .before .if1 .taken) (c .over .ensures)
 
--- src/scope.rt:24:1
 returns-2 : tie.Need-returns-2
 unfolding scopeOf
 returns-2 c = rw (c .before .before .before .before .q .given .1, sym (c .before .before .needs-label .ensures) ∙ c .before .if1 .left) (c .over2 .ensures)
 
--- src/scope.rt:24:1
 returns-3 : tie.Need-returns-3
 unfolding scopeOf
 returns-3 c = rw (c .before .enum-told .given .1) (c .over3 .ensures)
 
--- src/scope.rt:24:1
 returns-4 : tie.Need-returns-4
 unfolding scopeOf
 returns-4 c = rw (c .before .enum-told2 .given .1) (c .over4 .ensures)
 
--- src/scope.rt:24:1
 returns-5 : tie.Need-returns-5
 unfolding scopeOf
 returns-5 c = rw (c .before .enum-told3 .given .1) (c .over5 .ensures)
 
--- src/scope.rt:24:1
 returns-6 : tie.Need-returns-6
 unfolding scopeOf
 returns-6 c = rw (c .before .enum-told4 .given .1) (c .over6 .ensures)
 
--- src/scope.rt:24:1
 returns-7 : tie.Need-returns-7
 unfolding scopeOf
 returns-7 c = rw (c .before .enum-told5 .given .1) (c .over7 .ensures)
 
--- src/scope.rt:24:1
 returns-8 : tie.Need-returns-8
 unfolding scopeOf
 returns-8 c = rw (c .before .enum-told6 .given .1) (c .over8 .ensures)

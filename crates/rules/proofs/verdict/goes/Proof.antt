@@ -1,11 +1,11 @@
--- `turns::verdict::goes` meets its contract.
+-- `rules::verdict::goes` meets its contract.
 -- Assumes nothing.
 use mathlib.Core.Path.{ap, _∙_}
 use mathlib.Core.Bool.{Bool, cond}
 use Rattle.model.specs.declared.Decision.the-variants.{Granted, Already}
 use borrow.Author.Needs.{needs}
-use Rattle.turns.proofs.verdict.goes.Statement.{statement}
-use Rattle.turns.proofs.verdict.goes.Tie as tie
+use Rattle.rules.proofs.verdict.goes.Statement.{statement}
+use Rattle.rules.proofs.verdict.goes.Tie as tie
 
 already-requires : tie.Need-already-requires
 already-requires c κs = search needs

@@ -2,8 +2,8 @@
 ghost use mathlib.Core.Path.{_≡_};
 ghost use mathlib.Core.Bool.{cond};
 ghost use Rattle.model.specs.Decisions.{refuses};
 ghost use Rattle.rules.specs.Late.{over, asked};
-ghost use Rattle.turns.specs.Verdicts.{partsSaid, stays, goes, verdictOf};
+ghost use Rattle.rules.specs.Verdicts.{partsSaid, stays, goes, verdictOf};
 use labels::check;
 use labels::refuses;
 use model::Decision;
@@ -17,9 +17,9 @@ use records::changed;
 use request_checks::Parts;
 use request_checks::early;
 use request_checks::parts_of;
-use rules::granted;
-use rules::scope_of;
-use rules::simple_where;
+use crate::granted;
+use crate::scope::scope_of;
+use crate::scope::simple_where;
 use star::star_broken;
 
 // The answer and the record where nothing more refuses; the star property is still to be asked of the subjects from low

@@ -1,13 +1,13 @@
--- `turns::verdict::decide` meets its contract.
+-- `rules::verdict::decide` meets its contract.
 -- Assumes nothing.
 use mathlib.Core.Path.{sym, ap, _∙_}
 use Rattle.model.specs.Decisions.{refuses}
 use Rattle.model.proofs.Tests.{cond-true, cond-false}
 use Rattle.request_checks.specs.Stages.{early}
-use Rattle.turns.specs.Verdicts.{stays, verdictOf}
+use Rattle.rules.specs.Verdicts.{stays, verdictOf}
 use borrow.Author.Needs.{needs}
-use Rattle.turns.proofs.verdict.decide.Statement.{statement}
-use Rattle.turns.proofs.verdict.decide.Tie as tie
+use Rattle.rules.proofs.verdict.decide.Statement.{statement}
+use Rattle.rules.proofs.verdict.decide.Tie as tie
 
 enum-told : tie.Need-enum-told
 enum-told c = search needs

@@ -25,11 +25,11 @@ use Rattle.model.proofs.Requests.{decode-range}
 use Rattle.request_checks.specs.declared.parts.Parts.{Parts}
 use Rattle.request_checks.specs.Parts.{actor, other, partsOf}
 use Rattle.request_checks.specs.Stages.{early, late}
 use Rattle.rules.specs.Late.{over, scopeOf, asked}
 use Rattle.rules.proofs.Late.{late-none}
 use Rattle.rules.proofs.Answered.{Numbers, numbers, late-is, early-refused, late-refused, both-granted}
-use Rattle.turns.specs.declared.verdict.Verdict.{Verdict}
-use Rattle.turns.specs.Verdicts.{partsSaid, stays, goes, verdictOf}
+use Rattle.rules.specs.declared.verdict.Verdict.{Verdict}
+use Rattle.rules.specs.Verdicts.{partsSaid, stays, goes, verdictOf}
 
 -- the numbers of what was said are in range
 abbrev pub SaidInRange : Decoded → Type 0
@@ -113,11 +113,15 @@ turned-by said m ob p v r e f g =
     (turned said m ob r (f ∙ ap (λ (p : Parts). object m (p .object)) e))
 
 -- what a turn leaves is the response to its bytes
+pub responded : (b : List ℕ) (said : Decoded) (m : Monitor) (d : Decision) (n : Monitor) → said ≡ decode b → record { decision = d; monitor = n } ≡ carryOut said m
+    → record { decision = d; monitor = n } ≡ respond b m
+unfolding respond
+responded b said m d n e p = p ∙ ap (λ (k : Decoded). carryOut k m) e
+
 pub settled : (b : List ℕ) (said : Decoded) (m n : Monitor) (d : Decision) (r : ℕ) → said ≡ decode b → record { decision = d; monitor = n } ≡ carryOut said m → r ≡ number d
     → (n ≡ respond b m .monitor) × (r ≡ reply b m)
-unfolding respond
 settled b said m n d r e p q =
-    let w = p ∙ ap (λ (k : Decoded). carryOut k m) e in
+    let w = responded b said m d n e p in
     (ap (λ (k : Response). k .monitor) w, q ∙ ap (λ (k : Response). number (k .decision)) w)
 
 -- what bytes say is in range, and so are the numbers that it names

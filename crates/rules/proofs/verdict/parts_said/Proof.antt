@@ -1,10 +1,10 @@
--- `turns::verdict::parts_said` meets its contract.
+-- `rules::verdict::parts_said` meets its contract.
 -- Assumes nothing.
 use mathlib.Core.Path.{sym, ap, _∙_}
-use Rattle.turns.specs.Verdicts.{partsSaid}
+use Rattle.rules.specs.Verdicts.{partsSaid}
 use borrow.Author.Needs.{needs}
-use Rattle.turns.proofs.verdict.parts_said.Statement.{statement}
-use Rattle.turns.proofs.verdict.parts_said.Tie as tie
+use Rattle.rules.proofs.verdict.parts_said.Statement.{statement}
+use Rattle.rules.proofs.verdict.parts_said.Tie as tie
 
 enum-told : tie.Need-enum-told
 enum-told c = search needs

@@ -13,8 +13,8 @@ use Rattle.model.specs.Rules.{changed, already}
 use Rattle.request_checks.specs.declared.parts.Parts.{Parts}
 use Rattle.request_checks.specs.Parts.{parts, partsOf}
 use Rattle.request_checks.specs.Stages.{early}
 use Rattle.rules.specs.Late.{scopeOf}
-use Rattle.turns.specs.declared.verdict.Verdict.{Verdict}
+use Rattle.rules.specs.declared.verdict.Verdict.{Verdict}
 
 -- whom a byte string names
 abbrev pub partsSaid : Decoded → Parts

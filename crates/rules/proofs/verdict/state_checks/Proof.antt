@@ -1,10 +1,10 @@
--- `turns::verdict::state_checks` meets its contract.
+-- `rules::verdict::state_checks` meets its contract.
 -- Assumes nothing.
 use Rattle.rules.specs.Late.{over}
 use Rattle.rules.proofs.Answered.{asked-by}
 use borrow.Author.Needs.{needs}
-use Rattle.turns.proofs.verdict.state_checks.Statement.{statement}
-use Rattle.turns.proofs.verdict.state_checks.Tie as tie
+use Rattle.rules.proofs.verdict.state_checks.Statement.{statement}
+use Rattle.rules.proofs.verdict.state_checks.Tie as tie
 
 simple-where-requires : tie.Need-simple-where-requires
 simple-where-requires c κs = search needs
