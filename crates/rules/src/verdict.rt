@@ -4,6 +4,9 @@ ghost use mathlib.Core.Bool.{cond};
 ghost use Rattle.model.specs.Decisions.{refuses};
 ghost use Rattle.rules.specs.Late.{over, asked};
 ghost use Rattle.rules.specs.Verdicts.{partsSaid, stays, goes, verdictOf};
+use crate::granted;
+use crate::scope::scope_of;
+use crate::scope::simple_where;
 use labels::check;
 use labels::refuses;
 use model::Decision;
@@ -17,9 +20,6 @@ use records::changed;
 use request_checks::Parts;
 use request_checks::early;
 use request_checks::parts_of;
-use crate::granted;
-use crate::scope::scope_of;
-use crate::scope::simple_where;
 use star::star_broken;
 
 // The answer and the record where nothing more refuses; the star property is still to be asked of the subjects from low
