@@ -12,8 +12,8 @@ use Rattle.replay.proofs.program.Lts as lts
 use Rattle.image.proofs.read_table.Reads as read-table-reads
 use Rattle.labels.proofs.number.Reads as number-reads
 use Rattle.labels.proofs.refuses.Reads as refuses-reads
-use Rattle.replay.proofs.lines.put_line.Reads as put-line-reads
-use Rattle.replay.proofs.lines.put_lines.Reads as put-lines-reads
+use Rattle.replay.proofs.put_line.Reads as put-line-reads
+use Rattle.replay.proofs.put_lines.Reads as put-lines-reads
 use Rattle.turns.proofs.piece_count.Reads as piece-count-reads
 use Rattle.turns.proofs.run.Reads as run-reads
 use Rattle.turns.proofs.smaller.Reads as smaller-reads

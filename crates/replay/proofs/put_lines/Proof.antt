@@ -1,4 +1,4 @@
--- `replay::lines::put_lines` meets its contract.
+-- `replay::put_lines` meets its contract.
 -- Assumes nothing.
 use Prim.Native.Nat.{_-_}
 use mathlib.Core.Path.{_≡_, ap, _∙_}
@@ -9,11 +9,11 @@ use Rattle.bits.specs.Bits.{join}
 use Rattle.model.specs.Program.{line}
 use Rattle.replay.specs.Lines.{put}
 use Rattle.replay.proofs.Putting.{Lining, lining-start, lining-more}
-use Rattle.replay.proofs.lines.put_lines.Statement.{statement}
-use Rattle.replay.proofs.lines.put_lines.Tie as tie
-use Rattle.replay.proofs.lines.put_lines.Reads as reads
-use Rattle.replay.proofs.lines.put_lines.Lts as lts
-use Rattle.replay.proofs.lines.put_line.Reads as put-line-reads
+use Rattle.replay.proofs.put_lines.Statement.{statement}
+use Rattle.replay.proofs.put_lines.Tie as tie
+use Rattle.replay.proofs.put_lines.Reads as reads
+use Rattle.replay.proofs.put_lines.Lts as lts
+use Rattle.replay.proofs.put_line.Reads as put-line-reads
 
 abbrev Inv-loop : tie.InvT-loop
 Inv-loop out₀ numbers count at₀ i₀ out at i = Lining out₀ numbers count out at i

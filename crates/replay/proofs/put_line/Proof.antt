@@ -1,14 +1,14 @@
--- `replay::lines::put_line` meets its contract.
+-- `replay::put_line` meets its contract.
 -- Assumes nothing.
 use borrow.Author.Needs.{needs}
 use native.Mathlib.Omega.{arith}
 use Prim.Native.Nat.{_+_, _/_, _%_}
 use lib.ListN.{set, length-set}
 use Rattle.replay.proofs.Putting.{short-line, long-line}
-use Rattle.replay.proofs.lines.put_line.Statement.{statement}
-use Rattle.replay.proofs.lines.put_line.Tie as tie
-use Rattle.replay.proofs.lines.put_line.Reads as reads
-use Rattle.replay.proofs.lines.put_line.Lts as lts
+use Rattle.replay.proofs.put_line.Statement.{statement}
+use Rattle.replay.proofs.put_line.Tie as tie
+use Rattle.replay.proofs.put_line.Reads as reads
+use Rattle.replay.proofs.put_line.Lts as lts
 
 add-out : tie.Need-add-out
 add-out c = search needs
