@@ -1,6 +1,7 @@
 //! Benchmark: the proved monitor beside the second implementation, on the same loads in one run.
 //!
-//! `cargo run --release -p bench` from host/. The two are timed in turns, each load several times; what is printed are
+//! `cargo run --release -p bench` from host/; with a word behind it, as `-- release`, only the loads whose names have it.
+//! The two are timed in turns, each load several times; what is printed are
 //! medians and their ratio, above 1 where the proved monitor is ahead. Before each timing the reply buffer is cleared,
 //! for both alike, outside the time taken.
 
@@ -125,10 +126,10 @@ fn run_reference(load: &Load, star: Star, replies: &mut [u8]) {
     }
 }
 
-fn replay() {
+fn replay(wanted: &str) {
     println!("replay: millions of requests per second, and the ratio to each way of the star check");
     println!("{:<34} {:>8} {:>8} {:>8} {:>9} {:>9}", "load", "circmon", "plain", "listed", "to plain", "to listed");
-    for load in loads() {
+    for load in loads().into_iter().filter(|load| load.name.contains(wanted)) {
         let count = load.requests.len() / REQUEST_BYTES;
         let (mut proved, mut plain, mut listed) = (Vec::new(), Vec::new(), Vec::new());
         let mut replies = [vec![0; count], vec![0; count], vec![0; count]];
@@ -188,6 +189,11 @@ fn images() {
 }
 
 fn main() {
-    replay();
-    images();
+    match std::env::args().nth(1) {
+        Some(wanted) => replay(&wanted),
+        None => {
+            replay("");
+            images();
+        }
+    }
 }

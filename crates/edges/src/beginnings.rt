@@ -1,0 +1,75 @@
+// The edges of tables and images: lengths, and a bit that is turned over. The comment behind each has the number that 01-scope.md
+// gives it, and why.
+ghost use Prim.Native.Nat.{_≤_};
+use crate::saying::answered;
+use crate::saying::say_bytes;
+use crate::saying::say_set;
+use model::Monitor;
+use writing::write_image;
+
+// The bytes with one bit turned over, where it is not bit 0. Bits are counted from the start, most significant first.
+fn turned(before: [u8; 1275], bit: usize) -> [u8; 1275] {
+    let mut bytes = before;
+    let at = bit / 8;
+    if bit != 0 && at < 1275 {
+        bytes[at] = bytes[at] ^ (128 >> (bit % 8));
+    }
+    bytes
+}
+
+// The line up to its number.
+fn describe(words: &[u8], length: usize, bit: usize) {
+    say_bytes(words, length);
+    say_set(b", turned over bit ", bit as u64);
+}
+
+// A table in which subject 0 has (1, 0001), subject 1 (3, 0003), subject 2 (0, 0000), as in table W, and subject 15 (15, FFFF); zeros
+// behind it. Subject 15's record is bits 315 to 335: enrolled weighs 16 in byte 39, the class is the rest of that byte, then the needs.
+fn enrolment() -> [u8; 1275] {
+    let mut bytes = [0u8; 1275];
+    bytes[0] = 0x88;
+    bytes[2] = 0x0c;
+    bytes[3] = 0xc0;
+    bytes[5] = 0xe0;
+    bytes[39] = 0x1f;
+    bytes[40] = 0xff;
+    bytes[41] = 0xff;
+    bytes
+}
+
+// Reads so many bytes from the start of the table.
+fn table(length: usize, bit: usize) -> Monitor
+    requires { ⌜ length ≤ 1275 ⌝ }
+{
+    let bytes = turned(enrolment(), bit);
+    describe(b"table of ", length, bit);
+    answered(image::read_table(&bytes[0..length]))
+}
+
+// Handed back: the monitor of the table that is accepted.
+pub fn tables() -> Monitor {
+    table(41, 0); // 10: another length
+    table(43, 0); // 10: another length
+    table(42, 294 + 20); // 11: the last bit of subject 14's record, 294 to 314; subject 14 is absent
+    table(42, 0) // 0
+}
+
+// Reads so many bytes from the start of the monitor's image, which has a zero byte behind it.
+fn image(m: Monitor, length: usize, bit: usize)
+    requires { ⌜ length ≤ 1275 ⌝ }
+{
+    let mut written = [0u8; 1275];
+    write_image(m, &mut written);
+    let bytes = turned(written, bit);
+    describe(b"image of ", length, bit);
+    answered(image::read_image(&bytes[0..length]));
+}
+
+// Object 0 is live and owned by subject 0, and no other object is live.
+pub fn images(m: Monitor) {
+    image(m, 1273, 0); // 10: another length
+    image(m, 1274, 0); // 0: written and read back
+    image(m, 1275, 0); // 10: another length
+    image(m, 1274, 8 * 1274 - 1); // 11: the last bit of all is in the record of object 63, which is not live
+    image(m, 1274, 336 + 1); // 12: the first owner bit, behind the live bit, of object 0: the owner becomes 8, who is absent
+}

@@ -1,0 +1,80 @@
+// The edges of a request: subjects, objects, modes, lengths, kinds, and fields that are not used. The comment behind each request
+// has the reply that 01-scope.md gives it, and why.
+ghost use Prim.Native.Nat.{_≤_};
+use crate::asking::ask;
+use crate::asking::create;
+use crate::asking::get;
+use crate::asking::give;
+use crate::asking::release;
+use crate::saying::answered;
+use crate::saying::say_bytes;
+use model::Monitor;
+
+// Subjects 15 and 16 as the actor and as the other subject, on a monitor without a live object. Subjects 0, 1, 2 and 15 are enrolled.
+// Handed back: the monitor in which subject 0 owns object 0, unlabelled, and has r, w, a and e on it.
+pub fn subjects(fresh: Monitor) -> Monitor {
+    create(fresh, 15, 0, 0); // 0: enrolled, and the object is not live
+    create(fresh, 16, 0, 0); // 2: an actor above 15
+    create(fresh, 14, 0, 0); // 3: well formed, but not enrolled
+    let one = create(fresh, 0, 0, 4); // 0: a create may have mode 4
+    give(one, 0, 15, 0, 1); // 0: subject 0 is the owner and has r, subject 15 has it not yet
+    give(one, 0, 16, 0, 1); // 2: another subject above 15
+    give(one, 0, 14, 0, 1); // 3: well formed, but the other subject is not enrolled
+    one
+}
+
+// Objects 63 and 64, on a monitor without a live object.
+pub fn objects(fresh: Monitor) {
+    create(fresh, 15, 63, 0); // 0: the last object, not live
+    create(fresh, 15, 64, 0); // 2: an object above 63
+}
+
+// Modes 4, 5 and 0, where subject 0 has e on object 0, which has no label. Checks 7, 8 and 9 are not made for e.
+pub fn modes(one: Monitor) {
+    let running = get(one, 0, 0, 4); // 0: the right is there, the access was not held
+    let done = release(running, 0, 0, 4); // 0: it was held
+    release(done, 0, 0, 4); // 1: it was not held any more
+    release(running, 0, 0, 5); // 2: no such mode
+    get(one, 0, 0, 5); // 2: no such mode
+    get(one, 0, 0, 0); // 2: a get has mode 1 to 4
+    create(one, 0, 1, 5); // 2: a create has mode 0 or 4
+}
+
+// The first bytes of 50 00 00 00 00 00 00. Six of them are kind 5 with all other fields 0.
+fn cut(fresh: Monitor, length: usize)
+    requires { ⌜ length ≤ 7 ⌝ }
+{
+    let bytes = [0x50u8, 0, 0, 0, 0, 0, 0];
+    say_bytes(b"create, by subject 0, object 0, in ", length);
+    answered(rules::request(fresh, &bytes[0..length]));
+}
+
+// Requests of 0, 5, 6 and 7 bytes, on a monitor without a live object.
+pub fn lengths(fresh: Monitor) {
+    cut(fresh, 0); // 2: not six bytes
+    cut(fresh, 5); // 2: not six bytes
+    cut(fresh, 6); // 0: subject 0 is enrolled, and the object is not live
+    cut(fresh, 7); // 2: not six bytes
+}
+
+// Kinds 0 and 8 beside the first and the last kind, where subject 0 owns object 0, which has no label. The numbers of a request are
+// kind, actor, other subject, object, mode, class, needs, spare.
+// Handed back: the monitor in which object 0 has class 0 and no needs.
+pub fn kinds(one: Monitor) -> Monitor {
+    ask(one, 0, 0, 0, 0, 1, 0, 0, 0); // 2: no such kind; the mode is one of a get
+    ask(one, 1, 0, 0, 0, 1, 0, 0, 0); // 7: the right r is there, and no label
+    let labelled = ask(one, 7, 0, 0, 0, 0, 0, 0, 0); // 0: no label differs from class 0 without needs; nothing is held
+    ask(one, 8, 0, 0, 0, 0, 0, 0, 0); // 2: no such kind; the mode is that of a change of level
+    labelled
+}
+
+// Each field that a get does not use with its lowest bit set, and then the same get without them. Subject 0, cleared for class 1 and
+// need 0, has r on object 0, which has class 0 and no needs.
+// Handed back: the monitor in which subject 0 holds r on object 0.
+pub fn unused(labelled: Monitor) -> Monitor {
+    ask(labelled, 1, 0, 1, 0, 1, 0, 0, 0); // 2: the other subject
+    ask(labelled, 1, 0, 0, 0, 1, 1, 0, 0); // 2: the class
+    ask(labelled, 1, 0, 0, 0, 1, 0, 1, 0); // 2: the needs
+    ask(labelled, 1, 0, 0, 0, 1, 0, 0, 1); // 2: spare
+    ask(labelled, 1, 0, 0, 0, 1, 0, 0, 0) // 0: right and label are there, the clearance dominates, nothing else is held
+}
