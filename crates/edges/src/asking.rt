@@ -1,9 +1,9 @@
 // Requests of six bytes, each with its line.
 use crate::packing::request_bytes;
-use crate::saying::answered;
-use crate::saying::say;
-use crate::saying::say_set;
 use model::Monitor;
+use saying::answered;
+use saying::say;
+use saying::say_set;
 
 // What the kind is called.
 fn name(kind: u64) {

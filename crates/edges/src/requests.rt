@@ -1,14 +1,14 @@
 // The edges of a request: subjects, objects, modes, lengths, kinds, and fields that are not used. The comment behind each request
-// has the reply that 01-scope.md gives it, and why.
+// has the reply that the scope gives it, and why.
 ghost use Prim.Native.Nat.{_≤_};
 use crate::asking::ask;
 use crate::asking::create;
 use crate::asking::get;
 use crate::asking::give;
 use crate::asking::release;
-use crate::saying::answered;
-use crate::saying::say_bytes;
 use model::Monitor;
+use saying::answered;
+use saying::say_bytes;
 
 // Subjects 15 and 16 as the actor and as the other subject, on a monitor without a live object. Subjects 0, 1, 2 and 15 are enrolled.
 // Handed back: the monitor in which subject 0 owns object 0, unlabelled, and has r, w, a and e on it.

@@ -1,11 +1,11 @@
--- `edges::buffers::count` is safe and ends. The loop's invariant: `i` is at most the length, and `n` is at most `i`.
+-- `edges_image::buffers::count` is safe and ends. The loop's invariant: `i` is at most the length, and `n` is at most `i`.
 -- Assumes nothing.
 use Prim.Native.Nat.{_≤_, _-_}
 use mathlib.Core.Logic.{⊎-elim}
 use native.Mathlib.Omega.{arith}
 use lib.ListN.{length}
-use Rattle.edges.proofs.buffers.count.Statement.{statement}
-use Rattle.edges.proofs.buffers.count.Tie as tie
+use Rattle.edges_image.proofs.buffers.count.Statement.{statement}
+use Rattle.edges_image.proofs.buffers.count.Tie as tie
 
 abbrev Inv-loop : tie.InvT-loop
 Inv-loop bytes n₀ i₀ n i = (i ≤ length bytes) × (n ≤ i)

@@ -1,8 +1,8 @@
 // The edges of a lent buffer.
-use crate::saying::answer;
-use crate::saying::end;
-use crate::saying::say_bytes;
 use model::Monitor;
+use saying::answer;
+use saying::end;
+use saying::say_bytes;
 use writing::write_image;
 
 fn wide(x: u8) -> u64 {

@@ -1,10 +1,11 @@
-// The edges of tables and images: lengths, and a bit that is turned over. The comment behind each has the number that 01-scope.md
+// The edges of tables and images: lengths, and a bit that is turned over. The comment behind each has the number that the scope
 // gives it, and why.
 ghost use Prim.Native.Nat.{_≤_};
-use crate::saying::answered;
-use crate::saying::say_bytes;
-use crate::saying::say_set;
 use model::Monitor;
+use saying::answered;
+use saying::enrolment;
+use saying::say_bytes;
+use saying::say_set;
 use writing::write_image;
 
 // The bytes with one bit turned over, where it is not bit 0. Bits are counted from the start, most significant first.
@@ -21,20 +22,6 @@ fn turned(before: [u8; 1275], bit: usize) -> [u8; 1275] {
 fn describe(words: &[u8], length: usize, bit: usize) {
     say_bytes(words, length);
     say_set(b", turned over bit ", bit as u64);
-}
-
-// A table in which subject 0 has (1, 0001), subject 1 (3, 0003), subject 2 (0, 0000), as in table W, and subject 15 (15, FFFF); zeros
-// behind it. Subject 15's record is bits 315 to 335: enrolled weighs 16 in byte 39, the class is the rest of that byte, then the needs.
-fn enrolment() -> [u8; 1275] {
-    let mut bytes = [0u8; 1275];
-    bytes[0] = 0x88;
-    bytes[2] = 0x0c;
-    bytes[3] = 0xc0;
-    bytes[5] = 0xe0;
-    bytes[39] = 0x1f;
-    bytes[40] = 0xff;
-    bytes[41] = 0xff;
-    bytes
 }
 
 // Reads so many bytes from the start of the table.

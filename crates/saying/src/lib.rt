@@ -1,4 +1,4 @@
-// The parts of a line.
+// The parts of a line that the programs over the scope's edges print, and the table that they begin with.
 use model::Decision;
 use model::Monitor;
 use model::Response;
@@ -38,4 +38,18 @@ pub fn answered(r: Response) -> Monitor {
     let d = r.decision;
     answer(d);
     r.monitor
+}
+
+// A table in which subject 0 has (1, 0001), subject 1 (3, 0003), subject 2 (0, 0000), as in table W, and subject 15 (15, FFFF); zeros
+// behind it. Subject 15's record is bits 315 to 335: enrolled weighs 16 in byte 39, the class is the rest of that byte, then the needs.
+pub fn enrolment() -> [u8; 1275] {
+    let mut bytes = [0u8; 1275];
+    bytes[0] = 0x88;
+    bytes[2] = 0x0c;
+    bytes[3] = 0xc0;
+    bytes[5] = 0xe0;
+    bytes[39] = 0x1f;
+    bytes[40] = 0xff;
+    bytes[41] = 0xff;
+    bytes
 }
