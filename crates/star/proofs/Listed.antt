@@ -1,79 +1,101 @@
 -- Objects that pass a test, listed by their numbers in an array; the star property of one subject by two such lists.
 -- Assumes nothing.
-use Prim.Native.Nat.{ℕ, zero, suc, _+_, _<_, _≤_}
+use Prim.Native.Nat.{ℕ, zero, suc, _+_, _<_, _≤_, min}
 use native.Mathlib.Omega.{arith}
 use native.Mathlib.Nat.{eq-or-lt-of-le}
 use mathlib.Core.Path.{_≡_, refl, sym, ap, ap₂, _∙_}
 use mathlib.Core.Logic.{⊎-elim}
-use mathlib.Core.Bool.{Bool, true, false}
+use mathlib.Core.Bool.{Bool, true, false, not}
 use mathlib.Core.List.{List, [], _∷_}
 use lib.ListN.{length, getD, set, length-set}
+use lib.Dec.{eqb}
+use borrow.Author.Tests.{eqb-true}
 use lib.Seq.{getD-set-same, getD-set-other}
 use Rattle.bits.specs.Bits.{bit}
 use Rattle.model.specs.declared.Label.{Label}
 use Rattle.model.specs.declared.Object.{Object}
-use Rattle.model.specs.Tests.{allOf}
+use Rattle.model.specs.Tests.{allBelow, allOf}
 use Rattle.model.specs.Levels.{dominates}
-use Rattle.model.specs.Modes.{anyObserves, anyAlters}
+use Rattle.model.specs.Modes.{anyObserves, anyAlters, anyNeedsLabel}
 use Rattle.model.specs.State.{heldBy}
 use Rattle.model.specs.Rules.{starFor, starFrom, starPair}
-use Rattle.model.proofs.Tests.{split, apart, and-both, implies-in, implies-out, all-at}
+use Rattle.model.proofs.Tests.{split, apart, and-both, or-left, or-right, not-on, cond-all, implies-in, implies-out, below-out, all-at}
+use Rattle.star.specs.Idle.{free, nothingHeld, idle}
 
--- the first n numbers of a are those below q that pass f
-pub record Listed (f : ℕ → Bool) (a : List ℕ) (n q : ℕ) : Type 0 where
+-- q numbers were looked at, `from 0` the first; the first n numbers of a are those that pass f
+pub record Listed (f : ℕ → Bool) (from : ℕ → ℕ) (a : List ℕ) (n q : ℕ) : Type 0 where
   pub whole : length a ≡ 64
   pub few : n ≤ q
-  pub sound : (j : ℕ) → j < n → (getD a j 0 < q) × (f (getD a j 0) ≡ true)
-  pub complete : (k : ℕ) → k < q → f k ≡ true → (j : ℕ) × ((j < n) × (getD a j 0 ≡ k))
+  pub sound : (j : ℕ) → j < n → (getD a j 0 < 64) × (f (getD a j 0) ≡ true)
+  pub complete : (k : ℕ) → k < q → f (from k) ≡ true → (j : ℕ) × ((j < n) × (getD a j 0 ≡ from k))
 
-pub listed-none : (f : ℕ → Bool) (a : List ℕ) → length a ≡ 64 → Listed f a 0 0
-listed-none f a e =
+pub listed-none : (f : ℕ → Bool) (from : ℕ → ℕ) (a : List ℕ) → length a ≡ 64 → Listed f from a 0 0
+listed-none f from a e =
     record { whole = e; few = omega arith; sound = λ j h. absurd (omega arith); complete = λ k h t. absurd (omega arith) }
 
-module _ (f : ℕ → Bool) (a : List ℕ) (n q : ℕ) (h : q < 64) (L : Listed f a n q) where
-  kept-at : (j : ℕ) → j < n → getD (set a n q) j 0 ≡ getD a j 0
-  kept-at j w = getD-set-other a n j q 0 (λ e. absurd (omega arith))
+module _ (f : ℕ → Bool) (from : ℕ → ℕ) (a : List ℕ) (n q : ℕ) (h : q < 64) (b : from q < 64) (L : Listed f from a n q) where
+  kept-at : (j : ℕ) → j < n → getD (set a n (from q)) j 0 ≡ getD a j 0
+  kept-at j w = getD-set-other a n j (from q) 0 (λ e. absurd (omega arith))
 
-  new-at : getD (set a n q) n 0 ≡ q
-  new-at = getD-set-same a n q 0 (omega (arith, L .whole, L .few))
+  new-at : getD (set a n (from q)) n 0 ≡ from q
+  new-at = getD-set-same a n (from q) 0 (omega (arith, L .whole, L .few))
 
   -- what was listed is listed still
-  sound-still : (j : ℕ) → j < n → (getD (set a n q) j 0 < q + 1) × (f (getD (set a n q) j 0) ≡ true)
+  sound-still : (j : ℕ) → j < n → (getD (set a n (from q)) j 0 < 64) × (f (getD (set a n (from q)) j 0) ≡ true)
   sound-still j z = (omega (arith, kept-at j z, L .sound j z .0), ap f (kept-at j z) ∙ L .sound j z .1)
 
-  complete-still : (m k : ℕ) → n ≤ m → k < q → f k ≡ true → (j : ℕ) × ((j < m) × (getD (set a n q) j 0 ≡ k))
+  complete-still : (m k : ℕ) → n ≤ m → k < q → f (from k) ≡ true → (j : ℕ) × ((j < m) × (getD (set a n (from q)) j 0 ≡ from k))
   complete-still m k e z u = let s = L .complete k z u in (s .0, (omega (arith, s .1 .0), kept-at (s .0) (s .1 .0) ∙ s .1 .1))
 
   -- one more number is looked at: stored in any case, and counted where it passes
-  pub listed-more : (v : ℕ) → v ≡ bit (f q) → Listed f (set a n q) (n + v) (q + 1)
+  pub listed-more : (v : ℕ) → v ≡ bit (f (from q)) → Listed f from (set a n (from q)) (n + v) (q + 1)
   listed-more v e =
-      split (f q)
+      split (f (from q))
       (λ t. let one : v ≡ 1 = e ∙ ap bit t in
       record {
-        whole = length-set a n q ∙ L .whole;
+        whole = length-set a n (from q) ∙ L .whole;
         few = omega (arith, L .few);
         sound = λ j w.
             ⊎-elim
-            (λ (z : j ≡ n). let g : getD (set a n q) j 0 ≡ q = ap (λ (i : ℕ). getD (set a n q) i 0) z ∙ new-at in (omega (arith, g), ap f g ∙ t))
+            (λ (z : j ≡ n). let g : getD (set a n (from q)) j 0 ≡ from q = ap (λ (i : ℕ). getD (set a n (from q)) i 0) z ∙ new-at in (omega (arith, g), ap f g ∙ t))
             (λ (z : j < n). sound-still j z)
             (eq-or-lt-of-le {n = j} {m = n} (omega arith));
         complete = λ k w u.
             ⊎-elim
-            (λ (z : k ≡ q). (n, (omega arith, new-at ∙ sym z)))
+            (λ (z : k ≡ q). (n, (omega arith, new-at ∙ sym (ap from z))))
             (λ (z : k < q). complete-still (n + v) k (omega arith) z u)
             (eq-or-lt-of-le {n = k} {m = q} (omega arith));
       })
       (λ t. let none : v ≡ 0 = e ∙ ap bit t in
       record {
-        whole = length-set a n q ∙ L .whole;
+        whole = length-set a n (from q) ∙ L .whole;
         few = omega (arith, L .few);
         sound = λ j w. sound-still j (omega arith);
         complete = λ k w u.
             ⊎-elim
-            (λ (z : k ≡ q). apart (sym (ap f z) ∙ u) t)
+            (λ (z : k ≡ q). apart (sym (ap (λ (i : ℕ). f (from i)) z) ∙ u) t)
             (λ (z : k < q). complete-still (n + v) k (omega arith) z u)
             (eq-or-lt-of-le {n = k} {m = q} (omega arith));
       })
+
+-- of all 64 objects: by their own numbers, or out of a list that leaves out none that passes
+abbrev pub itself : ℕ → ℕ
+itself k = k
+
+abbrev pub out-of : List ℕ → ℕ → ℕ
+out-of a k = getD a k 0
+
+pub listed-all : (f g : ℕ → Bool) (b a : List ℕ) (n r : ℕ) → ((k : ℕ) → g k ≡ true → f k ≡ true) → Listed f itself b n 64 → Listed g (out-of b) a r n → Listed g itself a r 64
+listed-all f g b a n r w B A =
+    record {
+      whole = A .whole;
+      few = omega (arith, A .few, B .few);
+      sound = A .sound;
+      complete = λ k h t.
+          let i = B .complete k h (w k t) in
+          let j = A .complete (i .0) (i .1 .0) (ap g (i .1 .1) ∙ t) in
+          (j .0, (j .1 .0, j .1 .1 ∙ i .1 .1));
+    }
 
 pub bit-small : (b : Bool) → bit b ≤ 1
 bit-small true = omega arith
@@ -91,9 +113,35 @@ readBy s l k = anyObserves (heldBy (getD l k blank) s)
 abbrev pub alteredBy : ℕ → List Object → ℕ → Bool
 alteredBy s l k = anyAlters (heldBy (getD l k blank) s)
 
+-- the objects that are not passed over
+abbrev pub busyFor : ℕ → ℕ → List Object → ℕ → Bool
+busyFor low end l k = not (idle (getD l k blank .held) low end)
+
 -- the label of the object that is listed at j in one list, and at i in the other
 abbrev pub labelAt : List Object → List ℕ → ℕ → Label
 labelAt l a j = getD l (getD a j 0) blank .label
+
+-- an idle row has nothing of a subject that is asked about
+idle-free : (row : List ℕ) (low end s : ℕ) → low ≤ s → s < end → end ≤ 16 → idle row low end ≡ true → free row s ≡ true
+unfolding idle nothingHeld
+idle-free row low end s g h w =
+    cond-all (λ (b : Bool). b ≡ true → free row s ≡ true) (eqb (min low 15 + 1) end) (free row (min low 15)) (allBelow 16 (free row))
+    (λ e t. let one : min low 15 + 1 ≡ end = eqb-true _ _ e in let z : s ≡ min low 15 = omega arith in ap (free row) z ∙ t)
+    (λ e t. below-out 16 (free row) t s (omega arith))
+
+-- what a subject reads or alters is not passed over
+module _ (low end : ℕ) (l : List Object) (s : ℕ) (g : low ≤ s) (h : s < end) (w : end ≤ 16) (k : ℕ) where
+  held-busy : anyNeedsLabel (heldBy (getD l k blank) s) ≡ true → busyFor low end l k ≡ true
+  held-busy t =
+      split (idle (getD l k blank .held) low end)
+      (λ e. apart t (not-on _ (idle-free (getD l k blank .held) low end s g h w e)))
+      (λ e. ap not e)
+
+  pub read-busy : readBy s l k ≡ true → busyFor low end l k ≡ true
+  read-busy t = held-busy (or-left (readBy s l k) (alteredBy s l k) t)
+
+  pub altered-busy : alteredBy s l k ≡ true → busyFor low end l k ≡ true
+  altered-busy t = held-busy (or-right (readBy s l k) (alteredBy s l k) t)
 
 -- a test passes at each element, where it passes at each index below the length
 all-below : {A : Type 0} (f : A → Bool) (d : A) (l : List A) → ((k : ℕ) → k < length l → f (getD l k d) ≡ true) → allOf f l ≡ true
@@ -101,7 +149,7 @@ all-below f d [] h = refl
 all-below f d (x ∷ xs) h = and-both (h zero (omega arith)) (all-below f d xs (λ k w. h (suc k) (omega arith)))
 
 module _ (s : ℕ) (l : List Object) (n : length l ≡ 64) (read altered : List ℕ) (r a : ℕ)
-    (R : Listed (readBy s l) read r 64) (A : Listed (alteredBy s l) altered a 64) where
+    (R : Listed (readBy s l) itself read r 64) (A : Listed (alteredBy s l) itself altered a 64) where
   -- every listed pair is in order
   pub star-listed : ((i : ℕ) → i < r → (j : ℕ) → j < a → dominates (labelAt l altered j) (labelAt l read i) ≡ true) → starFor s l ≡ true
   unfolding starFor starFrom starPair

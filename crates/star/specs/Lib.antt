@@ -1,2 +1,3 @@
--- The star property over some of the subjects.
+-- The star property over some of the subjects, and the objects that it passes over.
 pub mod Between
+pub mod Idle

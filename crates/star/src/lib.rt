@@ -5,7 +5,9 @@ ghost use Prim.Native.Nat.{min};
 ghost use Rattle.bits.specs.Bits.{bit};
 ghost use Rattle.model.specs.Rules.{simpleAll};
 ghost use Rattle.star.specs.Between.{starBetween};
+ghost use Rattle.star.specs.Idle.{nothingHeld, idle};
 use labels::any_alters;
+use labels::any_needs_label;
 use labels::any_observes;
 use labels::dominates;
 use labels::implies;
@@ -25,13 +27,48 @@ fn smaller(a: usize, b: usize) -> usize
     if a < b { a } else { b }
 }
 
+// Nobody holds r, w or a in the row. Every set is looked at, without a branch: sixteen at once are quicker than up to the first.
+fn nothing_held(row: [u8; 16]) -> bool
+    ensures { λ r. ⌜ r ≡ nothingHeld row ⌝ }
+{
+    let mut free = true;
+    let mut s = 0usize;
+    while s < 16 {
+        free = free & !any_needs_label(row[s]);
+        s += 1;
+    }
+    free
+}
+
+// The row has nothing for the star check of the subjects from low to below end: of one subject its set is looked at, else all.
+fn idle(row: [u8; 16], low: usize, end: usize) -> bool
+    ensures { λ r. ⌜ r ≡ idle row low end ⌝ }
+{
+    let first = smaller(low, 15);
+    if first + 1 == end {
+        !any_needs_label(row[first])
+    } else {
+        nothing_held(row)
+    }
+}
+
 // Whether a subject from low to below high reads one object and alters another whose label does not dominate that of the first.
-// For each subject the objects that it reads and those that it alters are listed first; the loops over the pairs are left at the
-// first that offends. A subject above 15 holds nothing.
+// The objects that are not idle are listed first, then for each subject those of them that it reads and those that it alters; the
+// loops over the pairs are left at the first that offends. A subject above 15 holds nothing.
 pub fn star_broken(m: Monitor, low: usize, high: usize) -> bool
     ensures { λ r. ⌜ r ≡ not (starBetween low high (m .objects)) ⌝ }
 {
     let end = smaller(high, 16);
+    let mut busy = [0u8; 64];
+    let mut count = 0usize;
+    let mut o = 0usize;
+    while o < 64 {
+        let ob = m.objects[o];
+        let row = ob.held;
+        busy[count] = o as u8;
+        count += one_if(!idle(row, low, end));
+        o += 1;
+    }
     let mut broken = false;
     let mut s = low;
     'subjects: while s < end {
@@ -39,16 +76,17 @@ pub fn star_broken(m: Monitor, low: usize, high: usize) -> bool
         let mut altered = [0u8; 64];
         let mut r = 0usize;
         let mut a = 0usize;
-        let mut o = 0usize;
-        while o < 64 {
-            let ob = m.objects[o];
+        let mut k = 0usize;
+        while k < count {
+            let at = busy[k];
+            let ob = m.objects[at as usize];
             let held = ob.held;
             let modes = held[s];
-            read[r] = o as u8;
+            read[r] = at;
             r += one_if(any_observes(modes));
-            altered[a] = o as u8;
+            altered[a] = at;
             a += one_if(any_alters(modes));
-            o += 1;
+            k += 1;
         }
         let mut p = 0usize;
         while p < r {
