@@ -6,15 +6,19 @@ ghost use mathlib.Core.Path.{_≡_};
 ghost use mathlib.Core.Bool.{cond};
 ghost use Rattle.model.specs.Runs.{respond};
 use decoding::decode;
+use labels::refuses;
 use model::Decision;
 use model::Monitor;
 use model::Response;
+pub use scope::simple_where;
+use star::star_broken;
 pub use verdict::Verdict;
 pub use verdict::decide;
 pub use verdict::kept_record;
 pub use verdict::last_answer;
+pub use verdict::late_answer;
 pub use verdict::parts_said;
-pub use verdict::state_checks;
+pub use verdict::record_of;
 
 // The answer where no check refuses; was: the state was so already.
 pub fn granted(was: bool) -> Decision
@@ -43,14 +47,19 @@ pub fn request(m: Monitor, bytes: &[u8]) -> Response
     let a = one.clearance;
     let b = two.clearance;
     let v = decide(said, a, b, ob);
-    let new = v.object;
     let mut decision = v.decision;
-    monitor.objects[o] = new;
-    if v.low < v.high {
-        let last = state_checks(monitor, v.simple, v.low, v.high, new);
-        decision = last_answer(last, decision);
-        let kept = kept_record(last, ob, new);
-        monitor.objects[o] = kept;
+    if !refuses(decision) {
+        let new = record_of(v, ob);
+        monitor.objects[o] = new;
+        if v.low < v.high {
+            let subjects = monitor.subjects;
+            let simple = simple_where(v.simple, subjects, new);
+            let broken = star_broken(monitor, v.low, v.high);
+            let last = late_answer(simple, broken);
+            decision = last_answer(last, decision);
+            let kept = kept_record(last, ob, new);
+            monitor.objects[o] = kept;
+        }
     }
     Response { decision, monitor }
 }

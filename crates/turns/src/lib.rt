@@ -7,12 +7,16 @@ ghost use Rattle.model.specs.Runs.{after, replies};
 ghost use Rattle.turns.specs.Turns.{pieceCount, turns};
 use decoding::decode;
 use labels::number;
+use labels::refuses;
 use model::Monitor;
 use rules::decide;
 use rules::kept_record;
 use rules::last_answer;
+use rules::late_answer;
 use rules::parts_said;
-use rules::state_checks;
+use rules::record_of;
+use rules::simple_where;
+use star::star_broken;
 
 pub fn smaller(a: usize, b: usize) -> usize
     ensures { λ r. ⌜ r ≡ min a b ⌝ }
@@ -51,14 +55,19 @@ pub fn run(m: Monitor, requests: &[u8], out: &mut [u8]) -> Monitor
         let a = one.clearance;
         let b = two.clearance;
         let v = decide(said, a, b, ob);
-        let new = v.object;
         let mut d = v.decision;
-        n.objects[o] = new;
-        if v.low < v.high {
-            let last = state_checks(n, v.simple, v.low, v.high, new);
-            d = last_answer(last, d);
-            let kept = kept_record(last, ob, new);
-            n.objects[o] = kept;
+        if !refuses(d) {
+            let new = record_of(v, ob);
+            n.objects[o] = new;
+            if v.low < v.high {
+                let subjects = n.subjects;
+                let simple = simple_where(v.simple, subjects, new);
+                let broken = star_broken(n, v.low, v.high);
+                let last = late_answer(simple, broken);
+                d = last_answer(last, d);
+                let kept = kept_record(last, ob, new);
+                n.objects[o] = kept;
+            }
         }
         out[i] = number(d);
         i += 1;

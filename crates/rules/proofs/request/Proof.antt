@@ -5,12 +5,12 @@ use native.Mathlib.Omega.{arith}
 use lib.ListN.{length, getD}
 use Rattle.model.specs.declared.Monitor.{Monitor}
 use Rattle.model.specs.declared.Decision.{Decision}
-use Rattle.model.specs.State.{noObject, object, withObject}
+use Rattle.model.specs.State.{noObject, object}
 use Rattle.model.specs.Runs.{carryOut, respond}
-use Rattle.model.proofs.Tests.{any-default, mapped-length}
+use Rattle.model.proofs.Tests.{any-default, mapped-length, not-on, not-off}
 use Rattle.star.proofs.Listed.{blank}
 use Rattle.rules.proofs.Answered.{Numbers}
-use Rattle.rules.proofs.Turn.{SaidInRange, decoded-in-range, said-numbers, Turned, turned-by, responded}
+use Rattle.rules.proofs.Turn.{SaidInRange, decoded-in-range, said-numbers, Turned, turned-by, still-by, asks-by, responded}
 use borrow.Author.Needs.{needs}
 use Rattle.rules.proofs.request.Statement.{statement}
 use Rattle.rules.proofs.request.Tie as tie
@@ -76,14 +76,26 @@ element-copy-out-two c = named (c .before .before .before .before .before) .othe
 decide-requires : tie.Need-decide-requires
 decide-requires c κs = search needs
 
+refuses-requires : tie.Need-refuses-requires
+refuses-requires c κs = search needs
+
+record-of-requires : tie.Need-record-of-requires
+record-of-requires c κs = search needs
+
 mul-new : tie.Need-mul-new
 mul-new c = search needs
 
 element-set-from-new : tie.Need-element-set-from-new
-element-set-from-new c = named (c .before .before .before .before .before .before .before .before) .object
+element-set-from-new c = named (c .before .before .before .before .before .before .before .before .before .before) .object
 
-state-checks-requires : tie.Need-state-checks-requires
-state-checks-requires c κs = search needs
+simple-where-requires : tie.Need-simple-where-requires
+simple-where-requires c κs = search needs
+
+star-broken-requires : tie.Need-star-broken-requires
+star-broken-requires c κs = search needs
+
+late-answer-requires : tie.Need-late-answer-requires
+late-answer-requires c κs = search needs
 
 last-answer-requires : tie.Need-last-answer-requires
 last-answer-requires c κs = search needs
@@ -92,24 +104,25 @@ kept-record-requires : tie.Need-kept-record-requires
 kept-record-requires c κs = search needs
 
 mul-kept : tie.Need-mul-kept
-mul-kept c = search needs
+mul-kept c = omega (arith, named (c .before .before .before .before .before .before .before .before .before .before .before .before .before .before .before .before .before .before) .object)
 
 element-set-from-kept : tie.Need-element-set-from-kept
-element-set-from-kept c = named (c .before .before .before .before .before .before .before .before .before .before .before .before .before) .object
+element-set-from-kept c = named (c .before .before .before .before .before .before .before .before .before .before .before .before .before .before .before .before .before .before) .object
 
 returns : tie.Need-returns
 returns c =
-    let d = c .before .last-answer .ensures in
-    let k = c .kept-record .ensures in
-    answers (c .before .before .before .before .before .before .before .before .before .before .before .before .before .before) _ _
-    ((λ i. record {
-      decision = d i;
-      monitor = withObject (withObject (c .before .before .before .before .before .before .before .before .before .before .before .before .before .before .before .before .args .m) (c .before .before .before .before .before .before .before .before .before .before .before .before .before .parts-said .result .object) (c .before .before .before .before .before .before .decide .result .object)) (c .before .before .before .before .before .before .before .before .before .before .before .before .before .parts-said .result .object) (k i);
-    })
-    ∙ turn (c .before .before .before .before .before .before) .asks (c .before .before .state-checks .result) (c .before .before .state-checks .ensures) (c .before .before .before .if1 .taken))
+    let d = c .before .before .before .before .before .before .before .before .before .before .before in
+    answers (c .before .before .before .before .before .before .before .before .before .before .before .before .before .before .before .before .before .before .before) _ _
+    (asks-by _ _ _ _ _ (turn d) (sym (c .before .before .before .before .before .before .before .before .before .before .refuses .ensures) ∙ not-on _ (c .before .before .before .before .before .before .before .before .before .if1 .taken)) _ (c .before .before .before .before .before .before .before .before .record-of .ensures) _ _ _ _ _
+    (c .before .before .before .before .simple-where .ensures) (c .before .before .before .star-broken .ensures) (c .before .before .late-answer .ensures) (c .before .last-answer .ensures) (c .kept-record .ensures))
 
 returns-2 : tie.Need-returns-2
-returns-2 c = answers (c .before .before .before .before .before .before .before .before .before .before .before) _ _ (turn (c .before .before .before) .still (c .if1 .left))
+returns-2 c =
+    let d = c .before .before .before .before .before in
+    answers (c .before .before .before .before .before .before .before .before .before .before .before .before .before) _ _ (still-by _ _ _ _ _ (turn d) (sym (c .before .before .before .before .refuses .ensures) ∙ not-on _ (c .before .before .before .if1 .taken)) _ (c .before .before .record-of .ensures) (c .if2 .left))
+
+returns-3 : tie.Need-returns-3
+returns-3 c = answers (c .before .before .before .before .before .before .before .before .before .before) _ _ (turn (c .before .before) .refused (sym (c .before .refuses .ensures) ∙ not-off _ (c .if1 .left)))
 
 pub request-spec : {M : Type 1} → statement M
 request-spec =
@@ -127,12 +140,17 @@ request-spec =
     mul-two
     element-copy-out-two
     decide-requires
+    refuses-requires
+    record-of-requires
     mul-new
     element-set-from-new
-    state-checks-requires
+    simple-where-requires
+    star-broken-requires
+    late-answer-requires
     last-answer-requires
     kept-record-requires
     mul-kept
     element-set-from-kept
     returns
-    returns-2)
+    returns-2
+    returns-3)
