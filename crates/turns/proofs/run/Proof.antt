@@ -13,24 +13,13 @@ use native.Mathlib.Omega.{arith}
 use Rattle.model.specs.Requests.{decode}
 use Rattle.model.specs.Program.{pieces}
 use Rattle.model.specs.State.{noObject, object, withObject}
-use Rattle.model.proofs.Tests.{any-default, mapped-length}
+use Rattle.model.proofs.Tests.{any-default, mapped-length, not-on, not-off}
 use Rattle.star.proofs.Listed.{blank}
 use Rattle.rules.proofs.Answered.{Numbers}
-use Rattle.rules.proofs.Turn.{SaidInRange, decoded-in-range, said-numbers, Turned, turned-by, settled}
+use Rattle.rules.proofs.Turn.{SaidInRange, decoded-in-range, said-numbers, Turned, turned-by, still-by, asks-by, settled}
 use Rattle.turns.proofs.Runs.{Looping, start, further, ended, piece-at, length-pieces}
 use Rattle.turns.proofs.run.Statement.{statement}
 use Rattle.turns.proofs.run.Tie as tie
-use Rattle.turns.proofs.run.Reads as reads
-use Rattle.turns.proofs.run.Lts as lts
-use Rattle.decoding.proofs.decode.Reads as decode-reads
-use Rattle.labels.proofs.number.Reads as number-reads
-use Rattle.turns.proofs.piece_count.Reads as piece-count-reads
-use Rattle.turns.proofs.smaller.Reads as smaller-reads
-use Rattle.rules.proofs.decide.Reads as decide-reads
-use Rattle.rules.proofs.kept_record.Reads as kept-record-reads
-use Rattle.rules.proofs.last_answer.Reads as last-answer-reads
-use Rattle.rules.proofs.parts_said.Reads as parts-said-reads
-use Rattle.rules.proofs.state_checks.Reads as state-checks-reads
 
 abbrev Inv-loop : tie.InvT-loop
 Inv-loop requests out₀ n₀ count i₀ out n i = Looping requests out₀ n₀ count out n i
@@ -69,32 +58,34 @@ turn : (c : tie.After-decide Inv-loop μ-loop)
     (getD (c .before .before .before .before .before .before .before .before .before .before .before .before .loop .n .objects) (c .before .before .before .before .before .before .before .parts-said .result .object) blank) (c .decide .result)
 turn c = turned-by _ _ _ _ _ (said (c .before .before .before .before .before .before .before .before)) (c .before .before .before .before .before .before .before .parts-said .ensures) (read-object (c .before .before .before .before .before .before .before)) (c .decide .ensures)
 
--- a turn answers its piece, with more to ask of the whole state or without
+-- a turn answers its piece: refused by the verdict, with more to ask of the whole state, or without
 answered : (c : tie.Joined1 Inv-loop μ-loop)
-    → record { decision = c .if1 .d; monitor = c .if1 .n } ≡ carryOut (c .before .before .before .before .before .before .before .before .before .before .before .decode .result) (c .before .before .before .before .before .before .before .before .before .before .before .before .before .before .before .loop .n)
+    → record { decision = c .if1 .d; monitor = c .if1 .n } ≡ carryOut (c .before .before .before .before .before .before .before .before .before .before .decode .result) (c .before .before .before .before .before .before .before .before .before .before .before .before .before .before .loop .n)
 answered c =
-    let n = c .before .before .before .before .before .before .before .before .before .before .before .before .before .before .before .loop .n in
-    let o = c .before .before .before .before .before .before .before .before .before .before .parts-said .result .object in
-    let new = c .before .before .before .decide .result .object in
-    let T = turn (c .before .before .before) in
+    let T = turn (c .before .before) in
     ⊎-elim
     (λ w.
-    (let d = w .5 ∙ w .2 .ensures in
-    let m = w .4 ∙ ap (λ k. withObject (withObject n o new) o k) (w .3 .ensures) in
-    λ i. record { decision = d i; monitor = m i })
-    ∙ T .asks (w .1 .result) (w .1 .ensures) (w .0 .taken))
-    (λ w. (let d = w .2 in let m = w .1 in λ i. record { decision = d i; monitor = m i }) ∙ T .still (w .0 .left))
+    (λ i. record { decision = w .11 i; monitor = w .10 i })
+    ∙ asks-by _ _ _ _ _ T (sym (c .before .refuses .ensures) ∙ not-on _ (w .0 .taken)) _ (w .1 .ensures) _ _ _ _ _ (w .5 .ensures) (w .6 .ensures) (w .7 .ensures) (w .8 .ensures) (w .9 .ensures))
+    (λ v.
+    ⊎-elim
+    (λ w. (λ i. record { decision = w .5 i; monitor = w .4 i }) ∙ still-by _ _ _ _ _ T (sym (c .before .refuses .ensures) ∙ not-on _ (w .0 .taken)) _ (w .1 .ensures) (w .3 .left))
+    (λ w. (λ i. record { decision = w .2 i; monitor = w .1 i }) ∙ T .refused (sym (c .before .refuses .ensures) ∙ not-off _ (w .0 .left)))
+    v)
     (c .if1 .came)
 
 -- no turn changes how many objects there are
-objects-kept : (c : tie.Joined1 Inv-loop μ-loop) → length (c .if1 .n .objects) ≡ length (c .before .before .before .before .before .before .before .before .before .before .before .before .before .before .before .loop .n .objects)
+objects-kept : (c : tie.Joined1 Inv-loop μ-loop) → length (c .if1 .n .objects) ≡ length (c .before .before .before .before .before .before .before .before .before .before .before .before .before .before .loop .n .objects)
 objects-kept c =
-    let l = c .before .before .before .before .before .before .before .before .before .before .before .before .before .before .before .loop .n .objects in
-    let o = c .before .before .before .before .before .before .before .before .before .before .parts-said .result .object in
-    let new = c .before .before .before .decide .result .object in
+    let l = c .before .before .before .before .before .before .before .before .before .before .before .before .before .before .loop .n .objects in
+    let o = c .before .before .before .before .before .before .before .before .before .parts-said .result .object in
     ⊎-elim
-    (λ w. ap (λ (m : Monitor). length (m .objects)) (w .4) ∙ length-set (set l o new) o (w .3 .result) ∙ length-set l o new)
-    (λ w. ap (λ (m : Monitor). length (m .objects)) (w .1) ∙ length-set l o new)
+    (λ w. ap (λ (m : Monitor). length (m .objects)) (w .10) ∙ length-set (set l o (w .1 .result)) o (w .9 .result) ∙ length-set l o (w .1 .result))
+    (λ v.
+    ⊎-elim
+    (λ w. ap (λ (m : Monitor). length (m .objects)) (w .4) ∙ length-set l o (w .1 .result))
+    (λ w. ap (λ (m : Monitor). length (m .objects)) (w .1))
+    v)
     (c .if1 .came)
 
 piece-count-requires : tie.Need-piece-count-requires Inv-loop μ-loop
@@ -167,14 +158,26 @@ element-copy-out-two c = named (c .before .before .before .before .before) .othe
 decide-requires : tie.Need-decide-requires Inv-loop μ-loop
 decide-requires c κs = tt
 
+refuses-requires : tie.Need-refuses-requires Inv-loop μ-loop
+refuses-requires c κs = tt
+
+record-of-requires : tie.Need-record-of-requires Inv-loop μ-loop
+record-of-requires c κs = tt
+
 mul-new : tie.Need-mul-new Inv-loop μ-loop
 mul-new c = search needs
 
 element-set-from-new : tie.Need-element-set-from-new Inv-loop μ-loop
-element-set-from-new c = named (c .before .before .before .before .before .before .before .before) .object
+element-set-from-new c = named (c .before .before .before .before .before .before .before .before .before .before) .object
 
-state-checks-requires : tie.Need-state-checks-requires Inv-loop μ-loop
-state-checks-requires c κs = tt
+simple-where-requires : tie.Need-simple-where-requires Inv-loop μ-loop
+simple-where-requires c κs = tt
+
+star-broken-requires : tie.Need-star-broken-requires Inv-loop μ-loop
+star-broken-requires c κs = tt
+
+late-answer-requires : tie.Need-late-answer-requires Inv-loop μ-loop
+late-answer-requires c κs = tt
 
 last-answer-requires : tie.Need-last-answer-requires Inv-loop μ-loop
 last-answer-requires c κs = tt
@@ -183,35 +186,36 @@ kept-record-requires : tie.Need-kept-record-requires Inv-loop μ-loop
 kept-record-requires c κs = tt
 
 mul-kept : tie.Need-mul-kept Inv-loop μ-loop
-mul-kept c = search needs
+mul-kept c = omega (arith, named (c .before .before .before .before .before .before .before .before .before .before .before .before .before .before .before .before .before .before) .object)
 
 element-set-from-kept : tie.Need-element-set-from-kept Inv-loop μ-loop
-element-set-from-kept c = named (c .before .before .before .before .before .before .before .before .before .before .before .before .before) .object
+element-set-from-kept c = named (c .before .before .before .before .before .before .before .before .before .before .before .before .before .before .before .before .before .before) .object
 
 number-requires : tie.Need-number-requires Inv-loop μ-loop
 number-requires c κs = tt
 
 slice-write-out : tie.Need-slice-write-out Inv-loop μ-loop
-slice-write-out c = omega (arith, c .before .before .before .before .before .before .before .before .before .before .before .before .before .before .before .loop-test .taken, c .before .before .before .before .before .before .before .before .before .before .before .before .before .before .before .before .loop .inv .counted, c .before .before .before .before .before .before .before .before .before .before .before .before .before .before .before .before .loop .inv .out-length)
+slice-write-out c = omega (arith, c .before .before .before .before .before .before .before .before .before .before .before .before .before .before .loop-test .taken, c .before .before .before .before .before .before .before .before .before .before .before .before .before .before .before .loop .inv .counted, c .before .before .before .before .before .before .before .before .before .before .before .before .before .before .before .loop .inv .out-length)
 
 add-i : tie.Need-add-i Inv-loop μ-loop
-add-i c = omega (arith, c .before .before .before .before .before .before .before .before .before .before .before .before .before .before .before .loop-test .taken, c .before .before .before .before .before .before .before .before .before .before .before .before .before .before .before .before .loop .inv .counted, c .before .before .before .before .before .before .before .before .before .before .before .before .before .before .before .before .before .smaller .ensures)
+add-i c = omega (arith, c .before .before .before .before .before .before .before .before .before .before .before .before .before .before .loop-test .taken, c .before .before .before .before .before .before .before .before .before .before .before .before .before .before .before .loop .inv .counted, c .before .before .before .before .before .before .before .before .before .before .before .before .before .before .before .before .smaller .ensures)
 
 loop-less : tie.Need-loop-less Inv-loop μ-loop
-loop-less c = omega (arith, c .before .before .before .before .before .before .before .before .before .before .before .before .before .before .before .loop-test .taken)
+loop-less c = omega (arith, c .before .before .before .before .before .before .before .before .before .before .before .before .before .before .loop-test .taken)
 
 loop-again : tie.Need-loop-again Inv-loop μ-loop
 loop-again c =
-    let L = c .before .before .before .before .before .before .before .before .before .before .before .before .before .before .before .before .loop .inv in
-    let i = c .before .before .before .before .before .before .before .before .before .before .before .before .before .before .before .before .loop .i in
-    let b = getD (pieces (c .before .before .before .before .before .before .before .before .before .before .before .before .before .before .before .before .before .before .before .before .before .args .requests .now)) i [] in
-    let done = settled b (c .before .before .before .before .before .before .before .before .before .before .before .before .decode .result) (c .before .before .before .before .before .before .before .before .before .before .before .before .before .before .before .before .loop .n) (c .before .if1 .n) (c .before .if1 .d) (c .number .result) (piece (c .before .before .before .before .before .before .before .before .before .before .before .before)) (answered (c .before)) (c .number .ensures) in
-    let h = c .before .before .before .before .before .before .before .before .before .before .before .before .before .before .before .loop-test .taken in
+    let L = c .before .before .before .before .before .before .before .before .before .before .before .before .before .before .before .loop .inv in
+    let i = c .before .before .before .before .before .before .before .before .before .before .before .before .before .before .before .loop .i in
+    let requests = c .before .before .before .before .before .before .before .before .before .before .before .before .before .before .before .before .before .before .before .before .args .requests .now in
+    let piece-i = getD (pieces requests) i [] in
+    let done = settled piece-i (c .before .before .before .before .before .before .before .before .before .before .before .decode .result) (c .before .before .before .before .before .before .before .before .before .before .before .before .before .before .before .loop .n) (c .before .if1 .n) (c .before .if1 .d) (c .number .result) (piece (c .before .before .before .before .before .before .before .before .before .before .before)) (answered (c .before)) (c .number .ensures) in
+    let h = c .before .before .before .before .before .before .before .before .before .before .before .before .before .before .loop-test .taken in
     record {
       bound = omega (arith, h);
       counted = L .counted;
-      so-far = further _ _ _ _ _ i b _ _ (L .so-far) (omega (arith, h, L .counted, length-pieces (c .before .before .before .before .before .before .before .before .before .before .before .before .before .before .before .before .before .before .before .before .before .args .requests .now))) (omega (arith, h, L .counted)) refl (done .0) (done .1);
-      out-length = length-set (c .before .before .before .before .before .before .before .before .before .before .before .before .before .before .before .before .loop .out) i (c .number .result) ∙ L .out-length;
+      so-far = further _ _ _ _ _ i piece-i _ _ (L .so-far) (omega (arith, h, L .counted, length-pieces requests)) (omega (arith, h, L .counted)) refl (done .0) (done .1);
+      out-length = length-set (c .before .before .before .before .before .before .before .before .before .before .before .before .before .before .before .loop .out) i (c .number .result) ∙ L .out-length;
       objects-length = objects-kept (c .before) ∙ L .objects-length;
     }
 
@@ -248,9 +252,13 @@ run-spec =
     mul-two
     element-copy-out-two
     decide-requires
+    refuses-requires
+    record-of-requires
     mul-new
     element-set-from-new
-    state-checks-requires
+    simple-where-requires
+    star-broken-requires
+    late-answer-requires
     last-answer-requires
     kept-record-requires
     mul-kept
