@@ -4,7 +4,7 @@ use crate::arguments::{Arguments, Takes};
 use crate::compare::{compare, Comparison, Named};
 use crate::disassemble::disassemble;
 use crate::explain::explain;
-use crate::input::{assembled, form, read, Form, Input};
+use crate::input::{assembled, form, read, Form};
 use crate::paint::Paint;
 use crate::show::show;
 use crate::view::View;
@@ -100,16 +100,21 @@ fn dis(arguments: &Arguments, standard_input: &mut dyn Read) -> Step<Outcome> {
     Ok(Outcome::fine(disassemble(&input.bytes)))
 }
 
+/// The form that a flag says; nothing where the input is to tell it.
+fn form_asked(arguments: &Arguments) -> Step<Option<Form>> {
+    match (arguments.has("--script"), arguments.has("--bytes")) {
+        (true, true) => Err(trouble("circtool: --script and --bytes exclude each other\n".to_string())),
+        (true, false) => Ok(Some(Form::Script)),
+        (false, true) => Ok(Some(Form::Bytes)),
+        (false, false) => Ok(None),
+    }
+}
+
 /// The unit begun from the table of a script or of bytes, and the requests behind it.
 fn begin(arguments: &Arguments, standard_input: &mut dyn Read) -> Step<(Unit, Vec<u8>)> {
-    let form_of = |input: &Input| match (arguments.has("--script"), arguments.has("--bytes")) {
-        (true, true) => Err(trouble("circtool: --script and --bytes exclude each other\n".to_string())),
-        (true, false) => Ok(Form::Script),
-        (false, true) => Ok(Form::Bytes),
-        (false, false) => Ok(form(&input.bytes)),
-    };
+    let asked = form_asked(arguments)?;
     let input = read(arguments.file(), standard_input).map_err(trouble)?;
-    let bytes = match form_of(&input)? {
+    let bytes = match asked.unwrap_or_else(|| form(&input.bytes)) {
         Form::Script => assembled(&input).map_err(trouble)?,
         Form::Bytes => input.bytes,
     };

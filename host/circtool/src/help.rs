@@ -89,9 +89,9 @@ written, or errors in the script.
 pub const SHOW: &str = "\
 Usage: circtool show [--anyway] [IMAGE]
 
-Prints the state in an image: counts, enrolled subjects with clearances, live objects with owner, label or 'no label', and
-each subject that has rights or holds accesses on them. Of a refused image it prints the number, the check in words and
-where it failed; with --anyway also the fields as they stand, without what is marked absent.
+Prints the state in an image: counts, enrolled subjects with clearances, live objects with owner, label or 'no label',
+and each subject that has rights or holds accesses on them. Of a refused image it prints the number, the check in words
+and where it failed; with --anyway also the fields as they stand, without what is marked absent.
 
 Colour is used only where standard output is a terminal and NO_COLOR is not set.
 

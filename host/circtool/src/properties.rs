@@ -3,7 +3,7 @@
 
 use crate::level::{label_words, Level};
 use crate::mode::Modes;
-use crate::view::{Object, View};
+use crate::view::{Object, View, SUBJECTS};
 use std::fmt;
 
 /// What one subject holds on one object, with what it is compared with.
@@ -65,11 +65,16 @@ pub fn simple(view: &View) -> Vec<Holding> {
 /// r or w on one object, a or w on another whose label does not dominate the first one's.
 pub fn star(view: &View) -> Vec<Pair> {
     let all = holdings(view);
+    (0..SUBJECTS).flat_map(|subject| star_of(&all, subject)).collect()
+}
+
+fn star_of(all: &[Holding], subject: usize) -> Vec<Pair> {
+    let own: Vec<&Holding> = all.iter().filter(|it| it.subject == subject).collect();
     let mut pairs = Vec::new();
-    for read in all.iter().filter(|it| !it.held.reading().is_empty()) {
-        for written in all.iter().filter(|it| it.subject == read.subject && !it.held.writing().is_empty()) {
+    for read in own.iter().filter(|it| !it.held.reading().is_empty()) {
+        for written in own.iter().filter(|it| !it.held.writing().is_empty()) {
             if !dominates(written.label, read.label) {
-                pairs.push(Pair { read: read.clone(), written: written.clone() });
+                pairs.push(Pair { read: (*read).clone(), written: (*written).clone() });
             }
         }
     }
