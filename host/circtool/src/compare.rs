@@ -37,7 +37,8 @@ pub fn compare(a: &Named, b: &Named, paint: Paint) -> Comparison {
 fn equal(a: &Named, b: &Named) -> String {
     format!(
         "equal: {} and {}\n\
-         Every further list of requests draws the same replies from both. This is proved: docs/THEOREMS.md, demand 3.\n",
+         Every further list of requests draws the same replies from both. \
+         This is proved: docs/THEOREMS.md, demand 3.\n",
         a.name, b.name
     )
 }
@@ -68,8 +69,8 @@ fn different(a: &Named, b: &Named, requests: &[u8], paint: Paint) -> Comparison 
 }
 
 fn both_replies(number: usize, a: &Step, b: &Step, paint: Paint) -> String {
-    let mark = if a.reply == b.reply { "" } else { "   <- different" };
-    let mut text = format!("{number:>4}  {}{}\n", a.request, paint.refusal(mark));
+    let mark = if a.reply == b.reply { String::new() } else { paint.refusal("   <- different") };
+    let mut text = format!("{number:>4}  {}{mark}\n", a.request);
     for (name, step) in [("A", a), ("B", b)] {
         text.push_str(&format!("        {name}: {}\n", reply_words(step.reply)));
         if let Some(reason) = &step.reason {

@@ -4,7 +4,7 @@ use crate::fault;
 use crate::request::{reasons_words, Kind, Request};
 use crate::view::View;
 use crate::words::{hex, refusal_words};
-use circmon::{REQUEST_BYTES, TABLE_BYTES};
+use circmon::{Unit, REQUEST_BYTES, TABLE_BYTES};
 
 /// As many requests as the program `circmon` reads.
 pub const MOST_REQUESTS: usize = 4096;
@@ -27,9 +27,10 @@ pub fn disassemble(bytes: &[u8]) -> String {
 
 /// The subjects, or the bytes of a table that is not well formed with the reason.
 fn table_lines(table: &[u8]) -> String {
-    if let Some(fault) = fault::of_table(table).first() {
+    if let Err(number) = Unit::from_table(table) {
         let bytes = if table.is_empty() { "none".to_string() } else { hex(table) };
-        return format!("# table refused with {}: {fault}\ntable-bytes {bytes}\n", refusal_words(fault.number()));
+        let place = fault::of_table(table).first().map(|fault| format!(": {fault}")).unwrap_or_default();
+        return format!("# table refused with {}{place}\ntable-bytes {bytes}\n", refusal_words(number));
     }
     let lines: String =
         View::new(table).enrolled().map(|(subject, level)| format!("subject {subject} {level}\n")).collect();

@@ -13,8 +13,8 @@ use circmon::{Unit, REQUEST_BYTES};
 
 pub const MOST_REQUESTS: usize = 4;
 
-/// 0 where the images are equal; 1 to 4, the number of requests written, six bytes each; 13 where the buffer is under 24
-/// bytes; 128 + n where image a is refused with n; 192 + n where image b is.
+/// 0 where the images are equal; 1 to 4, the number of requests written, six bytes each; 13 where the buffer is under
+/// 24 bytes; 128 + n where image a is refused with n; 192 + n where image b is.
 pub fn distinguish(a: &[u8], b: &[u8], requests: &mut [u8]) -> u8 {
     let (first, second) = match (Unit::from_image(a), Unit::from_image(b)) {
         (Err(number), _) => return 128 + number,

@@ -127,8 +127,13 @@ impl fmt::Display for Fault {
             Fault::Length { found, expected } => write!(out, "{found} bytes, not {expected}"),
             Fault::Stray { absent, bits } => write!(out, "{absent}, and {}", stray_words(bits)),
             Fault::NotEnrolled { subject, object, owns, rights, held } => {
-                let owns = if *owns { "owns it; " } else { "" };
-                write!(out, "s{subject} is not enrolled; on o{object} it {owns}rights: {rights}; accesses: {held}")
+                let has = [
+                    owns.then(|| "is the owner".to_string()),
+                    (!rights.is_empty()).then(|| format!("has rights {rights}")),
+                    (!held.is_empty()).then(|| format!("holds {held}")),
+                ];
+                let has = has.into_iter().flatten().collect::<Vec<_>>().join(" and ");
+                write!(out, "s{subject} is not enrolled, and on o{object} it {has}")
             }
             Fault::Discretionary(it) => {
                 let (extra, rights) = (it.held.outside(it.rights), it.rights);

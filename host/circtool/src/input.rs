@@ -37,9 +37,9 @@ pub enum Form {
 }
 
 /// What an input is, from its first byte. The table's first record either is absent, then the first byte of an accepted
-/// table is 00, or it is enrolled, then that byte is 80 or above; and no script begins with such a byte. So no input that
-/// has an accepted table is taken for a script, and no script for bytes. An empty input is bytes: a table that is too
-/// short, as `circmon` takes it.
+/// table is 00, or it is enrolled, then that byte is 80 or above; and no script begins with such a byte. So no input
+/// that has an accepted table is taken for a script, and no script for bytes. An empty input is bytes: a table that is
+/// too short, as `circmon` takes it.
 pub fn form(bytes: &[u8]) -> Form {
     match bytes.first() {
         None | Some(0x00 | 0x80..) => Form::Bytes,

@@ -4,7 +4,6 @@
 use crate::level::{label_words, Level};
 use crate::mode::Modes;
 use crate::view::{Object, View, SUBJECTS};
-use std::fmt;
 
 /// What one subject holds on one object, with what it is compared with.
 #[derive(Clone, Debug, PartialEq, Eq)]
@@ -108,24 +107,24 @@ impl Holding {
     }
 }
 
-/// `r on o0 (class 3 needs 0 1)`
-impl fmt::Display for Holding {
-    fn fmt(&self, out: &mut fmt::Formatter) -> fmt::Result {
-        write!(out, "{} on o{} ({})", self.held, self.object, label_words(self.label))
+impl Pair {
+    /// The pair and why the one label does not dominate the other; the verb is `holds` or `would hold`. Of the modes
+    /// held only those are said that read the one object and write the other.
+    pub fn words(&self, verb: &str) -> String {
+        let (read, written) = (&self.read, &self.written);
+        format!(
+            "s{} {verb} {} and {}, and the label of o{} does not dominate that of o{}: {}",
+            read.subject,
+            side(read.held.reading(), read),
+            side(written.held.writing(), written),
+            written.object,
+            read.object,
+            shortfall(written.label, read.label)
+        )
     }
 }
 
-impl Pair {
-    /// The pair and why the one label does not dominate the other; the verb is `holds` or `would hold`.
-    pub fn words(&self, verb: &str) -> String {
-        format!(
-            "s{} {verb} {} and {}, and the label of o{} does not dominate that of o{}: {}",
-            self.read.subject,
-            self.read,
-            self.written,
-            self.written.object,
-            self.read.object,
-            shortfall(self.written.label, self.read.label)
-        )
-    }
+/// `r on o0 (class 3 needs 0 1)`
+fn side(modes: Modes, it: &Holding) -> String {
+    format!("{modes} on o{} ({})", it.object, label_words(it.label))
 }

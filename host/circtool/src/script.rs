@@ -88,7 +88,7 @@ impl<'a> Line<'a> {
 
     /// An error at the next word.
     pub fn unexpected(&self, expected: &str) -> ScriptError {
-        let found = self.peek().map_or("the end of the line".to_string(), |word| format!("'{}'", word.text));
+        let found = self.peek().map_or("the end of the line".to_string(), |word| quoted(word.text));
         self.error(format!("expected {expected}, found {found}"))
     }
 
@@ -102,6 +102,21 @@ impl<'a> Line<'a> {
     pub fn error_at_start(&self, message: String) -> ScriptError {
         let column = self.words.first().map_or(1, |word| word.column);
         ScriptError { line: self.number, column, message }
+    }
+}
+
+/// A word as an error shows it: what a terminal would obey is escaped, and a long word is cut.
+fn quoted(word: &str) -> String {
+    let most = 40;
+    let start: String = word.chars().take(most).flat_map(printable).collect();
+    format!("'{start}{}'", if word.chars().count() > most { ".." } else { "" })
+}
+
+fn printable(letter: char) -> Vec<char> {
+    if letter.is_control() {
+        letter.escape_default().collect()
+    } else {
+        vec![letter]
     }
 }
 
@@ -121,6 +136,13 @@ mod tests {
         let words: Vec<(&str, usize)> = line.words.iter().map(|word| (word.text, word.column)).collect();
         assert_eq!(words, [("é", 3), ("s1", 5), ("get", 8)]);
         assert_eq!(line.end, 11);
+    }
+
+    #[test]
+    fn words_in_errors_are_short_and_printable() {
+        assert_eq!(quoted("é'x"), "'é'x'");
+        assert_eq!(quoted("a\u{1b}[31m"), "'a\\u{1b}[31m'");
+        assert_eq!(quoted(&"x".repeat(41)), format!("'{}..'", "x".repeat(40)));
     }
 
     #[test]

@@ -8,7 +8,7 @@ use circtool::explain::{explain, step};
 use circtool::level::Level;
 use circtool::mode::Modes;
 use circtool::paint::Paint;
-use circtool::properties::Holding;
+use circtool::properties::{Holding, Pair};
 use circtool::view::View;
 use reference::{Kind, Monitor, Request};
 use sidebyside::SHAPES;
@@ -47,13 +47,33 @@ fn missing_is_so(it: &Missing, before: &Monitor, request: &Request) {
     assert!(it.needs_ownership || it.needs_right.is_some(), "nothing is missing");
 }
 
+fn simple_is_so(place: &Holding, by: By, before: &Monitor, request: &Request) {
+    holds(place, &with_effect(before, request));
+    let by_level = matches!(request.kind, Kind::ChangeLevel(_));
+    assert_eq!((place.object, by == By::Level), (request.object, by_level));
+    assert!(!place.held.reading().is_empty());
+    assert!(!place.clearance.unwrap().dominates(place.label.unwrap()));
+    assert!(by_level || place.subject == request.actor, "a get breaks simple for its actor only");
+}
+
+fn star_is_so(pair: &Pair, by: By, before: &Monitor, request: &Request) {
+    let after = with_effect(before, request);
+    holds(&pair.read, &after);
+    holds(&pair.written, &after);
+    let by_level = matches!(request.kind, Kind::ChangeLevel(_));
+    assert_eq!((pair.read.subject, by == By::Level), (pair.written.subject, by_level));
+    assert!(!pair.read.held.reading().is_empty() && !pair.written.held.writing().is_empty());
+    assert!(!pair.written.label.unwrap().dominates(pair.read.label.unwrap()));
+    assert!([pair.read.object, pair.written.object].contains(&request.object));
+    assert!(by_level || pair.read.subject == request.actor, "a get breaks star for its actor only");
+}
+
 /// That the cause is so, by the second implementation's state before the request.
 fn cause_is_so(cause: &Cause, before: &Monitor, bytes: &[u8]) {
     let Some(request) = Request::decode(bytes) else {
         assert_eq!(cause.number(), 2);
         return;
     };
-    let by_level = matches!(request.kind, Kind::ChangeLevel(_));
     match cause {
         Cause::Malformed(reasons) => panic!("malformed: {reasons:?}"),
         Cause::NotEnrolled { subject } => {
@@ -73,23 +93,8 @@ fn cause_is_so(cause: &Cause, before: &Monitor, bytes: &[u8]) {
             assert_eq!(*object, request.object);
             assert!(before.objects[*object].as_ref().is_some_and(|it| it.label.is_none()));
         }
-        Cause::Simple { place, by } => {
-            holds(place, &with_effect(before, &request));
-            assert_eq!((place.object, *by == By::Level), (request.object, by_level));
-            assert!(!place.held.reading().is_empty());
-            assert!(!place.clearance.unwrap().dominates(place.label.unwrap()));
-            assert!(by_level || place.subject == request.actor, "a get breaks simple for its actor only");
-        }
-        Cause::Star { pair, by } => {
-            let after = with_effect(before, &request);
-            holds(&pair.read, &after);
-            holds(&pair.written, &after);
-            assert_eq!((pair.read.subject, *by == By::Level), (pair.written.subject, by_level));
-            assert!(!pair.read.held.reading().is_empty() && !pair.written.held.writing().is_empty());
-            assert!(!pair.written.label.unwrap().dominates(pair.read.label.unwrap()));
-            assert!([pair.read.object, pair.written.object].contains(&request.object));
-            assert!(by_level || pair.read.subject == request.actor, "a get breaks star for its actor only");
-        }
+        Cause::Simple { place, by } => simple_is_so(place, *by, before, &request),
+        Cause::Star { pair, by } => star_is_so(pair, *by, before, &request),
     }
 }
 

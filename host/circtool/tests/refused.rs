@@ -182,7 +182,7 @@ fn messages_name_the_check_and_the_place() {
     assert_eq!(
         message(&live),
         "a.img: image refused with 12 (an absent subject owns, has a right or holds)\n  \
-         s0 is not enrolled; on o0 it owns it; rights: none; accesses: none\n"
+         s0 is not enrolled, and on o0 it is the owner\n"
     );
     let label = flipped(&flipped(&flipped(&empty, 0), 42 * 8), 42 * 8 + 5 + 4);
     assert!(matches!(fault::of_image(&label)[..], [Fault::Stray { absent: Absent::LabelOf(0), .. }]));

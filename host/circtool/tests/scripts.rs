@@ -61,6 +61,14 @@ fn errors_of_requests() {
         ("s1 create o0 e", "1:14: expected 'with e' or the end of the line, found 'e'".to_string()),
         ("s1 create o0 with r", "1:19: expected 'e', found 'r'".to_string()),
         ("s1 create o0 with # e", "1:18: expected 'e', found the end of the line".to_string()),
+    ] {
+        assert_eq!(errors(line), [error], "{line}");
+    }
+}
+
+#[test]
+fn errors_behind_the_first_words() {
+    for (line, error) in [
         ("s1 give r o0", "1:9: expected a subject (s0 to s15), found 'r'".to_string()),
         ("s1 give s2 o0", "1:12: expected a mode (r, w, a or e), found 'o0'".to_string()),
         ("s1 rescind s16 r o0", "1:12: expected a subject (s0 to s15), found 's16'".to_string()),
