@@ -165,7 +165,7 @@ fn by(request: &Request) -> By {
 }
 
 /// The state that the request would leave if nothing refused it.
-fn after(view: &View, request: &Request) -> View {
+pub fn after(view: &View, request: &Request) -> View {
     let mut after = view.clone();
     let slot = &mut after.objects[request.object];
     match (request.kind, slot.as_mut()) {

@@ -3,7 +3,7 @@
 mod shared;
 
 use circmon::Unit;
-use circtool::cause::{judge, By, Cause, Missing, Verdict};
+use circtool::cause::{after, judge, By, Cause, Missing, Verdict};
 use circtool::explain::{explain, step};
 use circtool::level::Level;
 use circtool::mode::Modes;
@@ -104,7 +104,8 @@ fn explain_run(seed: u64, length: usize, count: &mut [usize; 10]) {
     let mut unit = Unit::from_table(&run.table).unwrap();
     let mut monitor = Monitor::from_table(&run.table).unwrap();
     for (at, bytes) in run.requests.iter().enumerate() {
-        let verdict = judge(&View::new(unit.image()), bytes);
+        let before = View::new(unit.image());
+        let verdict = judge(&before, bytes);
         let step = step(&mut unit, bytes);
         let place = format!("seed {seed}, request {at}: {bytes:02x?}");
         assert_eq!(step.reply, run.replies[at], "{place}");
@@ -116,7 +117,12 @@ fn explain_run(seed: u64, length: usize, count: &mut [usize; 10]) {
                 assert!(checked.is_ok(), "{place}: {words}");
                 assert_eq!(step.reason, Some(words), "{place}");
             }
-            _ => assert_eq!(step.reason, None, "{place}"),
+            _ => {
+                assert_eq!(step.reason, None, "{place}");
+                // the state after it, in which star and simple are looked for, is the one that the library leaves
+                let request = circtool::request::Request::decode(bytes).unwrap();
+                assert_eq!(after(&before, &request), View::new(unit.image()), "{place}");
+            }
         }
         monitor.request(bytes);
         count[usize::from(step.reply)] += 1;
