@@ -1,6 +1,10 @@
 //! Scripts: every form of a line, and errors with line, column and what was expected.
 
+mod shared;
+
 use circtool::assemble::assemble;
+use circtool::disassemble::disassemble;
+use load::Random;
 
 fn hex(text: &str) -> Vec<u8> {
     text.split_whitespace().map(|it| u8::from_str_radix(it, 16).unwrap()).collect()
@@ -145,4 +149,45 @@ fn every_error_of_a_script_is_reported_in_its_order() {
     let places: Vec<String> = errors(script).iter().map(|error| error[..3].to_string()).collect();
     // a misspelt subject does not make the next line wrong
     assert_eq!(places, ["1:1", "3:1", "4:8", "5:1"]);
+}
+
+/// The script with a few words, lines and characters damaged.
+fn damaged(random: &mut Random, script: &str) -> String {
+    let mut letters: Vec<char> = script.chars().collect();
+    for _ in 0..1 + random.below(4) {
+        let at = random.below(letters.len().max(1));
+        if letters.is_empty() {
+            break;
+        }
+        match random.below(4) {
+            0 => letters[at] = ['x', '9', ' ', '\n', '#', 'é', '\t', 'o'][random.below(8)],
+            1 => drop(letters.remove(at)),
+            2 => letters.insert(at, [' ', '0', 's', '\n', '\u{3000}', '-'][random.below(6)]),
+            _ => letters.truncate(at),
+        }
+    }
+    letters.into_iter().collect()
+}
+
+#[test]
+fn damaged_scripts_have_errors_at_places_that_exist_or_are_read_as_they_stand() {
+    let script = std::fs::read_to_string(shared::root().join("examples/star-conflict.circ")).unwrap();
+    let (mut read, mut refused) = (0, 0);
+    for seed in 0..20_000 {
+        let text = damaged(&mut Random::new(seed), &script);
+        match assemble(&text) {
+            Ok(bytes) => {
+                read += 1;
+                assert_eq!(assemble(&disassemble(&bytes)).as_ref(), Ok(&bytes), "seed {seed}");
+            }
+            Err(errors) => {
+                refused += 1;
+                for error in errors {
+                    let line = text.lines().nth(error.line - 1).unwrap_or_else(|| panic!("seed {seed}: {error}"));
+                    assert!((1..=line.chars().count() + 1).contains(&error.column), "seed {seed}: {error}");
+                }
+            }
+        }
+    }
+    assert!(read > 1000 && refused > 1000, "{read} read, {refused} refused");
 }
