@@ -1,0 +1,214 @@
+//! A script to the bytes that the program `circmon` reads: 42 bytes of table, then six for each request.
+
+use crate::level::Level;
+use crate::mode::Mode;
+use crate::request::{Kind, Request};
+use crate::script::{number, Line, ScriptError};
+use crate::view::{View, OBJECTS, SUBJECTS};
+use circmon::{REQUEST_BYTES, TABLE_BYTES};
+
+/// What the lines up to here have said.
+#[derive(Default)]
+struct Assembly {
+    subjects: [Option<Level>; SUBJECTS],
+    any_subject: bool,
+    /// the table by its bytes
+    table: Option<Vec<u8>>,
+    requests: Vec<u8>,
+    any_request: bool,
+    /// where a piece stood that only the last line may have: nothing may follow it
+    last: Option<ScriptError>,
+}
+
+/// The bytes of a script, or every error in it, in the order of its lines.
+pub fn assemble(script: &str) -> Result<Vec<u8>, Vec<ScriptError>> {
+    let mut assembly = Assembly::default();
+    let mut errors = Vec::new();
+    for (at, text) in script.lines().enumerate() {
+        let mut line = Line::new(at + 1, text);
+        if line.is_empty() {
+            continue;
+        }
+        // the piece before was not the last; it is said once
+        errors.extend(assembly.last.take());
+        errors.extend(assembly.line(&mut line).err());
+    }
+    if errors.is_empty() {
+        Ok(assembly.bytes())
+    } else {
+        errors.sort_by_key(|error| (error.line, error.column));
+        Err(errors)
+    }
+}
+
+impl Assembly {
+    fn bytes(self) -> Vec<u8> {
+        let mut bytes = self.table.unwrap_or_else(|| View::table(&self.subjects).to_vec());
+        bytes.extend(self.requests);
+        bytes
+    }
+
+    fn line(&mut self, line: &mut Line) -> Result<(), ScriptError> {
+        match line.peek().map(|word| word.text) {
+            Some("subject") => self.subject(line),
+            Some("table-bytes") => self.table_bytes(line),
+            Some("bytes") => self.raw(line),
+            _ => {
+                // a line with an error further on is a request too: the subjects stand before it
+                self.any_request |= line.peek().is_some_and(|word| numbered(word.text, 's', SUBJECTS).is_some());
+                self.requests.extend(request(line)?.encode());
+                Ok(())
+            }
+        }
+    }
+
+    fn subject(&mut self, line: &mut Line) -> Result<(), ScriptError> {
+        if self.any_request {
+            return Err(line.error("the subjects stand before the first request".to_string()));
+        }
+        if self.table.is_some() {
+            return Err(line.error("expected no subject, since table-bytes gives the whole table".to_string()));
+        }
+        self.any_subject = true;
+        line.keyword("subject")?;
+        let twice = line.error("this subject stands twice".to_string());
+        let subject = line.take("a subject number (0 to 15)", |word| number(word, SUBJECTS - 1))?;
+        let clearance = level(line)?;
+        match self.subjects[subject].replace(clearance) {
+            None => Ok(()),
+            Some(_) => Err(twice),
+        }
+    }
+
+    fn table_bytes(&mut self, line: &mut Line) -> Result<(), ScriptError> {
+        if self.any_subject || self.any_request || self.table.is_some() {
+            return Err(line.error("table-bytes gives the whole table and stands first, once".to_string()));
+        }
+        self.table = Some(Vec::new());
+        line.keyword("table-bytes")?;
+        let table = match line.peek() {
+            Some(word) if word.text == "none" => {
+                line.keyword("none")?;
+                line.finish()?;
+                Vec::new()
+            }
+            _ => hex_bytes(line, TABLE_BYTES)?,
+        };
+        if table.len() < TABLE_BYTES {
+            self.last = Some(line.error_at_start(format!(
+                "expected {TABLE_BYTES} bytes, found {}: a shorter table stands only in the last line, \
+                 since circmon takes the first {TABLE_BYTES} bytes as the table",
+                table.len()
+            )));
+        }
+        self.table = Some(table);
+        Ok(())
+    }
+
+    fn raw(&mut self, line: &mut Line) -> Result<(), ScriptError> {
+        self.any_request = true;
+        line.keyword("bytes")?;
+        let bytes = hex_bytes(line, REQUEST_BYTES)?;
+        if bytes.len() < REQUEST_BYTES {
+            self.last = Some(line.error_at_start(format!(
+                "expected {REQUEST_BYTES} bytes, found {}: a shorter piece stands only in the last line, \
+                 since circmon cuts its input into pieces of {REQUEST_BYTES} bytes",
+                bytes.len()
+            )));
+        }
+        self.requests.extend(bytes);
+        Ok(())
+    }
+}
+
+/// The bytes up to the end of the line: at least one, at most `most`.
+fn hex_bytes(line: &mut Line, most: usize) -> Result<Vec<u8>, ScriptError> {
+    let mut bytes = Vec::new();
+    while bytes.is_empty() || line.peek().is_some() {
+        if bytes.len() == most {
+            return Err(line.unexpected(&format!("the end of the line after {most} bytes")));
+        }
+        bytes.push(line.take("a byte (two hexadecimal digits)", hex_byte)?);
+    }
+    Ok(bytes)
+}
+
+fn hex_byte(word: &str) -> Option<u8> {
+    let plain = word.len() == 2 && word.bytes().all(|byte| byte.is_ascii_hexdigit());
+    plain.then(|| u8::from_str_radix(word, 16).ok())?
+}
+
+const VERBS: &str = "a request (create, get, release, give, rescind, delete or level)";
+
+/// `s1 get r o0` and the others.
+fn request(line: &mut Line) -> Result<Request, ScriptError> {
+    let first = "a subject (s0 to s15), 'subject', 'bytes' or 'table-bytes'";
+    let actor = line.take(first, |word| numbered(word, 's', SUBJECTS))?;
+    let verb = line.take(VERBS, |word| verb(word).map(|_| word.to_string()))?;
+    let request = match verb.as_str() {
+        "get" | "release" => {
+            let kind = if verb == "get" { Kind::Get(mode(line)?) } else { Kind::Release(mode(line)?) };
+            Request { actor, object: object(line)?, kind }
+        }
+        "give" | "rescind" => {
+            let other = line.take("a subject (s0 to s15)", |word| numbered(word, 's', SUBJECTS))?;
+            let mode = mode(line)?;
+            let kind = if verb == "give" { Kind::Give(other, mode) } else { Kind::Rescind(other, mode) };
+            Request { actor, object: object(line)?, kind }
+        }
+        "create" => Request { actor, object: object(line)?, kind: Kind::Create { execute: with_execute(line)? } },
+        "delete" => Request { actor, object: object(line)?, kind: Kind::Delete },
+        _ => Request { actor, object: object(line)?, kind: Kind::ChangeLevel(level(line)?) },
+    };
+    line.finish()?;
+    Ok(request)
+}
+
+fn verb(word: &str) -> Option<&str> {
+    ["create", "get", "release", "give", "rescind", "delete", "level"].into_iter().find(|&verb| verb == word)
+}
+
+fn numbered(word: &str, letter: char, count: usize) -> Option<usize> {
+    number(word.strip_prefix(letter)?, count - 1)
+}
+
+fn mode(line: &mut Line) -> Result<Mode, ScriptError> {
+    line.take("a mode (r, w, a or e)", Mode::from_letter)
+}
+
+fn object(line: &mut Line) -> Result<usize, ScriptError> {
+    line.take("an object (o0 to o63)", |word| numbered(word, 'o', OBJECTS))
+}
+
+fn with_execute(line: &mut Line) -> Result<bool, ScriptError> {
+    if line.peek().is_none() {
+        return Ok(false);
+    }
+    line.take("'with e' or the end of the line", |word| (word == "with").then_some(()))?;
+    line.keyword("e")?;
+    Ok(true)
+}
+
+/// `class 3 needs 0 1` or `class 0 needs none`, up to the end of the line.
+fn level(line: &mut Line) -> Result<Level, ScriptError> {
+    line.keyword("class")?;
+    let class = line.take("a class (0 to 15)", |word| number(word, 15))? as u8;
+    line.keyword("needs")?;
+    let mut needs = 0;
+    if line.peek().is_some_and(|word| word.text == "none") {
+        line.keyword("none")?;
+        line.finish()?;
+        return Ok(Level { class, needs });
+    }
+    let mut expected = "a need (0 to 15) or 'none'";
+    while needs == 0 || line.peek().is_some() {
+        let twice = line.error("this need stands twice".to_string());
+        let need = line.take(expected, |word| number(word, 15))?;
+        if needs >> need & 1 == 1 {
+            return Err(twice);
+        }
+        needs |= 1 << need;
+        expected = "a need (0 to 15) or the end of the line";
+    }
+    Ok(Level { class, needs })
+}

@@ -1,0 +1,238 @@
+//! Why a request is refused, found from the state before it. The reply itself is the library's; this finds the cause
+//! without knowing the number, and the tests compare the two.
+
+use crate::mode::{Mode, Modes};
+use crate::properties::{self, Holding, Pair};
+use crate::request::{Kind, Malformed, Request};
+use crate::view::{Object, View, SUBJECTS};
+use crate::words::malformed_words;
+use std::fmt;
+
+#[derive(Clone, Debug, PartialEq, Eq)]
+pub enum Cause {
+    Malformed(Vec<Malformed>),
+    NotEnrolled { subject: usize },
+    NotLive { object: usize },
+    Live { object: usize, owner: usize },
+    Missing(Missing),
+    NoLabel { object: usize },
+    Simple { place: Holding, by: By },
+    Star { pair: Pair, by: By },
+}
+
+/// What would break a property: an access that comes to those held, or another label below them.
+#[derive(Clone, Copy, Debug, PartialEq, Eq)]
+pub enum By {
+    Access,
+    Level,
+}
+
+/// Ownership or a right that the actor does not have.
+#[derive(Clone, Debug, PartialEq, Eq)]
+pub struct Missing {
+    pub actor: usize,
+    pub object: usize,
+    pub owner: usize,
+    pub rights: Modes,
+    pub needs_ownership: bool,
+    pub needs_right: Option<Mode>,
+}
+
+#[derive(Clone, Debug, PartialEq, Eq)]
+pub enum Verdict {
+    Changed,
+    Already,
+    Refused(Cause),
+}
+
+impl Verdict {
+    pub fn number(&self) -> u8 {
+        match self {
+            Verdict::Changed => 0,
+            Verdict::Already => 1,
+            Verdict::Refused(cause) => cause.number(),
+        }
+    }
+}
+
+impl Cause {
+    pub fn number(&self) -> u8 {
+        match self {
+            Cause::Malformed(_) => 2,
+            Cause::NotEnrolled { .. } => 3,
+            Cause::NotLive { .. } => 4,
+            Cause::Live { .. } => 5,
+            Cause::Missing(_) => 6,
+            Cause::NoLabel { .. } => 7,
+            Cause::Simple { .. } => 8,
+            Cause::Star { .. } => 9,
+        }
+    }
+}
+
+/// What the scope says of a byte string in a secure state.
+pub fn judge(view: &View, bytes: &[u8]) -> Verdict {
+    let request = match Request::decode(bytes) {
+        Ok(request) => request,
+        Err(reasons) => return Verdict::Refused(Cause::Malformed(reasons)),
+    };
+    let after = after(view, &request);
+    match refusal(view, &after, &request) {
+        Some(cause) => Verdict::Refused(cause),
+        None if after == *view => Verdict::Already,
+        None => Verdict::Changed,
+    }
+}
+
+/// The first cause in the order 3, then 4 or 5, then 6, 7, 8, 9.
+fn refusal(view: &View, after: &View, request: &Request) -> Option<Cause> {
+    enrolment(view, request)
+        .or_else(|| life(view, request))
+        .or_else(|| missing(view, request))
+        .or_else(|| label(after, request))
+        .or_else(|| simple(after, request))
+        .or_else(|| star(after, request))
+}
+
+fn enrolment(view: &View, request: &Request) -> Option<Cause> {
+    let other = match request.kind {
+        Kind::Give(other, _) | Kind::Rescind(other, _) => other,
+        _ => request.actor,
+    };
+    let subject = [request.actor, other].into_iter().find(|&subject| view.subjects[subject].is_none())?;
+    Some(Cause::NotEnrolled { subject })
+}
+
+fn life(view: &View, request: &Request) -> Option<Cause> {
+    let object = request.object;
+    match (&view.objects[object], request.kind) {
+        (Some(it), Kind::Create { .. }) => Some(Cause::Live { object, owner: it.owner }),
+        (None, Kind::Create { .. }) => None,
+        (None, _) => Some(Cause::NotLive { object }),
+        (Some(_), _) => None,
+    }
+}
+
+fn missing(view: &View, request: &Request) -> Option<Cause> {
+    let it = view.objects[request.object].as_ref()?;
+    let (owning, right) = match request.kind {
+        Kind::Get(mode) => (false, Some(mode)),
+        Kind::Give(_, mode) | Kind::Rescind(_, mode) => (true, Some(mode)),
+        Kind::Delete | Kind::ChangeLevel(_) => (true, None),
+        Kind::Release(_) | Kind::Create { .. } => (false, None),
+    };
+    let rights = it.rights[request.actor];
+    let missing = Missing {
+        actor: request.actor,
+        object: request.object,
+        owner: it.owner,
+        rights,
+        needs_ownership: owning && it.owner != request.actor,
+        needs_right: right.filter(|&mode| !rights.has(mode)),
+    };
+    (missing.needs_ownership || missing.needs_right.is_some()).then_some(Cause::Missing(missing))
+}
+
+fn label(after: &View, request: &Request) -> Option<Cause> {
+    if !matches!(request.kind, Kind::Get(Mode::Read | Mode::Write | Mode::Append)) {
+        return None;
+    }
+    let place = properties::label(after).into_iter().next()?;
+    Some(Cause::NoLabel { object: place.object })
+}
+
+fn simple(after: &View, request: &Request) -> Option<Cause> {
+    if !matches!(request.kind, Kind::Get(Mode::Read | Mode::Write) | Kind::ChangeLevel(_)) {
+        return None;
+    }
+    let place = properties::simple(after).into_iter().next()?;
+    Some(Cause::Simple { place, by: by(request) })
+}
+
+fn star(after: &View, request: &Request) -> Option<Cause> {
+    if !matches!(request.kind, Kind::Get(Mode::Read | Mode::Write | Mode::Append) | Kind::ChangeLevel(_)) {
+        return None;
+    }
+    let pair = properties::star(after).into_iter().next()?;
+    Some(Cause::Star { pair, by: by(request) })
+}
+
+fn by(request: &Request) -> By {
+    match request.kind {
+        Kind::ChangeLevel(_) => By::Level,
+        _ => By::Access,
+    }
+}
+
+/// The state that the request would leave if nothing refused it.
+pub fn after(view: &View, request: &Request) -> View {
+    let mut after = view.clone();
+    let slot = &mut after.objects[request.object];
+    match (request.kind, slot.as_mut()) {
+        (Kind::Create { execute }, None) => *slot = Some(created(request.actor, execute)),
+        (Kind::Delete, Some(_)) => *slot = None,
+        (kind, Some(it)) => change(it, request.actor, kind),
+        (_, None) => {}
+    }
+    after
+}
+
+fn created(actor: usize, execute: bool) -> Object {
+    let mut rights = [Modes::default(); SUBJECTS];
+    for mode in Mode::ALL.into_iter().filter(|&mode| execute || mode != Mode::Execute) {
+        rights[actor] = rights[actor].with(mode);
+    }
+    Object { owner: actor, label: None, rights, held: [Modes::default(); SUBJECTS] }
+}
+
+fn change(it: &mut Object, actor: usize, kind: Kind) {
+    match kind {
+        Kind::Get(mode) => it.held[actor] = it.held[actor].with(mode),
+        Kind::Release(mode) => it.held[actor] = it.held[actor].without(mode),
+        Kind::Give(other, mode) => it.rights[other] = it.rights[other].with(mode),
+        Kind::Rescind(other, mode) => {
+            it.rights[other] = it.rights[other].without(mode);
+            it.held[other] = it.held[other].without(mode);
+        }
+        Kind::ChangeLevel(level) => it.label = Some(level),
+        Kind::Create { .. } | Kind::Delete => {}
+    }
+}
+
+impl fmt::Display for Cause {
+    fn fmt(&self, out: &mut fmt::Formatter) -> fmt::Result {
+        match self {
+            Cause::Malformed(reasons) => write!(out, "{}", malformed_words(reasons)),
+            Cause::NotEnrolled { subject } => write!(out, "s{subject} is not enrolled"),
+            Cause::NotLive { object } => write!(out, "o{object} is not live"),
+            Cause::Live { object, owner } => write!(out, "o{object} is live, and s{owner} owns it"),
+            Cause::Missing(missing) => missing.fmt(out),
+            Cause::NoLabel { object } => write!(
+                out,
+                "o{object} has no label; that is not class 0: nobody reads, writes or appends to it before it has one"
+            ),
+            Cause::Simple { place, by: By::Access } => write!(out, "{}", place.simple_words()),
+            Cause::Simple { place, by: By::Level } => {
+                let held = place.held.reading();
+                write!(out, "s{} holds {held} on o{}, and with the new level ", place.subject, place.object)?;
+                write!(out, "{}", place.simple_words())
+            }
+            Cause::Star { pair, by: By::Access } => write!(out, "{}", pair.words("would hold")),
+            Cause::Star { pair, by: By::Level } => write!(out, "with the new level {}", pair.words("holds")),
+        }
+    }
+}
+
+/// What is missing, then who owns the object and what rights the actor has.
+impl fmt::Display for Missing {
+    fn fmt(&self, out: &mut fmt::Formatter) -> fmt::Result {
+        let (actor, object, owner) = (self.actor, self.object, self.owner);
+        match (self.needs_ownership, self.needs_right) {
+            (true, None) => write!(out, "s{actor} does not own o{object}")?,
+            (true, Some(mode)) => write!(out, "s{actor} does not own o{object} and has no right {mode} on it")?,
+            (false, Some(mode)) => write!(out, "s{actor} has no right {mode} on o{object}")?,
+            (false, None) => {}
+        }
+        write!(out, "; the owner is s{owner}; the rights of s{actor}: {}", self.rights)
+    }
+}

@@ -1,0 +1,81 @@
+//! Two images: equal, or where they differ and the requests that show it.
+
+use crate::difference::differences;
+use crate::distinguish::{distinguish, MOST_REQUESTS};
+use crate::explain::{step, Step};
+use crate::paint::Paint;
+use crate::refusal;
+use crate::view::View;
+use crate::words::{count, reply_words, wrapped};
+use circmon::{Unit, REQUEST_BYTES};
+
+/// An image with the name of its file.
+pub struct Named<'a> {
+    pub name: &'a str,
+    pub bytes: &'a [u8],
+}
+
+pub enum Comparison {
+    Equal(String),
+    Different(String),
+    /// an image is refused
+    Trouble(String),
+}
+
+/// Both texts, and the list of requests from the library.
+pub fn compare(a: &Named, b: &Named, paint: Paint) -> Comparison {
+    let mut requests = [0; MOST_REQUESTS * REQUEST_BYTES];
+    match distinguish(a.bytes, b.bytes, &mut requests) {
+        0 if a.bytes == b.bytes => Comparison::Equal(equal(a, b)),
+        number @ 1..=4 => different(a, b, &requests[..usize::from(number) * REQUEST_BYTES], paint),
+        number @ 129..=191 => Comparison::Trouble(refusal::of_image(&format!("A, {}", a.name), a.bytes, number - 128)),
+        number @ 193..=255 => Comparison::Trouble(refusal::of_image(&format!("B, {}", b.name), b.bytes, number - 192)),
+        number => Comparison::Trouble(format!("no list of requests was found (number {number}); please report it\n")),
+    }
+}
+
+fn equal(a: &Named, b: &Named) -> String {
+    format!(
+        "equal: {} and {}\n\
+         Every further list of requests draws the same replies from both. \
+         This is proved: docs/THEOREMS.md, demand 3.\n",
+        a.name, b.name
+    )
+}
+
+fn different(a: &Named, b: &Named, requests: &[u8], paint: Paint) -> Comparison {
+    let (Ok(mut first), Ok(mut second)) = (Unit::from_image(a.bytes), Unit::from_image(b.bytes)) else {
+        return Comparison::Trouble("an image that was accepted is refused; please report it\n".to_string());
+    };
+    let places = differences(&View::new(a.bytes), &View::new(b.bytes));
+    let mut text = format!("A: {}\nB: {}\n\n", a.name, b.name);
+    text.push_str(&paint.heading(&format!("different in {}", count(places.len(), "place", "places"))));
+    text.push('\n');
+    for place in &places {
+        text.push_str(&format!("  {place}\n"));
+    }
+    text.push_str(&format!("\n{}\n", paint.heading("requests on which the two reply differently")));
+    let mut told = false;
+    for (at, request) in requests.chunks(REQUEST_BYTES).enumerate() {
+        let (in_a, in_b) = (step(&mut first, request), step(&mut second, request));
+        told |= in_a.reply != in_b.reply;
+        text.push_str(&both_replies(at + 1, &in_a, &in_b, paint));
+    }
+    if told {
+        Comparison::Different(text)
+    } else {
+        Comparison::Trouble("the list of requests draws the same replies from both; please report it\n".to_string())
+    }
+}
+
+fn both_replies(number: usize, a: &Step, b: &Step, paint: Paint) -> String {
+    let mark = if a.reply == b.reply { String::new() } else { paint.refusal("   <- different") };
+    let mut text = format!("{number:>4}  {}{mark}\n", a.request);
+    for (name, step) in [("A", a), ("B", b)] {
+        text.push_str(&format!("        {name}: {}\n", reply_words(step.reply)));
+        if let Some(reason) = &step.reason {
+            text.push_str(&wrapped(reason, "           ", 100));
+        }
+    }
+    text
+}

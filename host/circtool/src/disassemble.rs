@@ -1,0 +1,64 @@
+//! Bytes back to a script, exactly: assembling it gives the same bytes, for every byte string.
+
+use crate::fault;
+use crate::request::{reasons_words, Kind, Request};
+use crate::view::View;
+use crate::words::{hex, refusal_words};
+use circmon::{Unit, REQUEST_BYTES, TABLE_BYTES};
+
+/// As many requests as the program `circmon` reads.
+pub const MOST_REQUESTS: usize = 4096;
+
+pub fn disassemble(bytes: &[u8]) -> String {
+    let (table, requests) = bytes.split_at(bytes.len().min(TABLE_BYTES));
+    let mut script = table_lines(table);
+    if !requests.is_empty() {
+        script.push('\n');
+    }
+    for (at, piece) in requests.chunks(REQUEST_BYTES).enumerate() {
+        if at == MOST_REQUESTS {
+            script.push_str("# the program circmon reads no further than 4,096 requests\n");
+        }
+        script.push_str(&piece_line(piece));
+        script.push('\n');
+    }
+    script
+}
+
+/// The subjects, or the bytes of a table that is not well formed with the reason.
+fn table_lines(table: &[u8]) -> String {
+    if let Err(number) = Unit::from_table(table) {
+        let bytes = if table.is_empty() { "none".to_string() } else { hex(table) };
+        let place = fault::of_table(table).first().map(|fault| format!(": {fault}")).unwrap_or_default();
+        return format!("# table refused with {}{place}\ntable-bytes {bytes}\n", refusal_words(number));
+    }
+    let lines: String =
+        View::new(table).enrolled().map(|(subject, level)| format!("subject {subject} {level}\n")).collect();
+    if lines.is_empty() {
+        "# nobody is enrolled\n".to_string()
+    } else {
+        lines
+    }
+}
+
+fn piece_line(piece: &[u8]) -> String {
+    match Request::decode(piece) {
+        Ok(request) => request_line(&request),
+        Err(reasons) => format!("bytes {}  # {}", hex(piece), reasons_words(&reasons)),
+    }
+}
+
+/// A request as scripts write it.
+pub fn request_line(request: &Request) -> String {
+    let (actor, object) = (request.actor, request.object);
+    match request.kind {
+        Kind::Get(mode) => format!("s{actor} get {mode} o{object}"),
+        Kind::Release(mode) => format!("s{actor} release {mode} o{object}"),
+        Kind::Give(other, mode) => format!("s{actor} give s{other} {mode} o{object}"),
+        Kind::Rescind(other, mode) => format!("s{actor} rescind s{other} {mode} o{object}"),
+        Kind::Create { execute: false } => format!("s{actor} create o{object}"),
+        Kind::Create { execute: true } => format!("s{actor} create o{object} with e"),
+        Kind::Delete => format!("s{actor} delete o{object}"),
+        Kind::ChangeLevel(level) => format!("s{actor} level o{object} {level}"),
+    }
+}

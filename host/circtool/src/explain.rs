@@ -1,0 +1,77 @@
+//! A run as a table for people: each request and reply in words, and for each refusal its cause.
+
+use crate::cause::{judge, Verdict};
+use crate::paint::Paint;
+use crate::view::View;
+use crate::words::{bytes_words, count, reply_words, wrapped};
+use circmon::{Unit, REQUEST_BYTES};
+
+/// One request of a run.
+#[derive(Clone, Debug, PartialEq, Eq)]
+pub struct Step {
+    pub request: String,
+    /// the library's reply
+    pub reply: u8,
+    /// why it is a refusal
+    pub reason: Option<String>,
+}
+
+/// Carries out the request on the unit; the reply is the unit's, the reason is found in the state before it.
+pub fn step(unit: &mut Unit, bytes: &[u8]) -> Step {
+    let before = View::new(unit.image());
+    let reply = unit.request(bytes);
+    let reason = match judge(&before, bytes) {
+        _ if reply <= 1 => None,
+        Verdict::Refused(cause) if cause.number() == reply => Some(cause.to_string()),
+        // must not happen, and must not pass for an explanation
+        _ => Some("circtool finds no cause for this number; please report it".to_string()),
+    };
+    Step { request: bytes_words(bytes), reply, reason }
+}
+
+/// The steps of a run, a short last piece counted.
+pub fn steps(unit: &mut Unit, requests: &[u8]) -> Vec<Step> {
+    requests.chunks(REQUEST_BYTES).map(|piece| step(unit, piece)).collect()
+}
+
+/// The whole text: the subjects, a row for each step with its reason below, and a count.
+pub fn explain(unit: &mut Unit, requests: &[u8], paint: Paint) -> String {
+    let subjects = subject_lines(&View::new(unit.image()));
+    let steps = steps(unit, requests);
+    let width = steps.iter().map(|step| step.request.chars().count()).max().unwrap_or(0).max("request".len());
+    let mut text = format!("{}\n{subjects}\n", paint.heading("subjects"));
+    text.push_str(&paint.heading(&format!("step  {:<width$}  reply", "request")));
+    text.push('\n');
+    for (at, step) in steps.iter().enumerate() {
+        text.push_str(&row(at + 1, step, width, paint));
+    }
+    text.push('\n');
+    text.push_str(&summary(&steps));
+    text
+}
+
+fn subject_lines(view: &View) -> String {
+    let lines: String = view.enrolled().map(|(subject, level)| format!("  s{subject:<3} {level}\n")).collect();
+    if lines.is_empty() {
+        "  nobody is enrolled\n".to_string()
+    } else {
+        lines
+    }
+}
+
+fn row(number: usize, step: &Step, width: usize, paint: Paint) -> String {
+    let reply = reply_words(step.reply);
+    let reply = if step.reply > 1 { paint.refusal(&reply) } else { reply };
+    let mut row = format!("{number:>4}  {:<width$}  {reply}\n", step.request);
+    if let Some(reason) = &step.reason {
+        row.push_str(&wrapped(reason, "        ", 100));
+    }
+    row
+}
+
+fn summary(steps: &[Step]) -> String {
+    let granted = steps.iter().filter(|step| step.reply <= 1).count();
+    let already = steps.iter().filter(|step| step.reply == 1).count();
+    let requests = count(steps.len(), "request", "requests");
+    format!("{requests}: {granted} granted ({already} of them so already), {} refused\n", steps.len() - granted)
+}

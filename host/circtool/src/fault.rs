@@ -1,0 +1,170 @@
+//! Where a refused table or image is at fault: every place of the first check that refuses it. The number is the
+//! library's; the tests compare it with the one found here.
+
+use crate::bits::bit;
+use crate::layout::SUBJECT_BITS;
+use crate::layout::{bit_name, object_at, place, record_of, subject_at, Record, LABEL_AT, OBJECT_BITS, ROWS_AT};
+use crate::mode::Modes;
+use crate::properties::{self, Holding, Pair};
+use crate::view::{View, OBJECTS, SUBJECTS};
+use circmon::{IMAGE_BYTES, TABLE_BYTES};
+use std::fmt;
+
+#[derive(Clone, Debug, PartialEq, Eq)]
+pub enum Fault {
+    Length { found: usize, expected: usize },
+    Stray { absent: Absent, bits: Vec<usize> },
+    NotEnrolled { subject: usize, object: usize, owns: bool, rights: Modes, held: Modes },
+    Discretionary(Holding),
+    Label(Holding),
+    Simple(Holding),
+    Star(Pair),
+}
+
+/// What is absent and has a bit of its own set.
+#[derive(Clone, Copy, Debug, PartialEq, Eq)]
+pub enum Absent {
+    Subject(usize),
+    Object(usize),
+    LabelOf(usize),
+}
+
+/// Checks 10 and 11 of a table.
+pub fn of_table(bytes: &[u8]) -> Vec<Fault> {
+    if bytes.len() != TABLE_BYTES {
+        return vec![Fault::Length { found: bytes.len(), expected: TABLE_BYTES }];
+    }
+    (0..SUBJECTS).filter_map(|subject| stray_in_subject(bytes, subject)).collect()
+}
+
+/// Checks 10, 11, 12, 6, 7, 8, 9 of an image, each over the whole image before the next.
+pub fn of_image(bytes: &[u8]) -> Vec<Fault> {
+    if bytes.len() != IMAGE_BYTES {
+        return vec![Fault::Length { found: bytes.len(), expected: IMAGE_BYTES }];
+    }
+    let view = View::new(bytes);
+    let checks: [&dyn Fn() -> Vec<Fault>; 6] = [
+        &|| stray(bytes),
+        &|| not_enrolled(&view),
+        &|| properties::discretionary(&view).into_iter().map(Fault::Discretionary).collect(),
+        &|| properties::label(&view).into_iter().map(Fault::Label).collect(),
+        &|| properties::simple(&view).into_iter().map(Fault::Simple).collect(),
+        &|| properties::star(&view).into_iter().map(Fault::Star).collect(),
+    ];
+    checks.iter().map(|check| check()).find(|faults| !faults.is_empty()).unwrap_or_default()
+}
+
+fn stray(bytes: &[u8]) -> Vec<Fault> {
+    let subjects = (0..SUBJECTS).filter_map(|subject| stray_in_subject(bytes, subject));
+    let objects = (0..OBJECTS).filter_map(|object| stray_in_object(bytes, object));
+    subjects.chain(objects).collect()
+}
+
+/// The bits set in a record behind its first bit, where that one is 0.
+fn stray_bits(bytes: &[u8], at: usize, width: usize) -> Option<Vec<usize>> {
+    let bits: Vec<usize> = (at + 1..at + width).filter(|&place| bit(bytes, place)).collect();
+    (!bit(bytes, at) && !bits.is_empty()).then_some(bits)
+}
+
+fn stray_in_subject(bytes: &[u8], subject: usize) -> Option<Fault> {
+    let bits = stray_bits(bytes, subject_at(subject), SUBJECT_BITS)?;
+    Some(Fault::Stray { absent: Absent::Subject(subject), bits })
+}
+
+fn stray_in_object(bytes: &[u8], object: usize) -> Option<Fault> {
+    let at = object_at(object);
+    let (absent, bits) = if bit(bytes, at) {
+        (Absent::LabelOf(object), stray_bits(bytes, at + LABEL_AT, ROWS_AT - LABEL_AT)?)
+    } else {
+        (Absent::Object(object), stray_bits(bytes, at, OBJECT_BITS)?)
+    };
+    Some(Fault::Stray { absent, bits })
+}
+
+fn not_enrolled(view: &View) -> Vec<Fault> {
+    let mut faults = Vec::new();
+    for (object, it) in view.live() {
+        for subject in (0..SUBJECTS).filter(|&subject| view.subjects[subject].is_none()) {
+            let (owns, rights, held) = (it.owner == subject, it.rights[subject], it.held[subject]);
+            if owns || !rights.is_empty() || !held.is_empty() {
+                faults.push(Fault::NotEnrolled { subject, object, owns, rights, held });
+            }
+        }
+    }
+    faults
+}
+
+impl Fault {
+    pub fn number(&self) -> u8 {
+        match self {
+            Fault::Length { .. } => 10,
+            Fault::Stray { .. } => 11,
+            Fault::NotEnrolled { .. } => 12,
+            Fault::Discretionary(_) => 6,
+            Fault::Label(_) => 7,
+            Fault::Simple(_) => 8,
+            Fault::Star(_) => 9,
+        }
+    }
+
+    /// The records that the fault lies in.
+    pub fn records(&self) -> Vec<Record> {
+        let of = |it: &Holding| vec![Record::Subject(it.subject), Record::Object(it.object)];
+        match self {
+            Fault::Length { .. } => Vec::new(),
+            Fault::Stray { bits, .. } => vec![record_of(bits[0])],
+            Fault::NotEnrolled { subject, object, .. } => vec![Record::Subject(*subject), Record::Object(*object)],
+            Fault::Discretionary(it) | Fault::Label(it) | Fault::Simple(it) => of(it),
+            Fault::Star(pair) => [of(&pair.read), of(&pair.written)].concat(),
+        }
+    }
+}
+
+impl fmt::Display for Fault {
+    fn fmt(&self, out: &mut fmt::Formatter) -> fmt::Result {
+        match self {
+            Fault::Length { found: 1, expected } => write!(out, "1 byte, not {expected}"),
+            Fault::Length { found, expected } => write!(out, "{found} bytes, not {expected}"),
+            Fault::Stray { absent, bits } => write!(out, "{absent}, and {}", stray_words(bits)),
+            Fault::NotEnrolled { subject, object, owns, rights, held } => {
+                let has = [
+                    owns.then(|| "is the owner".to_string()),
+                    (!rights.is_empty()).then(|| format!("has rights {rights}")),
+                    (!held.is_empty()).then(|| format!("holds {held}")),
+                ];
+                let has = has.into_iter().flatten().collect::<Vec<_>>().join(" and ");
+                write!(out, "s{subject} is not enrolled, and on o{object} it {has}")
+            }
+            Fault::Discretionary(it) => {
+                let (extra, rights) = (it.held.outside(it.rights), it.rights);
+                write!(out, "s{} holds {extra} on o{} without the right; its rights: {rights}", it.subject, it.object)
+            }
+            Fault::Label(it) => {
+                write!(out, "s{} holds {} on o{}, which has no label", it.subject, it.held, it.object)
+            }
+            Fault::Simple(it) => {
+                write!(out, "s{} holds {} on o{}; {}", it.subject, it.held, it.object, it.simple_words())
+            }
+            Fault::Star(pair) => write!(out, "{}", pair.words("holds")),
+        }
+    }
+}
+
+impl fmt::Display for Absent {
+    fn fmt(&self, out: &mut fmt::Formatter) -> fmt::Result {
+        match self {
+            Absent::Subject(subject) => write!(out, "subject record {subject} is absent"),
+            Absent::Object(object) => write!(out, "object record {object} is not live"),
+            Absent::LabelOf(object) => write!(out, "object record {object} has no label"),
+        }
+    }
+}
+
+/// The first bit with its place and field, and how many more.
+fn stray_words(bits: &[usize]) -> String {
+    let first = format!("the bit at {} ({}) is set", place(bits[0]), bit_name(bits[0]));
+    match bits.len() - 1 {
+        0 => first,
+        more => format!("{first}, and {more} more of its bits"),
+    }
+}

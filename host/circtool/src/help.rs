@@ -1,0 +1,125 @@
+//! What `--help` prints.
+
+pub const GENERAL: &str = "\
+circtool: scripts, explanations, states and comparisons for the monitor circmon
+
+Usage: circtool SUBCOMMAND [OPTIONS] [FILE]
+
+  asm      a script to the bytes that the program circmon reads
+  dis      bytes back to a script, exactly
+  explain  a run: each request and reply in words, and why it was refused
+  run      a run: one reply for each request; can write the image after it
+  show     the state in an image
+  compare  two images: equal, or where they differ and which requests show it
+
+'circtool SUBCOMMAND --help' says more. --version prints the version.
+Where no file or '-' is given, standard input is read. Every reply and every acceptance comes from the proved library.
+
+Exit status: 0 fine; 1 a table or image is refused, or two images differ; 2 usage, or input that cannot be read.
+";
+
+pub const ASM: &str = "\
+Usage: circtool asm [FILE]
+
+Writes the bytes of a script to standard output: 42 bytes of table, then six bytes for each request.
+
+A script has first the subjects, then the requests, one on a line; '#' begins a comment.
+
+  subject 1 class 3 needs 0 1      enrols s1; a subject that no line names is absent
+  subject 2 class 0 needs none
+  s1 create o0                     s1 create o1 with e
+  s1 level o0 class 2 needs 0      s1 level o0 class 0 needs none
+  s1 get r o0                      s1 release r o0
+  s1 give s0 r o1                  s1 rescind s0 r o1
+  s1 delete o0
+  bytes 50 80 00 00 00 01          six raw bytes in hexadecimal; fewer only in the last line
+  table-bytes 88 00 ..             the table by its 42 bytes, in place of the subjects; fewer (or 'none') only where
+                                   no request follows
+
+Subjects are 0 to 15, objects 0 to 63, classes and needs 0 to 15, modes r, w, a, e.
+
+Example: circtool asm examples/marked-run.circ | target/bin/circmon
+
+Exit status: 0 fine; 2 usage, a file that cannot be read, or errors in the script, each with its line and column.
+";
+
+pub const DIS: &str = "\
+Usage: circtool dis [FILE]
+
+Writes a script that stands for the bytes exactly: 'circtool asm' gives the same bytes again, for every input.
+A piece that is no request is written as 'bytes ..' with the reason, a table that is refused as 'table-bytes ..'.
+
+Example: circtool dis crates/circmon/stdin
+
+Exit status: 0 fine; 2 usage, or a file that cannot be read.
+";
+
+pub const EXPLAIN: &str = "\
+Usage: circtool explain [--script | --bytes] [FILE]
+
+Runs the requests and prints each with its reply in words and, for a refusal, its cause in the state before the request:
+the right or ownership that is missing, the absent label, the clearance that does not dominate a label, or the two
+objects that stand in the way of the star property.
+
+The input is a script or bytes as circmon reads them. Without a flag the first byte decides: 00, 80 to FF, or no byte at
+all is bytes, any other a script. An accepted table never begins like a script. circmon stops after 4,096 requests,
+circtool does not.
+
+Example: circtool explain examples/lobby-display.circ
+
+Exit status: 0 fine, also where requests are refused; 1 the table is refused; 2 usage, a file that cannot be read, or
+errors in the script.
+";
+
+pub const RUN: &str = "\
+Usage: circtool run [--script | --bytes] [--image OUT] [FILE]
+
+Runs the requests and prints one reply for each, as circmon does. With --image the image after the run is written to the
+file OUT, for 'circtool show' and 'circtool compare'. Where the input is bad, OUT is neither written nor overwritten.
+
+The input is a script or bytes as circmon reads them. Without a flag the first byte decides: 00, 80 to FF, or no byte at
+all is bytes, any other a script. circmon stops after 4,096 requests, circtool does not.
+
+Example: circtool run examples/marked-run.circ --image marked.img
+
+Exit status: 0 fine, also where requests are refused; 1 the table is refused; 2 usage, a file that cannot be read or
+written, or errors in the script.
+";
+
+pub const SHOW: &str = "\
+Usage: circtool show [--anyway] [IMAGE]
+
+Prints the state in an image: counts, enrolled subjects with clearances, live objects with owner, label or 'no label',
+and each subject that has rights or holds accesses on them. Of a refused image it prints the number, the check in words
+and where it failed; with --anyway also the fields as they stand, without what is marked absent.
+
+Colour is used only where standard output is a terminal and NO_COLOR is not set.
+
+Example: circtool show marked.img
+
+Exit status: 0 fine; 1 the image is refused; 2 usage, or a file that cannot be read.
+";
+
+pub const COMPARE: &str = "\
+Usage: circtool compare A B
+
+Compares two images. Equal: every further list of requests draws the same replies from both, which is proved. Different:
+where, in words, and at most four requests on which the two reply differently, with both replies to each.
+
+Example: circtool compare before.img after.img
+
+Exit status: 0 equal; 1 different; 2 trouble: usage, a file that cannot be read, or an image that is refused.
+";
+
+/// The help of a subcommand.
+pub fn of(subcommand: &str) -> Option<&'static str> {
+    Some(match subcommand {
+        "asm" => ASM,
+        "dis" => DIS,
+        "explain" => EXPLAIN,
+        "run" => RUN,
+        "show" => SHOW,
+        "compare" => COMPARE,
+        _ => return None,
+    })
+}

@@ -1,0 +1,27 @@
+//! What the command `circtool` is made of. Every reply and every acceptance comes from the proved library through the
+//! crate `circmon`; what stands here reads bytes and scripts, finds the words for them, and prints.
+
+mod arguments;
+pub mod assemble;
+mod bits;
+pub mod cause;
+pub mod cli;
+pub mod compare;
+pub mod difference;
+pub mod disassemble;
+pub mod distinguish;
+pub mod explain;
+pub mod fault;
+pub mod help;
+pub mod input;
+pub mod layout;
+pub mod level;
+pub mod mode;
+pub mod paint;
+pub mod properties;
+pub mod refusal;
+pub mod request;
+pub mod script;
+pub mod show;
+pub mod view;
+pub mod words;

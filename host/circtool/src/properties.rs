@@ -1,0 +1,130 @@
+//! Where a state breaks one of the four properties: every place, so that it can be named. Requests are explained from
+//! the state after them, refused images from the state that they say.
+
+use crate::level::{label_words, Level};
+use crate::mode::Modes;
+use crate::view::{Object, View, SUBJECTS};
+
+/// What one subject holds on one object, with what it is compared with.
+#[derive(Clone, Debug, PartialEq, Eq)]
+pub struct Holding {
+    pub subject: usize,
+    pub object: usize,
+    pub held: Modes,
+    pub rights: Modes,
+    pub clearance: Option<Level>,
+    pub label: Option<Level>,
+}
+
+/// Two objects of one subject: the label of the written one does not dominate that of the read one.
+#[derive(Clone, Debug, PartialEq, Eq)]
+pub struct Pair {
+    pub read: Holding,
+    pub written: Holding,
+}
+
+fn holding(view: &View, subject: usize, object: usize, it: &Object) -> Holding {
+    Holding {
+        subject,
+        object,
+        held: it.held[subject],
+        rights: it.rights[subject],
+        clearance: view.subjects[subject],
+        label: it.label,
+    }
+}
+
+/// Every holding of an access, by object and then by subject.
+fn holdings(view: &View) -> Vec<Holding> {
+    view.live()
+        .flat_map(|(object, it)| (0..it.held.len()).map(move |subject| holding(view, subject, object, it)))
+        .filter(|it| !it.held.is_empty())
+        .collect()
+}
+
+fn places(view: &View, broken: impl Fn(&Holding) -> bool) -> Vec<Holding> {
+    holdings(view).into_iter().filter(broken).collect()
+}
+
+/// An access that is not in the matrix.
+pub fn discretionary(view: &View) -> Vec<Holding> {
+    places(view, |it| !it.held.outside(it.rights).is_empty())
+}
+
+/// r, w or a on an object without a label.
+pub fn label(view: &View) -> Vec<Holding> {
+    places(view, |it| it.label.is_none() && !(it.held.reading().is_empty() && it.held.writing().is_empty()))
+}
+
+/// r or w on an object whose label the clearance does not dominate.
+pub fn simple(view: &View) -> Vec<Holding> {
+    places(view, |it| !it.held.reading().is_empty() && !dominates(it.clearance, it.label))
+}
+
+/// r or w on one object, a or w on another whose label does not dominate the first one's.
+pub fn star(view: &View) -> Vec<Pair> {
+    let all = holdings(view);
+    (0..SUBJECTS).flat_map(|subject| star_of(&all, subject)).collect()
+}
+
+fn star_of(all: &[Holding], subject: usize) -> Vec<Pair> {
+    let own: Vec<&Holding> = all.iter().filter(|it| it.subject == subject).collect();
+    let mut pairs = Vec::new();
+    for read in own.iter().filter(|it| !it.held.reading().is_empty()) {
+        for written in own.iter().filter(|it| !it.held.writing().is_empty()) {
+            if !dominates(written.label, read.label) {
+                pairs.push(Pair { read: (*read).clone(), written: (*written).clone() });
+            }
+        }
+    }
+    pairs
+}
+
+/// An absent level neither dominates nor is dominated.
+fn dominates(above: Option<Level>, below: Option<Level>) -> bool {
+    matches!((above, below), (Some(above), Some(below)) if above.dominates(below))
+}
+
+/// What keeps one from dominating the other, also where one is absent.
+fn shortfall(above: Option<Level>, below: Option<Level>) -> String {
+    match (above, below) {
+        (Some(above), Some(below)) => above.shortfall(below).unwrap_or_default(),
+        _ => "an absent level dominates nothing and nothing dominates it".to_string(),
+    }
+}
+
+impl Holding {
+    /// Why the clearance does not dominate the label.
+    pub fn simple_words(&self) -> String {
+        let clearance = self.clearance.map_or("none, it is absent".to_string(), |level| level.to_string());
+        format!(
+            "the clearance of s{} ({clearance}) does not dominate the label of o{} ({}): {}",
+            self.subject,
+            self.object,
+            label_words(self.label),
+            shortfall(self.clearance, self.label)
+        )
+    }
+}
+
+impl Pair {
+    /// The pair and why the one label does not dominate the other; the verb is `holds` or `would hold`. Of the modes
+    /// held only those are said that read the one object and write the other.
+    pub fn words(&self, verb: &str) -> String {
+        let (read, written) = (&self.read, &self.written);
+        format!(
+            "s{} {verb} {} and {}, and the label of o{} does not dominate that of o{}: {}",
+            read.subject,
+            side(read.held.reading(), read),
+            side(written.held.writing(), written),
+            written.object,
+            read.object,
+            shortfall(written.label, read.label)
+        )
+    }
+}
+
+/// `r on o0 (class 3 needs 0 1)`
+fn side(modes: Modes, it: &Holding) -> String {
+    format!("{modes} on o{} ({})", it.object, label_words(it.label))
+}

@@ -1,0 +1,56 @@
+//! A state for people.
+
+use crate::level::NO_LABEL;
+use crate::paint::Paint;
+use crate::view::{Object, View, SUBJECTS};
+use crate::words::count;
+
+/// The whole text: counts, subjects with clearances, live objects with owner, label and rows.
+pub fn show(view: &View, paint: Paint) -> String {
+    let mut text = counts(view);
+    text.push_str(&format!("\n{}\n", paint.heading("subjects")));
+    let subjects: String = view.enrolled().map(|(subject, level)| format!("  s{subject:<3} {level}\n")).collect();
+    text.push_str(if subjects.is_empty() { "  nobody is enrolled\n" } else { &subjects });
+    text.push_str(&format!("\n{}\n", paint.heading("objects")));
+    let objects: String = view.live().map(|(number, object)| object_lines(number, object, paint)).collect();
+    text.push_str(if objects.is_empty() { "  none is live\n" } else { &objects });
+    text
+}
+
+fn counts(view: &View) -> String {
+    let enrolled = view.enrolled().count();
+    let live = view.live().count();
+    let unlabelled = view.live().filter(|(_, object)| object.label.is_none()).count();
+    let sum = |row: fn(&Object, usize) -> u32| -> usize {
+        view.live().map(|(_, object)| (0..SUBJECTS).map(|subject| row(object, subject)).sum::<u32>() as usize).sum()
+    };
+    let rights = sum(|object, subject| object.rights[subject].count());
+    let accesses = sum(|object, subject| object.held[subject].count());
+    format!(
+        "{} enrolled, {} live ({unlabelled} without a label), {}, {} held\n",
+        count(enrolled, "subject", "subjects"),
+        count(live, "object", "objects"),
+        count(rights, "right", "rights"),
+        count(accesses, "access", "accesses")
+    )
+}
+
+/// The label as a column of its own: an absent one says what follows from it and never looks like class 0.
+fn label(object: &Object, paint: Paint) -> String {
+    match object.label {
+        Some(level) => format!("label {level}"),
+        None => format!("{} (not class 0: nobody reads, writes or appends)", paint.warning(NO_LABEL)),
+    }
+}
+
+fn object_lines(number: usize, object: &Object, paint: Paint) -> String {
+    let mut lines = format!("  o{number:<3} owner s{:<3} {}\n", object.owner, label(object, paint));
+    for subject in 0..SUBJECTS {
+        let (rights, held) = (object.rights[subject], object.held[subject]);
+        if !rights.is_empty() || !held.is_empty() {
+            let holds = if held.is_empty() { String::new() } else { format!("   holds {}", held.row()) };
+            lines.push_str(&format!("         s{subject:<3} rights {}{holds}\n", rights.row()));
+        }
+    }
+    lines
+}

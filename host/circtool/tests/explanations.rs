@@ -1,0 +1,259 @@
+//! Explanations: the cause that is found without the number has the number that the library gave, and it is so.
+
+mod shared;
+
+use circmon::Unit;
+use circtool::cause::{after, judge, By, Cause, Missing, Verdict};
+use circtool::explain::{explain, step};
+use circtool::level::Level;
+use circtool::mode::Modes;
+use circtool::paint::Paint;
+use circtool::properties::{Holding, Pair};
+use circtool::view::View;
+use reference::{Kind, Monitor, Request};
+use sidebyside::SHAPES;
+
+fn level(level: reference::Level) -> Level {
+    Level { class: level.class, needs: level.needs }
+}
+
+/// The second implementation's state with the access or the label that the request asks for put in, unchecked.
+fn with_effect(monitor: &Monitor, request: &Request) -> Monitor {
+    let mut after = monitor.clone();
+    let object = after.objects[request.object].as_mut().expect("checks 8 and 9 come after 4");
+    match request.kind {
+        Kind::Get(mode) => object.held[request.actor] |= mode.bit(),
+        Kind::ChangeLevel(level) => object.label = Some(level),
+        _ => panic!("checks 8 and 9 are for get and change of level"),
+    }
+    after
+}
+
+/// That the holding is so in this state.
+fn holds(it: &Holding, state: &Monitor) {
+    let object = state.objects[it.object].as_ref().expect("a live object");
+    assert_eq!(it.held, Modes(object.held[it.subject]));
+    assert_eq!(it.rights, Modes(object.rights[it.subject]));
+    assert_eq!(it.label, object.label.map(level));
+    assert_eq!(it.clearance, state.subjects[it.subject].map(level));
+}
+
+fn missing_is_so(it: &Missing, before: &Monitor, request: &Request) {
+    let object = before.objects[it.object].as_ref().expect("a live object");
+    assert_eq!((it.actor, it.object, it.owner), (request.actor, request.object, object.owner));
+    assert_eq!(it.rights, Modes(object.rights[it.actor]));
+    assert!(!it.needs_ownership || object.owner != it.actor);
+    assert!(it.needs_right.is_none_or(|mode| !it.rights.has(mode)));
+    assert!(it.needs_ownership || it.needs_right.is_some(), "nothing is missing");
+}
+
+fn simple_is_so(place: &Holding, by: By, before: &Monitor, request: &Request) {
+    holds(place, &with_effect(before, request));
+    let by_level = matches!(request.kind, Kind::ChangeLevel(_));
+    assert_eq!((place.object, by == By::Level), (request.object, by_level));
+    assert!(!place.held.reading().is_empty());
+    assert!(!place.clearance.unwrap().dominates(place.label.unwrap()));
+    assert!(by_level || place.subject == request.actor, "a get breaks simple for its actor only");
+}
+
+fn star_is_so(pair: &Pair, by: By, before: &Monitor, request: &Request) {
+    let after = with_effect(before, request);
+    holds(&pair.read, &after);
+    holds(&pair.written, &after);
+    let by_level = matches!(request.kind, Kind::ChangeLevel(_));
+    assert_eq!((pair.read.subject, by == By::Level), (pair.written.subject, by_level));
+    assert!(!pair.read.held.reading().is_empty() && !pair.written.held.writing().is_empty());
+    assert!(!pair.written.label.unwrap().dominates(pair.read.label.unwrap()));
+    assert!([pair.read.object, pair.written.object].contains(&request.object));
+    assert!(by_level || pair.read.subject == request.actor, "a get breaks star for its actor only");
+}
+
+/// That the cause is so, by the second implementation's state before the request.
+fn cause_is_so(cause: &Cause, before: &Monitor, bytes: &[u8]) {
+    let Some(request) = Request::decode(bytes) else {
+        assert_eq!(cause.number(), 2);
+        return;
+    };
+    match cause {
+        Cause::Malformed(reasons) => panic!("malformed: {reasons:?}"),
+        Cause::NotEnrolled { subject } => {
+            let other = match request.kind {
+                Kind::Give(other, _) | Kind::Rescind(other, _) => other,
+                _ => request.actor,
+            };
+            assert!([request.actor, other].contains(subject) && before.subjects[*subject].is_none());
+        }
+        Cause::NotLive { object } => assert!(*object == request.object && before.objects[*object].is_none()),
+        Cause::Live { object, owner } => {
+            assert_eq!(*object, request.object);
+            assert_eq!(before.objects[*object].as_ref().map(|it| it.owner), Some(*owner));
+        }
+        Cause::Missing(it) => missing_is_so(it, before, &request),
+        Cause::NoLabel { object } => {
+            assert_eq!(*object, request.object);
+            assert!(before.objects[*object].as_ref().is_some_and(|it| it.label.is_none()));
+        }
+        Cause::Simple { place, by } => simple_is_so(place, *by, before, &request),
+        Cause::Star { pair, by } => star_is_so(pair, *by, before, &request),
+    }
+}
+
+/// One run; counts the replies.
+fn explain_run(seed: u64, length: usize, count: &mut [usize; 10]) {
+    let run = shared::run(seed, SHAPES[seed as usize % SHAPES.len()], length);
+    let mut unit = Unit::from_table(&run.table).unwrap();
+    let mut monitor = Monitor::from_table(&run.table).unwrap();
+    for (at, bytes) in run.requests.iter().enumerate() {
+        let before = View::new(unit.image());
+        let verdict = judge(&before, bytes);
+        let step = step(&mut unit, bytes);
+        let place = format!("seed {seed}, request {at}: {bytes:02x?}");
+        assert_eq!(step.reply, run.replies[at], "{place}");
+        assert_eq!(verdict.number(), step.reply, "{place}: {verdict:?}");
+        match verdict {
+            Verdict::Refused(cause) => {
+                let words = cause.to_string();
+                let checked = std::panic::catch_unwind(|| cause_is_so(&cause, &monitor, bytes));
+                assert!(checked.is_ok(), "{place}: {words}");
+                assert_eq!(step.reason, Some(words), "{place}");
+            }
+            _ => {
+                assert_eq!(step.reason, None, "{place}");
+                // the state after it, in which star and simple are looked for, is the one that the library leaves
+                let request = circtool::request::Request::decode(bytes).unwrap();
+                assert_eq!(after(&before, &request), View::new(unit.image()), "{place}");
+            }
+        }
+        monitor.request(bytes);
+        count[usize::from(step.reply)] += 1;
+    }
+}
+
+#[test]
+fn causes_found_along_runs_are_the_library_s_and_are_so() {
+    let mut count = [0; 10];
+    for seed in 0..60 {
+        explain_run(seed, 1000, &mut count);
+    }
+    assert!(count.iter().sum::<usize>() >= 20_000);
+    assert!(count[2..].iter().all(|&it| it > 200), "each refusal is met often: {count:?}");
+}
+
+/// The steps of a script with their replies and reasons.
+fn steps(script: &str) -> Vec<(u8, String)> {
+    let bytes = circtool::assemble::assemble(script).unwrap();
+    let mut unit = Unit::from_table(&bytes[..42]).unwrap();
+    let steps = circtool::explain::steps(&mut unit, &bytes[42..]);
+    steps.into_iter().map(|step| (step.reply, step.reason.unwrap_or_default())).collect()
+}
+
+const SUBJECTS: &str = "subject 0 class 1 needs 0\nsubject 1 class 3 needs 0 1\nsubject 2 class 3 needs none\n";
+
+fn last(requests: &str) -> (u8, String) {
+    steps(&format!("{SUBJECTS}{requests}")).pop().unwrap()
+}
+
+#[test]
+fn rights_and_ownership_are_named() {
+    for (requests, reason) in [
+        ("s0 get r o0", "s0 has no right r on o0; the owner is s1; the rights of s0: a"),
+        ("s0 delete o0", "s0 does not own o0; the owner is s1; the rights of s0: a"),
+        ("s0 give s2 a o0", "s0 does not own o0; the owner is s1; the rights of s0: a"),
+        ("s0 give s2 r o0", "s0 does not own o0 and has no right r on it; the owner is s1; the rights of s0: a"),
+        ("s1 give s0 e o0", "s1 has no right e on o0; the owner is s1; the rights of s1: r, w, a"),
+        ("s2 level o0 class 0 needs none", "s2 does not own o0; the owner is s1; the rights of s2: none"),
+    ] {
+        let script = format!("s1 create o0\ns1 give s0 a o0\n{requests}");
+        assert_eq!(last(&script), (6, reason.to_string()), "{requests}");
+    }
+    assert_eq!(last("s7 create o0"), (3, "s7 is not enrolled".to_string()));
+    assert_eq!(last("s1 give s9 r o0"), (3, "s9 is not enrolled".to_string()));
+    assert_eq!(last("s1 get r o3"), (4, "o3 is not live".to_string()));
+    assert_eq!(last("s1 create o3\ns2 create o3"), (5, "o3 is live, and s1 owns it".to_string()));
+    assert_eq!(last("bytes 50"), (2, "the bytes are no request: 1 byte, not 6".to_string()));
+}
+
+#[test]
+fn levels_and_what_fails_in_them_are_named() {
+    let labelled = "s1 create o0\ns1 give s0 r o0\ns1 give s2 w o0\ns1 level o0 class 2 needs 0\n";
+    let (reply, reason) = last(&format!("{labelled}s0 get r o0"));
+    let clearance = "the clearance of s0 (class 1 needs 0) does not dominate the label of o0 (class 2 needs 0)";
+    assert_eq!((reply, reason), (8, format!("{clearance}: class 1 is under class 2")));
+    let (reply, reason) = last(&format!("{labelled}s2 get w o0"));
+    assert!(reply == 8 && reason.ends_with("(class 2 needs 0): need 0 is missing"), "{reason}");
+    // change of level looks at everyone who holds, not at the owner alone
+    let (reply, reason) = last(
+        "s1 create o0\ns1 level o0 class 0 needs none\ns1 give s2 r o0\ns2 get r o0\n\
+                                s1 level o0 class 1 needs 1 15",
+    );
+    let holder = "s2 holds r on o0, and with the new level the clearance of s2 (class 3 needs none) does not dominate \
+                  the label of o0 (class 1 needs 1 15): needs 1 and 15 are missing";
+    assert_eq!((reply, reason.as_str()), (8, holder));
+    let (reply, reason) = last("s1 create o0\ns1 get a o0");
+    assert!(reply == 7 && reason.starts_with("o0 has no label; that is not class 0"), "{reason}");
+}
+
+#[test]
+fn star_names_the_subject_and_both_objects() {
+    let two = "s1 create o4\ns1 level o4 class 2 needs 0\ns1 create o5\ns1 level o5 class 1 needs 0 1\n\
+               s1 give s2 r o4\ns1 give s2 a o5\n";
+    let (reply, reason) = last(&format!("{two}s1 get r o4\ns1 get a o5"));
+    let expected = "s1 would hold r on o4 (class 2 needs 0) and a on o5 (class 1 needs 0 1), and the label of o5 does \
+                    not dominate that of o4: class 1 is under class 2";
+    assert_eq!((reply, reason.as_str()), (9, expected));
+    // the pair is another subject's, and the label is that after the change
+    let (reply, reason) = last(&format!(
+        "{two}s1 level o4 class 0 needs none\ns2 get r o4\ns2 get a o5\ns1 level o5 class 0 needs 3\n\
+         s1 level o4 class 1 needs none"
+    ));
+    let expected = "with the new level s2 holds r on o4 (class 1 needs none) and a on o5 (class 0 needs 3), and the \
+                    label of o5 does not dominate that of o4: class 0 is under class 1";
+    assert_eq!((reply, reason.as_str()), (9, expected));
+}
+
+/// The replies that each example is written to show.
+const EXAMPLES: [(&str, &[u8]); 4] = [
+    ("lobby-display", &[0, 0, 0, 0, 7, 7, 7, 0, 8, 8, 0, 0, 0]),
+    ("marked-run", &[0, 7, 0, 1, 0, 0, 0, 0, 9, 0, 8, 0, 9, 6, 0, 1]),
+    ("slot-again", &[0, 0, 0, 0, 0, 4, 0, 7, 0, 6, 6, 6, 0]),
+    ("star-conflict", &[0, 0, 0, 0, 0, 9, 0, 0, 9, 0, 0, 0, 9]),
+];
+
+/// The replies in the rows of what explain prints: a row begins with its step.
+fn replies_in_rows(text: &str) -> Vec<u8> {
+    let rows = text.lines().filter(|line| line.len() > 6 && line[..4].trim().parse::<usize>().is_ok());
+    rows.map(|row| row.rsplit("  ").next().unwrap()[..1].parse().unwrap()).collect()
+}
+
+#[test]
+fn every_example_replies_as_the_library_and_the_second_implementation() {
+    let files = shared::examples();
+    let names: Vec<&str> = files.iter().map(|file| file.file_stem().unwrap().to_str().unwrap()).collect();
+    assert_eq!(names, EXAMPLES.map(|(name, _)| name), "each example has its replies here");
+    for (file, (name, expected)) in files.iter().zip(EXAMPLES) {
+        let script = std::fs::read_to_string(file).unwrap();
+        assert!(script.starts_with("# "), "{name} begins with a comment that says what it shows");
+        let bytes = circtool::assemble::assemble(&script).unwrap();
+        let mut replies = vec![0xEE; expected.len()];
+        assert_eq!(circmon::replay(&bytes[..42], &bytes[42..], &mut replies), 0, "{name}");
+        assert_eq!(replies, expected, "{name}");
+        let lines: String = expected.iter().map(|reply| format!("{reply}\n")).collect();
+        assert_eq!(reference::program(&bytes), lines, "{name}");
+        let printed = shared::circtool(&["run", file.to_str().unwrap()], b"");
+        assert_eq!(shared::out(&printed), lines, "{name}");
+        let printed = shared::circtool(&["explain", file.to_str().unwrap()], b"");
+        shared::ended(&printed, 0);
+        assert_eq!(replies_in_rows(&shared::out(&printed)), expected, "{name}");
+        assert!(!shared::out(&printed).contains("please report"), "{name}");
+    }
+}
+
+#[test]
+fn colour_adds_no_word() {
+    let script = std::fs::read_to_string(shared::root().join("examples/lobby-display.circ")).unwrap();
+    let bytes = circtool::assemble::assemble(&script).unwrap();
+    let text = |paint| explain(&mut Unit::from_table(&bytes[..42]).unwrap(), &bytes[42..], paint);
+    let coloured = text(Paint::COLOURED);
+    assert!(coloured.contains("\x1b[31m7 refused: no label\x1b[0m"), "{coloured}");
+    assert_eq!(shared::without_colour(&coloured), text(Paint::PLAIN));
+}

@@ -1,0 +1,91 @@
+//! What the tests share: runs from seeds, the folder of the repository, and calls of the command.
+#![allow(dead_code)] // each test program uses a part
+
+use load::{Random, Shape};
+use reference::Monitor;
+use std::io::Write;
+use std::path::{Path, PathBuf};
+use std::process::{Command, Output, Stdio};
+
+pub fn root() -> PathBuf {
+    Path::new(env!("CARGO_MANIFEST_DIR")).join("../..").canonicalize().unwrap()
+}
+
+/// A folder of its own for one test, empty.
+pub fn folder(name: &str) -> PathBuf {
+    let folder = Path::new(env!("CARGO_TARGET_TMPDIR")).join("circtool").join(name);
+    let _ = std::fs::remove_dir_all(&folder);
+    std::fs::create_dir_all(&folder).unwrap();
+    folder
+}
+
+pub fn examples() -> Vec<PathBuf> {
+    let mut files: Vec<PathBuf> =
+        std::fs::read_dir(root().join("examples")).unwrap().map(|entry| entry.unwrap().path()).collect();
+    files.retain(|file| file.extension().is_some_and(|it| it == "circ"));
+    files.sort();
+    assert!(files.len() >= 4, "{files:?}");
+    files
+}
+
+/// Table and requests of a run that the second implementation has followed, and its replies.
+pub struct Run {
+    pub table: [u8; 42],
+    pub requests: Vec<Vec<u8>>,
+    pub replies: Vec<u8>,
+    pub monitor: Monitor,
+}
+
+/// A run with damaged requests of any length from 0 to 8.
+pub fn run(seed: u64, shape: Shape, length: usize) -> Run {
+    let random = &mut Random::new(seed);
+    let table = load::table(random, shape);
+    let mut run = Run { table, requests: vec![], replies: vec![], monitor: Monitor::from_table(&table).unwrap() };
+    for _ in 0..length {
+        let bytes = load::bytes(random, shape, &run.monitor);
+        run.replies.push(run.monitor.request(&bytes));
+        run.requests.push(bytes);
+    }
+    run
+}
+
+/// The command with these words, with bytes on its standard input.
+pub fn circtool(words: &[&str], input: &[u8]) -> Output {
+    let mut child = Command::new(env!("CARGO_BIN_EXE_circtool"))
+        .args(words)
+        .current_dir(root())
+        .stdin(Stdio::piped())
+        .stdout(Stdio::piped())
+        .stderr(Stdio::piped())
+        .spawn()
+        .unwrap();
+    let mut stdin = child.stdin.take().unwrap();
+    let bytes = input.to_vec();
+    // a call that reads no standard input closes it, so the write may fail
+    let writer = std::thread::spawn(move || {
+        let _ = stdin.write_all(&bytes);
+    });
+    let output = child.wait_with_output().unwrap();
+    writer.join().unwrap();
+    output
+}
+
+pub fn out(output: &Output) -> String {
+    String::from_utf8(output.stdout.clone()).unwrap()
+}
+
+pub fn err(output: &Output) -> String {
+    String::from_utf8(output.stderr.clone()).unwrap()
+}
+
+/// That the call ended with this status and that what it says stands on the one stream alone.
+pub fn ended(output: &Output, status: i32) {
+    assert_eq!(output.status.code(), Some(status), "standard error: {}", err(output));
+}
+
+/// The text without the codes that set and end a colour.
+pub fn without_colour(text: &str) -> String {
+    let mut parts = text.split("\x1b[");
+    let first = parts.next().unwrap_or_default().to_string();
+    parts.fold(first, |text, part| text + part.split_once('m').expect("a colour code ends in m").1)
+}
