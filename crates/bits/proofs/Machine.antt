@@ -28,6 +28,13 @@ byte-of n = and-mask n 8
 pub byte-lt : (n : ℕ) → bitAnd n 255 < 256
 byte-lt n = rw (byte-of n) (omega arith)
 
+-- the mask of half a byte
+pub low-four : (n : ℕ) → bitAnd n 15 ≡ n % 16
+low-four n = and-mask n 4
+
+pub low-four-lt : (n : ℕ) → bitAnd n 15 < 16
+low-four-lt n = rw (low-four n) (omega arith)
+
 -- a number of k bits behind one of j bits, in a word of w bits
 pub behind : {a b : ℕ} (j k w : ℕ) → a < 2 ^ j → b < 2 ^ k → j + k ≤ w → bitOr ((a * 2 ^ k) % 2 ^ w) b ≡ a * 2 ^ k + b
 behind {a} {b} j k w ha hb h = rw (shl-exact j k w ha h) (or-shifted a k b hb)

@@ -6,12 +6,13 @@ use mathlib.Core.List.{List, [], _∷_, _++_}
 use Prim.Native.Nat.{ℕ, _+_, _*_, _/_, _%_, _^_, _<_}
 use native.Mathlib.Omega.{arith}
 use borrow.Author.Tests.{le-leb, lt-leb}
-use lib.Bits.{bitAnd, and-mask}
+use lib.Bits.{bitAnd}
 use lib.Dec.{leb, eqb}
 use lib.ListN.{length, take, drop, length-drop, take-append-drop}
 use lib.Seq.{take-all, take-take, take-add, drop-drop}
 use Rattle.bits.specs.Bits.{bit, fromBits, first, allZero}
 use Rattle.bits.specs.Laws.{fromBits-take, fromBits-split, allZero-fromBits}
+use Rattle.bits.proofs.Machine.{low-four}
 use Rattle.model.specs.declared.Level.{Level}
 use Rattle.model.specs.declared.Label.the-variants.{Absent, Present}
 use Rattle.model.specs.declared.Object.{Object}
@@ -22,13 +23,6 @@ use Rattle.image_records.specs.declared.FlagRead.{FlagRead}
 use Rattle.image_records.specs.declared.LabelRead.{LabelRead}
 use Rattle.image_records.specs.declared.SetsRead.{SetsRead}
 use Rattle.image_records.specs.Records.{flagOf, labelOf, setsOf, objectOf}
-
--- the mask of four bits
-pub low-four : (n : ℕ) → bitAnd n 15 ≡ n % 16
-low-four n = and-mask n 4
-
-pub low-four-lt : (n : ℕ) → bitAnd n 15 < 16
-low-four-lt n = rw (low-four n) (omega arith)
 
 -- ---- no bit set
 

@@ -3,13 +3,13 @@ ghost use mathlib.Core.Path.{_≡_};
 ghost use Prim.Native.Nat.{_+_, _*_, _≤_};
 ghost use lib.ListN.{length};
 ghost use Rattle.model.specs.Layout.{imageSize};
-ghost use Rattle.model.specs.State.{noObject};
 ghost use Rattle.image_records.specs.Records.{bitsAt, flagOf, labelOf, setsOf, objectOf, subjectsRead, objectsRead};
 use model::Label;
 use model::Level;
 use model::Monitor;
 use model::Object;
 use model::Subject;
+use model::no_object;
 
 // A bit, the number in the four bits behind it, and whether all five are 0.
 struct FlagRead {
@@ -108,19 +108,6 @@ fn read_sets(bytes: &[u8], at: usize) -> SetsRead
         rights,
         held,
         blank,
-    }
-}
-
-// What stands where no object is live: no owner, label, right or access.
-fn no_object() -> Object
-    ensures { λ r. ⌜ r ≡ noObject ⌝ }
-{
-    Object {
-        live: false,
-        owner: 0,
-        label: Label::Absent,
-        rights: [0u8; 16],
-        held: [0u8; 16],
     }
 }
 

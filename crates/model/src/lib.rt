@@ -1,6 +1,6 @@
 // The types of the reference monitor. What they mean is said in specs/, in the order of specs/Lib.antt.
 ghost use mathlib.Core.Path.{_≡_};
-ghost use Rattle.model.specs.State.{fresh};
+ghost use Rattle.model.specs.State.{noObject, fresh};
 
 // A class, 0 to 15, and a set of needs-to-know, 0 to 15, where need k weighs 2^k.
 pub struct Level {
@@ -35,6 +35,19 @@ pub struct Object {
     pub held: [u8; 16],
 }
 
+// What stands where no object is live: no owner, label, right or access.
+pub fn no_object() -> Object
+    ensures { λ r. ⌜ r ≡ noObject ⌝ }
+{
+    Object {
+        live: false,
+        owner: 0,
+        label: Label::Absent,
+        rights: [0u8; 16],
+        held: [0u8; 16],
+    }
+}
+
 pub struct Monitor {
     pub subjects: [Subject; 16],
     pub objects: [Object; 64],
@@ -54,16 +67,9 @@ impl Monitor {
     pub fn begin(table: [Subject; Monitor::SUBJECTS]) -> Monitor
         ensures { λ r. ⌜ r ≡ fresh table ⌝ }
     {
-        let none = Object {
-            live: false,
-            owner: 0,
-            label: Label::Absent,
-            rights: [0u8; 16],
-            held: [0u8; 16],
-        };
         Monitor {
             subjects: table,
-            objects: [none; Monitor::OBJECTS],
+            objects: [no_object(); Monitor::OBJECTS],
         }
     }
 }

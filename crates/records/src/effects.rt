@@ -1,6 +1,6 @@
 // The record of an object after a request, and whether it was so already.
 ghost use mathlib.Core.Path.{_≡_};
-ghost use Rattle.model.specs.State.{rightsOf, heldBy, withRights, withHeld, withLabel, noObject};
+ghost use Rattle.model.specs.State.{rightsOf, heldBy, withRights, withHeld, withLabel};
 ghost use Rattle.model.specs.Rules.{created, changed, already};
 use crate::rows::set_at;
 use crate::rows::with_set;
@@ -8,6 +8,7 @@ use model::Label;
 use model::Level;
 use model::Object;
 use model::Request;
+use model::no_object;
 
 // ---- parts of a record
 
@@ -73,19 +74,6 @@ pub fn created(s: u8, execute: bool) -> Object
         owner: s,
         label: Label::Absent,
         rights,
-        held: [0u8; 16],
-    }
-}
-
-// What stands where no object is live: no owner, label, right or access.
-pub fn no_object() -> Object
-    ensures { λ r. ⌜ r ≡ noObject ⌝ }
-{
-    Object {
-        live: false,
-        owner: 0,
-        label: Label::Absent,
-        rights: [0u8; 16],
         held: [0u8; 16],
     }
 }

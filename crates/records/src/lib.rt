@@ -6,5 +6,4 @@ pub use effects::already;
 pub use effects::changed;
 pub use effects::created;
 pub use effects::held_by;
-pub use effects::no_object;
 pub use effects::rights_of;

@@ -6,7 +6,7 @@ use mathlib.Core.List.{List, [], _∷_, _++_, append-assoc}
 use Prim.Native.Nat.{ℕ, _+_, _*_, _/_, _%_, _^_, _<_}
 use native.Mathlib.Nat.{mod-lt}
 use native.Mathlib.Omega.{arith}
-use lib.Bits.{bitAnd, bitOr, and-mask}
+use lib.Bits.{bitOr}
 use mir.Val.{boolByte}
 use Rattle.bits.specs.Bits.{toBits, odd}
 use Rattle.bits.specs.Laws.{toBits-join, toBits-mod, toBits-low, toBits-split}
@@ -14,13 +14,6 @@ use Rattle.bits.proofs.Machine.{behind}
 use Rattle.model.specs.declared.Level.{Level}
 use Rattle.model.specs.declared.Label.the-variants.{Absent, Present}
 use Rattle.model.specs.Layout.{labelBits}
-
--- the mask of four bits
-pub low-four : (n : ℕ) → bitAnd n 15 ≡ n % 16
-low-four n = and-mask n 4
-
-pub low-four-lt : (n : ℕ) → bitAnd n 15 < 16
-low-four-lt n = rw (low-four n) (omega arith)
 
 -- ---- two numbers of four bits side by side
 

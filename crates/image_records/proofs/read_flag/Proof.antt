@@ -5,7 +5,8 @@ use native.Mathlib.Omega.{arith}
 use Rattle.bits.specs.Fields.{field-within}
 use Rattle.image_records.specs.Records.{bitsAt}
 use Rattle.image_records.proofs.Places.{length-at}
-use Rattle.image_records.proofs.Contents.{low-four-lt, flag-from}
+use Rattle.bits.proofs.Machine.{low-four-lt}
+use Rattle.image_records.proofs.Contents.{flag-from}
 use borrow.Author.Needs.{needs}
 use Rattle.image_records.proofs.read_flag.Statement.{statement}
 use Rattle.image_records.proofs.read_flag.Tie as tie

@@ -13,7 +13,8 @@ use Rattle.bits.specs.Fields.{field-within}
 use Rattle.bits.specs.Records.{cut-take}
 use Rattle.model.specs.Reading.{rightsFrom, heldFrom}
 use Rattle.image_records.proofs.Places.{length-at, byte-at}
-use Rattle.image_records.proofs.Contents.{low-four, low-four-lt, zero-more, halves}
+use Rattle.bits.proofs.Machine.{low-four, low-four-lt}
+use Rattle.image_records.proofs.Contents.{zero-more, halves}
 use Rattle.image_records.proofs.Gathering.{none-gathered, gather-more, gathered}
 use Rattle.image_records.proofs.read_sets.Statement.{statement}
 use Rattle.image_records.proofs.read_sets.Tie as tie

@@ -1,8 +1,7 @@
 -- Two masks and a shift put the low bits of two numbers side by side.
 -- Assumes nothing.
 use native.Mathlib.Omega.{arith}
-use Rattle.bits.proofs.Machine.{behind}
-use Rattle.writing.proofs.Words.{low-four, low-four-lt}
+use Rattle.bits.proofs.Machine.{low-four, low-four-lt, behind}
 use Rattle.writing.proofs.side_by_side.Statement.{statement}
 use Rattle.writing.proofs.side_by_side.Tie as tie
 
