@@ -72,14 +72,14 @@ pub extern "C" fn circmon_distinguish(a: &[u8], b: &[u8], requests: &mut [u8]) -
     ensures { λ r. ⌜ (r ≡ distinguishNumber (now (a .entry)) (now (b .entry)) (now (requests .entry))) × (now (requests .exit) ≡ distinguishBytes (now (a .entry)) (now (b .entry)) (now (requests .entry))) ⌝ }
 {
     let first = read_image(a);
-    let decision = first.decision;
-    if refuses(decision) {
-        return 128 + number(decision);
+    let one = first.decision;
+    if refuses(one) {
+        return 128 + number(one);
     }
     let second = read_image(b);
-    let other = second.decision;
-    if refuses(other) {
-        return 192 + number(other);
+    let two = second.decision;
+    if refuses(two) {
+        return 192 + number(two);
     }
     let m = first.monitor;
     let n = second.monitor;

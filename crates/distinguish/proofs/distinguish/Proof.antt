@@ -53,7 +53,7 @@ number-requires c κs = search needs
 returns : tie.Need-returns
 returns c =
     let args = c .before .before .before .args in
-    short (args .m) (args .n) (args .out .now) (c .number .result) (c .before .if1 .taken) (c .number .ensures)
+    short (args .m) (args .n) (args .out .now) (c .number .result) (omega (arith, c .before .if1 .taken)) (c .number .ensures)
 
 sequence-of-requires : tie.Need-sequence-of-requires
 sequence-of-requires c κs = search needs

@@ -1,6 +1,6 @@
 -- The objects below o have the same records.
 -- Assumes nothing.
-use Prim.Native.Nat.{_-_, _≤_}
+use Prim.Native.Nat.{_-_, _≤_, _<_}
 use native.Mathlib.Omega.{arith}
 use mathlib.Core.Path.{_≡_, refl, sym, ap₂, _∙_}
 use mathlib.Core.List.{[]}
@@ -27,7 +27,7 @@ at-object : (c : tie.After-object-apart Inv-loop μ-loop)
 at-object c =
     let loop = c .before .before .before .before .loop in
     let args = c .before .before .before .before .before .args in
-    let t = c .before .before .before .loop-test .taken in
+    let t : loop .o < 64 = omega (arith, c .before .before .before .loop-test .taken) in
     c .object-apart .ensures ∙ ap₂ (objectApart (loop .o)) (read-object (args .t1) (loop .o) (loop .inv .1) t) (read-object (args .t2) (loop .o) (loop .inv .2) t)
 
 loop-holds : tie.Need-loop-holds Inv-loop μ-loop
