@@ -18,7 +18,7 @@ use Rattle.distinguish.specs.declared.sequence.Sequence.the-variants.{No
 use Rattle.distinguish.specs.Sequences.{requestsOf}
 use Rattle.distinguish.specs.Packing.{bytesOf}
 use Rattle.distinguish.specs.Telling.{noRoom, toldNumber, toldBytes}
-use Rattle.distinguish.proofs.Encoding.{sets-front}
+use Rattle.distinguish.proofs.Storing.{sets-front}
 use borrow.Author.Needs.{needs}
 use Rattle.distinguish.proofs.distinguish.Statement.{statement}
 use Rattle.distinguish.proofs.distinguish.Tie as tie

@@ -2,7 +2,7 @@
 -- Assumes nothing.
 use mathlib.Core.Path.{refl}
 use native.Mathlib.Omega.{arith}
-use Rattle.distinguish.proofs.Encoding.{stored-next, stored-last}
+use Rattle.distinguish.proofs.Storing.{stored-next, stored-last}
 use borrow.Author.Needs.{needs}
 use Rattle.distinguish.proofs.packing.write_reading.Statement.{statement}
 use Rattle.distinguish.proofs.packing.write_reading.Tie as tie

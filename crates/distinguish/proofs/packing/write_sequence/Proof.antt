@@ -3,7 +3,7 @@
 use mathlib.Core.Path.{refl}
 use Rattle.bits.specs.Bits.{join}
 use Rattle.distinguish.specs.Packing.{bytesOf}
-use Rattle.distinguish.proofs.Encoding.{stored-next, stored-last}
+use Rattle.distinguish.proofs.Storing.{stored-next, stored-last}
 use borrow.Author.Needs.{needs}
 use Rattle.distinguish.proofs.packing.write_sequence.Statement.{statement}
 use Rattle.distinguish.proofs.packing.write_sequence.Tie as tie

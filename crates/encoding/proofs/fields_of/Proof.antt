@@ -4,8 +4,8 @@ use mathlib.Core.Path.{_≡_, _∙_}
 use mathlib.Core.Logic.{⊎-elim}
 use mathlib.Core.Bool.{cond}
 use borrow.Author.Needs.{needs}
-use Rattle.distinguish.proofs.packing.fields_of.Statement.{statement}
-use Rattle.distinguish.proofs.packing.fields_of.Tie as tie
+use Rattle.encoding.proofs.fields_of.Statement.{statement}
+use Rattle.encoding.proofs.fields_of.Tie as tie
 
 enum-known-q : tie.Need-enum-known-q
 enum-known-q c = search needs

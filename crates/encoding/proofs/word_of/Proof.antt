@@ -1,10 +1,10 @@
 -- Each field stands behind those before it.
 -- Assumes nothing.
 use mathlib.Core.Path.{refl}
-use Rattle.distinguish.specs.Packing.{wordOf}
+use Rattle.encoding.specs.Word.{wordOf}
 use borrow.Author.Needs.{needs}
-use Rattle.distinguish.proofs.packing.word_of.Statement.{statement}
-use Rattle.distinguish.proofs.packing.word_of.Tie as tie
+use Rattle.encoding.proofs.word_of.Statement.{statement}
+use Rattle.encoding.proofs.word_of.Tie as tie
 
 cast-kind : tie.Need-cast-kind
 cast-kind c = search needs
