@@ -13,7 +13,7 @@ use Rattle.model.specs.declared.Request.{Request}
 use Rattle.model.specs.Requests.{pack, encode}
 use Rattle.encoding.specs.Word.{wordBytes}
 use Rattle.encoding.proofs.Word.{word-encode}
-use Rattle.distinguish.specs.Packing.{bytesOf}
+use Rattle.distinguish.specs.Telling.{bytesOf}
 
 -- six bytes, stored one by one
 abbrev sixStores : List ℕ → ℕ → List ℕ → List ℕ

@@ -2,15 +2,20 @@
 -- Assumes nothing.
 use Prim.Native.Nat.{ℕ, _*_}
 use mathlib.Core.Bool.{Bool, cond}
-use mathlib.Core.List.{List, _++_}
+use mathlib.Core.List.{List, _++_, map}
 use lib.Dec.{ltb}
 use lib.ListN.{length, drop}
+use Rattle.bits.specs.Bits.{join}
 use Rattle.model.specs.declared.Monitor.{Monitor}
+use Rattle.model.specs.declared.Request.{Request}
 use Rattle.model.specs.declared.Decision.the-variants.{ShortBuffer}
 use Rattle.model.specs.Decisions.{number}
-use Rattle.model.specs.Requests.{requestSize}
+use Rattle.model.specs.Requests.{requestSize, encode}
 use Rattle.security.specs.Distinguish.{distinguish}
-use Rattle.distinguish.specs.Packing.{bytesOf}
+
+-- the bytes of requests, one behind the other
+unfoldable pub bytesOf : List Request → List ℕ
+bytesOf qs = join (map encode qs)
 
 -- there is no room for four requests
 unfoldable pub noRoom : List ℕ → Bool

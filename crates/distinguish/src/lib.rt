@@ -26,20 +26,20 @@ const ROOM: usize = 24;
 fn sequence_of(m: Monitor, n: Monitor) -> Sequence
     ensures { λ r. ⌜ requestsOf r ≡ distinguish m n ⌝ }
 {
-    let a = m.subjects;
-    let b = n.subjects;
-    let by_enrolment = enrolments_apart(a, b);
+    let subjects = m.subjects;
+    let other_subjects = n.subjects;
+    let by_enrolment = enrolments_apart(subjects, other_subjects);
     if is_found(by_enrolment) {
         return by_enrolment;
     }
-    let mine = m.objects;
-    let others = n.objects;
-    let by_object = objects_apart(mine, others);
+    let objects = m.objects;
+    let other_objects = n.objects;
+    let by_object = objects_apart(objects, other_objects);
     if is_found(by_object) {
         return by_object;
     }
-    let place = free_place(mine);
-    clearances_apart(place, a, b)
+    let place = free_place(objects);
+    clearances_apart(place, subjects, other_subjects)
 }
 
 // The number of requests, which are in the first bytes of out, six for each; 13 where out has no room for four.

@@ -5,7 +5,7 @@ ghost use lib.ListN.{length};
 ghost use lib.Seq.{sets};
 ghost use Rattle.model.specs.Requests.{encode};
 ghost use Rattle.distinguish.specs.Sequences.{readingOf, requestsOf};
-ghost use Rattle.distinguish.specs.Packing.{bytesOf};
+ghost use Rattle.distinguish.specs.Telling.{bytesOf};
 use crate::sequence::Sequence;
 use encoding::encode;
 use model::Level;

@@ -43,7 +43,7 @@ pub fn enrolments_apart(a: [Subject; 16], b: [Subject; 16]) -> Sequence
     Sequence::Nothing
 }
 
-// The last object is the free one, unless it is live.
+// The last free object, one object further on.
 fn last_free(live: bool, free: usize, o: usize) -> usize
     ensures { λ r. ⌜ r ≡ cond live free o ⌝ }
 {
@@ -69,7 +69,7 @@ pub fn free_place(objects: [Object; 64]) -> Place
     }
 }
 
-// The level that the other clearance does not dominate; the tests are whether b's is above a's, and below it.
+// A level that the other clearance does not dominate, if there is one. above: b dominates a; below: a dominates b.
 fn level_apart(p: Place, s: u8, a: Level, b: Level, above: bool, below: bool) -> Sequence
     ensures { λ r. ⌜ requestsOf r ≡ levelApart p s a b above below ⌝ }
 {

@@ -16,8 +16,7 @@ use Rattle.security.specs.Distinguish.{distinguish}
 use Rattle.distinguish.specs.declared.sequence.Sequence.{Sequence}
 use Rattle.distinguish.specs.declared.sequence.Sequence.the-variants.{Nothing, One, Reading}
 use Rattle.distinguish.specs.Sequences.{requestsOf}
-use Rattle.distinguish.specs.Packing.{bytesOf}
-use Rattle.distinguish.specs.Telling.{noRoom, toldNumber, toldBytes}
+use Rattle.distinguish.specs.Telling.{bytesOf, noRoom, toldNumber, toldBytes}
 use Rattle.distinguish.proofs.Storing.{sets-front}
 use borrow.Author.Needs.{needs}
 use Rattle.distinguish.proofs.distinguish.Statement.{statement}

@@ -2,7 +2,7 @@
 -- Assumes nothing.
 use mathlib.Core.Path.{refl}
 use Rattle.bits.specs.Bits.{join}
-use Rattle.distinguish.specs.Packing.{bytesOf}
+use Rattle.distinguish.specs.Telling.{bytesOf}
 use Rattle.distinguish.proofs.Storing.{stored-next, stored-last}
 use borrow.Author.Needs.{needs}
 use Rattle.distinguish.proofs.packing.write_sequence.Statement.{statement}
