@@ -1,5 +1,7 @@
 -- The parts of two records in their order.
 -- Assumes nothing.
+use mathlib.Core.Path.{ap₂, _∙_}
+use Rattle.security.specs.Distinguish.{orElse}
 use Rattle.distinguish.specs.Records.{objectApart}
 use borrow.Author.Needs.{needs}
 use Rattle.distinguish.proofs.objects.object_apart.Statement.{statement}
@@ -36,17 +38,10 @@ returns : tie.Need-returns
 unfolding objectApart
 returns c =
     let parts = c .before .before .before .before in
-    rw (
-      c .or-else4 .ensures,
-      c .before .or-else3 .ensures,
-      c .before .before .or-else2 .ensures,
-      c .before .before .before .or-else .ensures,
-      parts .row-apart2 .ensures,
-      parts .before .row-apart .ensures,
-      parts .before .before .label-apart .ensures,
-      parts .before .before .before .owner-apart .ensures,
-      parts .before .before .before .before .life-apart .ensures,
-    )
+    let sets = c .before .before .before .or-else .ensures ∙ ap₂ orElse (parts .before .row-apart .ensures) (parts .row-apart2 .ensures) in
+    let label = c .before .before .or-else2 .ensures ∙ ap₂ orElse (parts .before .before .label-apart .ensures) sets in
+    let owner = c .before .or-else3 .ensures ∙ ap₂ orElse (parts .before .before .before .owner-apart .ensures) label in
+    c .or-else4 .ensures ∙ ap₂ orElse (parts .before .before .before .before .life-apart .ensures) owner
 
 pub object-apart-spec : {M : Type 1} → statement M
 object-apart-spec =

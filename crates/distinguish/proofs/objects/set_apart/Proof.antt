@@ -1,5 +1,7 @@
 -- The four modes in their order.
 -- Assumes nothing.
+use mathlib.Core.Path.{ap₂, _∙_}
+use Rattle.security.specs.Distinguish.{orElse}
 use Rattle.distinguish.specs.Records.{setApart}
 use borrow.Author.Needs.{needs}
 use Rattle.distinguish.proofs.objects.set_apart.Statement.{statement}
@@ -29,15 +31,10 @@ or-else-requires-3 c κs = search needs
 returns : tie.Need-returns
 unfolding setApart
 returns c =
-    rw (
-      c .or-else3 .ensures,
-      c .before .or-else2 .ensures,
-      c .before .before .or-else .ensures,
-      c .before .before .before .mode-apart4 .ensures,
-      c .before .before .before .before .mode-apart3 .ensures,
-      c .before .before .before .before .before .mode-apart2 .ensures,
-      c .before .before .before .before .before .before .mode-apart .ensures,
-    )
+    let modes = c .before .before .before in
+    let append = c .before .before .or-else .ensures ∙ ap₂ orElse (modes .before .mode-apart3 .ensures) (modes .mode-apart4 .ensures) in
+    let write = c .before .or-else2 .ensures ∙ ap₂ orElse (modes .before .before .mode-apart2 .ensures) append in
+    c .or-else3 .ensures ∙ ap₂ orElse (modes .before .before .before .mode-apart .ensures) write
 
 pub set-apart-spec : {M : Type 1} → statement M
 set-apart-spec =
