@@ -20,6 +20,7 @@ extern "C" {
 #define CIRCMON_TABLE_BYTES 42
 #define CIRCMON_IMAGE_BYTES 1274
 #define CIRCMON_REQUEST_BYTES 6
+#define CIRCMON_DISTINGUISH_BYTES 24
 
 /* Begins a monitor from an enrolment table and writes its image.
  * Returns 10 or 11 where the table is refused; then 13 where the buffer has under 1,274 bytes; else 0.
@@ -39,6 +40,15 @@ uint8_t circmon_request(uint8_t *image, size_t image_len, const uint8_t *request
  * A refusal leaves every byte of replies. 0 writes one reply byte for each piece and leaves any later byte. */
 uint8_t circmon_replay(const uint8_t *table, size_t table_len, const uint8_t *requests, size_t requests_len,
                        uint8_t *replies, size_t replies_len);
+
+/* Writes requests on which the states of two images reply differently.
+ * Returns 128 + n where image a is refused with n; then 192 + n where image b is refused with n; then 13 where requests has
+ * under 24 bytes. Each of these leaves every byte of requests.
+ * Else returns the number of requests: 0 where the images are equal, and 1 to 4 where they differ. They stand at the front of
+ * requests, six bytes for each, and any later byte is left. Carried out in this order from a and from b, they get different
+ * replies at some place. */
+uint8_t circmon_distinguish(const uint8_t *a, size_t a_len, const uint8_t *b, size_t b_len,
+                            uint8_t *requests, size_t requests_len);
 
 #ifdef __cplusplus
 }

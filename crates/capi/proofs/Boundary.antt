@@ -2,7 +2,7 @@
 -- Assumes nothing.
 use Prim.Native.Nat.{ℕ, _+_, _<_}
 use native.Mathlib.Omega.{arith}
-use mathlib.Core.Path.{_≡_, sym, ap, _∙_}
+use mathlib.Core.Path.{_≡_, sym, ap, ap₂, _∙_}
 use mathlib.Core.Bool.{Bool, true, false}
 use mathlib.Core.List.{List}
 use Rattle.model.specs.declared.Decision.{Decision}
@@ -12,8 +12,9 @@ use Rattle.model.specs.Decisions.{number, refuses}
 use Rattle.model.specs.Runs.{respond, reply}
 use Rattle.model.specs.Reading.{readTable, readImage}
 use Rattle.model.specs.Writing.{writing, written}
+use Rattle.distinguish.specs.Telling.{toldNumber, toldBytes}
 use Rattle.model.proofs.Tests.{cond-true, cond-false}
-use Rattle.capi.specs.Boundary.{beginNumber, beginBytes, requestNumber, requestBytes}
+use Rattle.capi.specs.Boundary.{beginNumber, beginBytes, requestNumber, requestBytes, distinguishNumber, distinguishBytes}
 
 -- every number is below 14
 pub number-small : (d : Decision) → number d < 14
@@ -69,3 +70,29 @@ module _ (buffer bytes : List ℕ) (r : Response) (e : r ≡ readImage buffer) w
         f ∙ ap (λ (x : Response). number (x .decision)) q ∙ sym (cond-false _ _ _ (refusal r _ e false w)),
         h ∙ ap (λ (x : Response). written (x .monitor) buffer) q ∙ sym (cond-false _ _ _ (refusal r _ e false w)),
       )
+
+module _ (a b buffer : List ℕ) (r : Response) (e : r ≡ readImage a) where
+  pub first-refused : refuses (r .decision) ≡ true → (k : ℕ) → k ≡ number (r .decision)
+      → (128 + k ≡ distinguishNumber a b buffer) × (buffer ≡ distinguishBytes a b buffer)
+  unfolding distinguishNumber distinguishBytes
+  first-refused w k f = (
+    ap (λ i. 128 + i) (f ∙ ap (λ (x : Response). number (x .decision)) e) ∙ sym (cond-true _ _ _ (refusal r _ e true w)),
+    sym (cond-true _ _ _ (refusal r _ e true w)),
+  )
+
+  module _ (w : refuses (r .decision) ≡ false) (t : Response) (f : t ≡ readImage b) where
+    pub second-refused : refuses (t .decision) ≡ true → (k : ℕ) → k ≡ number (t .decision)
+        → (192 + k ≡ distinguishNumber a b buffer) × (buffer ≡ distinguishBytes a b buffer)
+    unfolding distinguishNumber distinguishBytes
+    second-refused v k g = (
+      ap (λ i. 192 + i) (g ∙ ap (λ (x : Response). number (x .decision)) f) ∙ sym (cond-true _ _ _ (refusal t _ f true v)) ∙ sym (cond-false _ _ _ (refusal r _ e false w)),
+      sym (cond-true _ _ _ (refusal t _ f true v)) ∙ sym (cond-false _ _ _ (refusal r _ e false w)),
+    )
+
+    pub told-apart : refuses (t .decision) ≡ false → (k : ℕ) → k ≡ toldNumber (r .monitor) (t .monitor) buffer
+        → (last : List ℕ) → last ≡ toldBytes (r .monitor) (t .monitor) buffer → (k ≡ distinguishNumber a b buffer) × (last ≡ distinguishBytes a b buffer)
+    unfolding distinguishNumber distinguishBytes
+    told-apart v k g last h = (
+      g ∙ ap₂ (λ (x y : Response). toldNumber (x .monitor) (y .monitor) buffer) e f ∙ sym (cond-false _ _ _ (refusal t _ f false v)) ∙ sym (cond-false _ _ _ (refusal r _ e false w)),
+      h ∙ ap₂ (λ (x y : Response). toldBytes (x .monitor) (y .monitor) buffer) e f ∙ sym (cond-false _ _ _ (refusal t _ f false v)) ∙ sym (cond-false _ _ _ (refusal r _ e false w)),
+    )

@@ -4,7 +4,8 @@ ghost use lib.ListN.{length};
 ghost use Rattle.model.specs.Decisions.{number};
 ghost use Rattle.model.specs.Reading.{readImage};
 ghost use Rattle.replay.specs.Replay.{replayAnswer, replayed};
-ghost use Rattle.capi.specs.Boundary.{beginNumber, beginBytes, requestNumber, requestBytes};
+ghost use Rattle.capi.specs.Boundary.{beginNumber, beginBytes, requestNumber, requestBytes, distinguishNumber, distinguishBytes};
+use distinguish::distinguish;
 use image::read_image;
 use image::read_table;
 use labels::number;
@@ -63,4 +64,24 @@ pub extern "C" fn circmon_replay(table: &[u8], requests: &[u8], replies: &mut [u
 {
     let answer = replay(table, requests, replies);
     number(answer)
+}
+
+// The requests on which the states of two images reply differently, into the buffer.
+#[no_mangle]
+pub extern "C" fn circmon_distinguish(a: &[u8], b: &[u8], requests: &mut [u8]) -> u8
+    ensures { λ r. ⌜ (r ≡ distinguishNumber (now (a .entry)) (now (b .entry)) (now (requests .entry))) × (now (requests .exit) ≡ distinguishBytes (now (a .entry)) (now (b .entry)) (now (requests .entry))) ⌝ }
+{
+    let first = read_image(a);
+    let one = first.decision;
+    if refuses(one) {
+        return 128 + number(one);
+    }
+    let second = read_image(b);
+    let two = second.decision;
+    if refuses(two) {
+        return 192 + number(two);
+    }
+    let m = first.monitor;
+    let n = second.monitor;
+    distinguish(m, n, requests)
 }

@@ -21,5 +21,6 @@ pub mod Demand2
 pub mod FirstRefusal
 pub mod Effects
 pub mod RoundTrips
+pub mod ToldApart
 pub mod MarkedRun
 pub mod Witnesses

@@ -30,7 +30,7 @@ use borrow.Author.Tests.{le-ltb}
 use native.Mathlib.Omega.{arith}
 use Rattle.security.specs.Causes.{MalformedBytes, not-six-bytes}
 use Rattle.security.specs.MarkedRun.{tableW, Row, rows}
-use Rattle.security.proofs.Trips.{image-accepted}
+use Rattle.security.proofs.Trips.{image-accepted, image-tells}
 use Rattle.security.proofs.Demand3.{sound-left}
 use Rattle.security.proofs.MarkedRun.{marked-run}
 
@@ -74,6 +74,14 @@ stays-met = refl
 pub different-met : left (table tableW) [] ≢ left (table tableW) markedBytes
 unfolding markedBytes rows tableW tableFrom tableForm labelForm labelFrom tableChecks begin readTable allZero bytesToBits toBits odd cut fromBits field decode decodeFields fields wellFormed modeAllowed unusedZero request respond step after checks already changed starAll starFor starFrom starPair implies unless answer simpleAll has add remove sameLabel dominates levelDominates
 different-met e = clash (sym (ap (λ (m : Monitor). object m 0 .live) e))
+
+-- and two different accepted images, of bytes: those of these two states
+pub images-met : Accepted (image (imageOf (left (table tableW) []))) × (imageOf (left (table tableW) []) ≢ imageOf (left (table tableW) markedBytes))
+unfolding readImage begin
+images-met =
+    let before = sound-left (table tableW) table-met [] in
+    let behind = sound-left (table tableW) table-met markedBytes in
+    (image-accepted (left (table tableW) []) before, λ e. different-met (image-tells _ _ before behind e))
 
 -- a malformed byte string, a refused table and a refused image: the empty ones
 pub malformed-met : MalformedBytes []

@@ -1,11 +1,13 @@
 //! Safe Rust over the proved monitor: the functions of include/circmon.h, and a unit that holds its own image.
 //!
-//! The contracts of the four functions are proved of the Rattle code (crates/capi). What stands here is the boundary: the
+//! The contracts of the five functions are proved of the Rattle code (crates/capi). What stands here is the boundary: the
 //! declarations, which nothing checks against that code, and slices handed on as pointer and length.
 
 pub const TABLE_BYTES: usize = 42;
 pub const IMAGE_BYTES: usize = 1274;
 pub const REQUEST_BYTES: usize = 6;
+/// The room that `distinguish` asks for: four requests.
+pub const DISTINGUISH_BYTES: usize = 24;
 
 mod raw {
     extern "C" {
@@ -19,6 +21,14 @@ mod raw {
             requests_len: usize,
             replies: *mut u8,
             replies_len: usize,
+        ) -> u8;
+        pub fn circmon_distinguish(
+            a: *const u8,
+            a_len: usize,
+            b: *const u8,
+            b_len: usize,
+            requests: *mut u8,
+            requests_len: usize,
         ) -> u8;
     }
 }
@@ -56,6 +66,16 @@ pub fn replay(table: &[u8], requests: &[u8], replies: &mut [u8]) -> u8 {
             replies.as_mut_ptr(),
             replies.len(),
         )
+    }
+}
+
+/// The requests on which the states of two images reply differently, whole, in the first bytes of the buffer: their
+/// number, 0 where the images are equal and 1 to 4 where they differ, and any later byte left. Or 128 + n where the image a
+/// is refused with n, then 192 + n where the image b is, then 13 where the buffer has under 24 bytes, and every byte left.
+pub fn distinguish(a: &[u8], b: &[u8], requests: &mut [u8]) -> u8 {
+    // Safety: each pointer comes with the length of its slice, and no slice overlaps the buffer.
+    unsafe {
+        raw::circmon_distinguish(a.as_ptr(), a.len(), b.as_ptr(), b.len(), requests.as_mut_ptr(), requests.len())
     }
 }
 

@@ -26,7 +26,9 @@ fn a_c_program_over_the_header() {
         .expect("a C compiler");
     assert!(status.success());
     let output = Command::new(&binary).output().unwrap();
-    let expected = "begin 0\nrequest 0\nrequest 7\nrequest 0\nread 0\nshort 13\nreplay 0\nreplies 0 7 0 238\n";
+    // the last line: subject 1 releases r on object 0, which is live in the first image only, and a byte that is left
+    let expected = "begin 0\nrequest 0\nrequest 7\nrequest 0\nread 0\nshort 13\nreplay 0\nreplies 0 7 0 238\n\
+                    begin 0\ndistinguish 1\ntelling 20 80 01 00 00 00 ee\n";
     assert_eq!(String::from_utf8_lossy(&output.stdout), expected);
 }
 

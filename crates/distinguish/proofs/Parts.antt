@@ -1,0 +1,94 @@
+-- The definition `distinguish` from the parts that the code computes.
+-- Assumes nothing.
+use Prim.Native.Nat.{ℕ, zero, suc, _<_}
+use native.Mathlib.Omega.{arith}
+use mathlib.Core.Path.{_≡_, refl, sym, ap, ap₂, _∙_}
+use mathlib.Core.Bool.{true, false, cond}
+use mathlib.Core.List.{List, []}
+use lib.ListN.{length, getD}
+use Rattle.model.specs.declared.Level.{Level}
+use Rattle.model.specs.declared.Label.{Label}
+use Rattle.model.specs.declared.Label.the-variants.{Absent, Present}
+use Rattle.model.specs.declared.Object.{Object}
+use Rattle.model.specs.declared.Monitor.{Monitor}
+use Rattle.model.specs.declared.Request.{Request}
+use Rattle.model.specs.Levels.{dominates}
+use Rattle.model.specs.State.{noObject, clearance, objectAt, object}
+use Rattle.model.proofs.Tests.{any-default}
+use Rattle.security.specs.Distinguish.{orElse, search, searchModes, byEnrolment, byLife, byOwner, toLabel, byLabel, byRight, byAccess, byObject, freeBelow, readAt, toClearance, byClearance, distinguish}
+use Rattle.distinguish.specs.declared.sequence.Sequence.{Sequence}
+use Rattle.distinguish.specs.declared.sequence.Sequence.the-variants.{Reading}
+use Rattle.distinguish.specs.Sequences.{found, requestsOf}
+use Rattle.distinguish.specs.Records.{lifeApart, ownerApart, labelApart, modeApart, setApart, rowApart, objectApart, objectsApart, enrolmentApart, enrolmentsApart, freeOf, freePlace, levelApart, clearanceApart, clearancesApart}
+use Rattle.distinguish.proofs.Searching.{or-found, or-nothing, search-same}
+
+-- what the logic reads past the end of an array of objects, which is not the definition's record
+abbrev pub blank : Object
+blank = record { live = false; owner = 0; label = Absent; rights = []; held = [] }
+
+-- before its end the array has the object's record
+pub read-object : (l : List Object) (o : ℕ) → length l ≡ 64 → o < 64 → getD l o blank ≡ objectAt l o
+read-object l o e h = any-default l o blank noObject (omega (arith, e))
+
+module _ (m n : Monitor) where
+  label-part : (s o : ℕ) (a b : Label) → toLabel m n s o a b ≡ labelApart s o a b
+  unfolding toLabel labelApart
+  label-part s o Absent Absent = refl
+  label-part s o Absent (Present b) = refl
+  label-part s o (Present a) b = refl
+
+  rights-part : (o : ℕ) → search 16 (λ s. searchModes (byRight m n o s)) ≡ rowApart false o (object m o .rights) (object n o .rights)
+  unfolding byRight rowApart setApart modeApart
+  rights-part o = refl
+
+  held-part : (o : ℕ) → search 16 (λ s. searchModes (byAccess m n o s)) ≡ rowApart true o (object m o .held) (object n o .held)
+  unfolding byAccess rowApart setApart modeApart
+  held-part o = refl
+
+  object-part : (o : ℕ) → byObject m n o ≡ objectApart o (object m o) (object n o)
+  unfolding byObject objectApart byLife byOwner byLabel lifeApart ownerApart
+  object-part o = rw (label-part (object m o .owner) o (object m o .label) (object n o .label), rights-part o, held-part o)
+
+free-same : (k : ℕ) (m : Monitor) → freeBelow k m ≡ freeOf k (m .objects)
+unfolding freeBelow freeOf
+free-same zero m = refl
+free-same (suc k) m = ap (λ (i : ℕ). cond (object m k .live) i k) (free-same k m)
+
+reading-part : (m : Monitor) (s : ℕ) (l : Level) → readAt m (freeBelow 64 m) s l ≡ requestsOf (Reading (freePlace (m .objects)) s l)
+unfolding readAt freePlace
+reading-part m s l = ap (λ (o : ℕ). readAt m o s l) (free-same 64 m)
+
+clearance-part : (m : Monitor) (s : ℕ) (a b : Label) → toClearance m s a b ≡ clearanceApart (freePlace (m .objects)) s a b
+unfolding toClearance clearanceApart levelApart dominates
+clearance-part m s Absent b = refl
+clearance-part m s (Present a) Absent = refl
+clearance-part m s (Present a) (Present b) = rw (reading-part m s a, reading-part m s b)
+
+-- what is looked at after the objects, and after the enrolments
+abbrev pub afterObjects : Monitor → Monitor → List Request
+afterObjects m n = clearancesApart (freePlace (m .objects)) (m .subjects) (n .subjects)
+
+abbrev pub afterEnrolment : Monitor → Monitor → List Request
+afterEnrolment m n = orElse (objectsApart (m .objects) (n .objects)) (afterObjects m n)
+
+distinguish-parts : (m n : Monitor) → distinguish m n ≡ orElse (enrolmentsApart (m .subjects) (n .subjects)) (afterEnrolment m n)
+unfolding distinguish enrolmentsApart enrolmentApart byEnrolment objectsApart clearancesApart byClearance
+distinguish-parts m n =
+    ap₂ (λ (a b : List Request). orElse (search 16 (byEnrolment m n)) (orElse a b))
+    (search-same 64 (byObject m n) (λ o. objectApart o (object m o) (object n o)) (object-part m n))
+    (search-same 16 (byClearance m n) (λ s. clearanceApart (freePlace (m .objects)) s (clearance m s) (clearance n s)) (λ s. clearance-part m s (clearance m s) (clearance n s)))
+
+-- the first part that has a request is the whole list
+module _ (m n : Monitor) (q : Sequence) (e : requestsOf q ≡ enrolmentsApart (m .subjects) (n .subjects)) where
+  pub told-by-enrolment : found q ≡ true → requestsOf q ≡ distinguish m n
+  told-by-enrolment w = sym (or-found q _ w) ∙ ap (λ (l : List Request). orElse l (afterEnrolment m n)) e ∙ sym (distinguish-parts m n)
+
+  told-later : (r : Sequence) → found q ≡ false → requestsOf r ≡ afterEnrolment m n → requestsOf r ≡ distinguish m n
+  told-later r w f = f ∙ sym (or-nothing q _ w) ∙ ap (λ (l : List Request). orElse l (afterEnrolment m n)) e ∙ sym (distinguish-parts m n)
+
+  module _ (r : Sequence) (f : requestsOf r ≡ objectsApart (m .objects) (n .objects)) (none : found q ≡ false) where
+    pub told-by-object : found r ≡ true → requestsOf r ≡ distinguish m n
+    told-by-object w = told-later r none (sym (or-found r _ w) ∙ ap (λ (l : List Request). orElse l (afterObjects m n)) f)
+
+    pub told-by-clearance : (t : Sequence) → found r ≡ false → requestsOf t ≡ afterObjects m n → requestsOf t ≡ distinguish m n
+    told-by-clearance t w g = told-later t none (g ∙ sym (or-nothing r _ w) ∙ ap (λ (l : List Request). orElse l (afterObjects m n)) f)

@@ -1,0 +1,2 @@
+-- The number of a request and its bytes.
+pub mod Word

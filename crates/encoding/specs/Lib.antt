@@ -1,0 +1,2 @@
+-- The fields of a request in one number.
+pub mod Word
