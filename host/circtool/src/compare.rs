@@ -1,13 +1,12 @@
 //! Two images: equal, or where they differ and the requests that show it.
 
 use crate::difference::differences;
-use crate::distinguish::{distinguish, MOST_REQUESTS};
 use crate::explain::{step, Step};
 use crate::paint::Paint;
 use crate::refusal;
 use crate::view::View;
 use crate::words::{count, reply_words, wrapped};
-use circmon::{Unit, REQUEST_BYTES};
+use circmon::{distinguish, Unit, DISTINGUISH_BYTES, REQUEST_BYTES};
 
 /// An image with the name of its file.
 pub struct Named<'a> {
@@ -24,12 +23,13 @@ pub enum Comparison {
 
 /// Both texts, and the list of requests from the library.
 pub fn compare(a: &Named, b: &Named, paint: Paint) -> Comparison {
-    let mut requests = [0; MOST_REQUESTS * REQUEST_BYTES];
+    let mut requests = [0; DISTINGUISH_BYTES];
     match distinguish(a.bytes, b.bytes, &mut requests) {
         0 if a.bytes == b.bytes => Comparison::Equal(equal(a, b)),
         number @ 1..=4 => different(a, b, &requests[..usize::from(number) * REQUEST_BYTES], paint),
         number @ 129..=191 => Comparison::Trouble(refusal::of_image(&format!("A, {}", a.name), a.bytes, number - 128)),
         number @ 193..=255 => Comparison::Trouble(refusal::of_image(&format!("B, {}", b.name), b.bytes, number - 192)),
+        // must not happen: it is proved that equal images alone give 0, and that the buffer is long enough
         number => Comparison::Trouble(format!("no list of requests was found (number {number}); please report it\n")),
     }
 }

@@ -9,7 +9,6 @@ pub mod cli;
 pub mod compare;
 pub mod difference;
 pub mod disassemble;
-pub mod distinguish;
 pub mod explain;
 pub mod fault;
 pub mod help;

@@ -2,7 +2,7 @@
 
 use circtool::compare::{compare, Comparison, Named};
 use circtool::difference::differences;
-use circtool::distinguish::distinguish;
+use circmon::distinguish;
 use circtool::paint::Paint;
 use circtool::view::View;
 use load::Random;

@@ -11,20 +11,28 @@ fn root() -> PathBuf {
     Path::new(env!("CARGO_MANIFEST_DIR")).join("../..").canonicalize().unwrap()
 }
 
-#[test]
-fn a_c_program_over_the_header() {
+/// A C program of c/ over the header and the library.
+fn compiled(name: &str, words: &[&str]) -> PathBuf {
     let root = root();
-    let binary = Path::new(env!("CARGO_TARGET_TMPDIR")).join("smoke");
+    let binary = Path::new(env!("CARGO_TARGET_TMPDIR")).join(name);
     let status = Command::new("cc")
-        .args(["-std=c11", "-Wall", "-Wextra", "-Werror", "-I"])
+        .args(["-std=gnu11", "-Wall", "-Wextra", "-Werror"])
+        .args(words)
+        .arg("-I")
         .arg(root.join("include"))
-        .arg(root.join("host/sidebyside/c/smoke.c"))
+        .arg(root.join(format!("host/sidebyside/c/{name}.c")))
         .arg(root.join("target/staticlib/libcapi.a"))
         .arg("-o")
         .arg(&binary)
         .status()
         .expect("a C compiler");
     assert!(status.success());
+    binary
+}
+
+#[test]
+fn a_c_program_over_the_header() {
+    let binary = compiled("smoke", &[]);
     let output = Command::new(&binary).output().unwrap();
     // the last line: subject 1 releases r on object 0, which is live in the first image only, and a byte that is left
     let expected = "begin 0\nrequest 0\nrequest 7\nrequest 0\nread 0\nshort 13\nreplay 0\nreplies 0 7 0 238\n\
@@ -104,4 +112,31 @@ fn w_with_steps_1_3_and_4_prints_0_0_1() {
         input.extend(request);
     }
     assert_eq!(circmon(&input), "0\n0\n1\n");
+}
+
+/// The table of docs/EMBEDDING.md: each function and its bytes of stack.
+fn stack_as_documented() -> Vec<(String, usize)> {
+    let text = std::fs::read_to_string(root().join("docs/EMBEDDING.md")).unwrap();
+    let rows = text.lines().filter_map(|line| line.strip_prefix("| `circmon_"));
+    rows.map(|row| {
+        let (name, bytes) = row.split_once("` | ").unwrap();
+        (format!("circmon_{name}"), bytes.trim_end_matches(" |").replace(',', "").parse().unwrap())
+    })
+    .collect()
+}
+
+#[test]
+fn the_stack_is_as_documented() {
+    let binary = compiled("stack", &["-O1", "-pthread"]);
+    let output = Command::new(&binary).output().unwrap();
+    let text = String::from_utf8(output.stdout).unwrap();
+    let documented = stack_as_documented();
+    assert_eq!(text.lines().count(), documented.len(), "{text}");
+    for (line, (name, bytes)) in text.lines().zip(documented) {
+        let words: Vec<&str> = line.split(' ').collect();
+        let used: usize = words[1].parse().unwrap();
+        assert_eq!(words[0], name);
+        // what is said suffices, and is not much more than is used
+        assert!(used <= bytes && bytes <= used + used / 8 + 256, "{name}: {used} used, {bytes} in docs/EMBEDDING.md");
+    }
 }
