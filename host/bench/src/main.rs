@@ -10,7 +10,7 @@ use reference::{Kind, Monitor, Request, Star, IMAGE_BYTES, REQUEST_BYTES, SUBJEC
 use std::time::Instant;
 
 const REQUESTS: usize = 20_000;
-const ROUNDS: usize = 15;
+const ROUNDS: usize = 99;
 
 /// A load: a table, requests that make a state, and the requests that count.
 struct Load {
@@ -133,12 +133,17 @@ fn replay(wanted: &str) {
         let count = load.requests.len() / REQUEST_BYTES;
         let (mut proved, mut plain, mut listed) = (Vec::new(), Vec::new(), Vec::new());
         let mut replies = [vec![0; count], vec![0; count], vec![0; count]];
-        for _ in 0..ROUNDS {
+        for round in 0..ROUNDS {
             replies.iter_mut().for_each(|r| r.fill(0xEE));
             let [a, b, c] = &mut replies;
-            proved.push(time(|| assert_eq!(circmon::replay(&load.table, &load.requests, a), 0)));
-            plain.push(time(|| run_reference(&load, Star::Plain, b)));
-            listed.push(time(|| run_reference(&load, Star::Listed, c)));
+            // each is the first of a round as often as the others
+            for turn in 0..3 {
+                match (round + turn) % 3 {
+                    0 => proved.push(time(|| assert_eq!(circmon::replay(&load.table, &load.requests, a), 0))),
+                    1 => plain.push(time(|| run_reference(&load, Star::Plain, b))),
+                    _ => listed.push(time(|| run_reference(&load, Star::Listed, c))),
+                }
+            }
             assert!(replies[0] == replies[1] && replies[1] == replies[2], "replies differ on {}", load.name);
         }
         let (proved, plain, listed) = (median(proved), median(plain), median(listed));
