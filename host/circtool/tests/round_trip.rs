@@ -72,6 +72,22 @@ fn runs_of_valid_and_damaged_requests() {
     assert!(requests > 20_000 && malformed > 500, "{requests} requests, {malformed} malformed");
 }
 
+/// Those of six bytes one behind the other, the others each by itself behind the table.
+#[test]
+fn every_request_of_the_side_by_side_runs() {
+    let mut requests = 0;
+    for seed in 0..sidebyside::RUNS {
+        let (table, list) = sidebyside::drawn(seed, sidebyside::shape(seed), sidebyside::RUN_REQUESTS);
+        requests += list.len();
+        let (whole, others): (Vec<_>, Vec<_>) = list.into_iter().partition(|request| request.len() == 6);
+        round_trip(&[&table[..], &whole.concat()].concat(), &format!("seed {seed}"));
+        for request in others {
+            round_trip(&[&table[..], &request].concat(), &format!("seed {seed}: {request:02x?}"));
+        }
+    }
+    assert!(requests >= 1_000_000);
+}
+
 #[test]
 fn random_bytes_of_every_length_from_0_to_200() {
     for seed in 0..10 {

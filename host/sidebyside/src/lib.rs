@@ -2,7 +2,7 @@
 
 use circmon::Unit;
 use load::{Random, Shape};
-use reference::{Monitor, IMAGE_BYTES};
+use reference::{Monitor, IMAGE_BYTES, TABLE_BYTES};
 
 /// The image of a state of the second implementation.
 pub fn image(monitor: &Monitor) -> Vec<u8> {
@@ -20,20 +20,40 @@ pub const SHAPES: [Shape; 5] = [
     Shape { objects: 64, classes: 16, needs: 16, damaged: 40 },
 ];
 
+/// The long runs: so many seeds from 0 on, each with a shape and so many requests.
+pub const RUNS: u64 = 500;
+pub const RUN_REQUESTS: usize = 2200;
+
+/// The shape of the run with this seed.
+pub fn shape(seed: u64) -> Shape {
+    SHAPES[seed as usize % SHAPES.len()]
+}
+
+/// The table and the requests of a run, in the order in which they are drawn for the states that they leave.
+pub fn drawn(seed: u64, shape: Shape, requests: usize) -> ([u8; TABLE_BYTES], Vec<Vec<u8>>) {
+    let random = &mut Random::new(seed);
+    let table = load::table(random, shape);
+    let mut monitor = Monitor::from_table(&table).expect("a table that was written");
+    let draw = |_| {
+        let bytes = load::bytes(random, shape, &monitor);
+        monitor.request(&bytes);
+        bytes
+    };
+    (table, (0..requests).map(draw).collect())
+}
+
 /// How often each reply was given.
 #[derive(Default, Debug)]
 pub struct Count(pub [usize; 16]);
 
 /// Runs both on one load, comparing every reply, and the image at every `every` requests and at the end.
 pub fn compare_run(seed: u64, shape: Shape, requests: usize, every: usize, count: &mut Count) {
-    let random = &mut Random::new(seed);
-    let table = load::table(random, shape);
+    let (table, list) = drawn(seed, shape, requests);
     let mut monitor = Monitor::from_table(&table).expect("a table that was written");
     let mut unit = Unit::from_table(&table).unwrap_or_else(|n| panic!("seed {seed}: table refused with {n}"));
-    for at in 0..requests {
-        let bytes = load::bytes(random, shape, &monitor);
-        let reply = monitor.request(&bytes);
-        assert_eq!(unit.request(&bytes), reply, "seed {seed}, request {at}: {bytes:02x?}");
+    for (at, bytes) in list.iter().enumerate() {
+        let reply = monitor.request(bytes);
+        assert_eq!(unit.request(bytes), reply, "seed {seed}, request {at}: {bytes:02x?}");
         count.0[usize::from(reply)] += 1;
         if at % every == 0 || at + 1 == requests {
             assert_eq!(unit.image()[..], image(&monitor)[..], "seed {seed}: images after request {at}");

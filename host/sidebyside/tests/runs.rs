@@ -3,18 +3,15 @@
 use circmon::Unit;
 use load::{Random, Shape};
 use reference::{Monitor, Star};
-use sidebyside::{compare_run, image, Count, SHAPES};
+use sidebyside::{compare_run, image, shape, Count, RUNS, RUN_REQUESTS};
 
 #[test]
 fn a_million_requests_draw_the_same_replies_and_images() {
     let mut count = Count::default();
-    let mut requests = 0;
-    for seed in 0..500 {
-        let shape = SHAPES[seed as usize % SHAPES.len()];
-        compare_run(seed, shape, 2200, 40, &mut count);
-        requests += 2200;
+    for seed in 0..RUNS {
+        compare_run(seed, shape(seed), RUN_REQUESTS, 40, &mut count);
     }
-    assert!(requests >= 1_000_000);
+    assert!(count.0.iter().sum::<usize>() >= 1_000_000);
     // the loads reach every reply that a request can get
     for reply in 0..=9 {
         assert!(count.0[reply] > 1000, "reply {reply} was seen {} times: {count:?}", count.0[reply]);
@@ -25,7 +22,7 @@ fn a_million_requests_draw_the_same_replies_and_images() {
 fn replay_gives_the_replies_of_the_requests_one_by_one() {
     for seed in 1000..1200 {
         let random = &mut Random::new(seed);
-        let shape = SHAPES[seed as usize % SHAPES.len()];
+        let shape = shape(seed);
         let table = load::table(random, shape);
         let mut monitor = Monitor::from_table(&table).unwrap();
         monitor.star = Star::Listed;
@@ -72,7 +69,7 @@ fn a_deleted_object_leaves_nothing_for_the_next_in_its_slot() {
 fn a_unit_that_ran_and_one_begun_from_its_image_go_on_alike() {
     for seed in 7000..7040 {
         let random = &mut Random::new(seed);
-        let shape = SHAPES[seed as usize % SHAPES.len()];
+        let shape = shape(seed);
         let table = load::table(random, shape);
         let mut monitor = Monitor::from_table(&table).unwrap();
         let mut ran = Unit::from_table(&table).unwrap();
