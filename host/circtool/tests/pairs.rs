@@ -1,8 +1,8 @@
 //! Two images: equal ones, every kind of difference with its words, and requests that tell the two apart.
 
+use circmon::distinguish;
 use circtool::compare::{compare, Comparison, Named};
 use circtool::difference::differences;
-use circmon::distinguish;
 use circtool::paint::Paint;
 use circtool::view::View;
 use load::Random;
@@ -116,7 +116,7 @@ fn clearances_are_told_apart_where_every_slot_is_taken() {
 #[test]
 fn images_along_runs() {
     let (mut equal, mut different) = (0, 0);
-    for seed in 0..30 {
+    for seed in 0..300 {
         let random = &mut Random::new(seed);
         let shape = SHAPES[seed as usize % SHAPES.len()];
         let mut monitor = Monitor::from_table(&load::table(random, shape)).unwrap();
@@ -136,12 +136,12 @@ fn images_along_runs() {
             }
         }
     }
-    assert!(equal > 500 && different > 500, "{equal} equal, {different} different");
+    assert!(equal >= 5_000 && different >= 10_000, "{equal} equal, {different} different");
 }
 
 #[test]
 fn images_of_different_runs() {
-    for seed in 0..40 {
+    for seed in 0..200 {
         let (a, b) = (load::rich(seed, 20, 200), load::rich(seed + 1000, 20, 200));
         told_apart(&a, &b, &format!("seed {seed}"));
     }
