@@ -2,11 +2,14 @@
 // The bits of a byte that is not full yet wait in a register, which each function is given and hands back.
 ghost use mathlib.Core.Path.{_≡_};
 ghost use Prim.Native.Nat.{_+_, _*_, _%_, _≤_, _<_};
-ghost use lib.ListN.{length};
+ghost use mathlib.Core.Bool.{true, false};
+ghost use lib.ListN.{length, replicate};
 ghost use Rattle.bits.specs.Bits.{toBits};
 ghost use Rattle.bits.specs.Stream.{Appends};
+ghost use Rattle.model.specs.State.{noModes, noObject};
 ghost use Rattle.model.specs.Layout.{imageSize, labelBits, setsBits, objectBits, tableBits, objectsBits};
 ghost use Rattle.model.specs.Writing.{writing, written};
+use labels::is_present;
 use model::Decision;
 use model::Label;
 use model::Monitor;
@@ -60,11 +63,56 @@ fn write_sets(out: &mut [u8], at: usize, acc: u32, rights: [u8; 16], held: [u8; 
     waiting
 }
 
+// ---- slots without an object, which are most
+
+fn is_empty(row: [u8; 16]) -> bool
+    ensures { λ r. ⌜ (r ≡ true → row ≡ noModes) ⌝ }
+{
+    let mut empty = true;
+    let mut s: usize = 0;
+    while s < Monitor::SUBJECTS {
+        empty = empty & (row[s] == 0);
+        s += 1;
+    }
+    empty
+}
+
+fn is_none(object: Object) -> bool
+    ensures { λ r. ⌜ (r ≡ true → object ≡ noObject) ⌝ }
+{
+    let label = object.label;
+    let rights = object.rights;
+    let held = object.held;
+    let no_sets = is_empty(rights) & is_empty(held);
+    let no_label = !is_present(label);
+    !object.live & ((object.owner == 0) & (no_label & no_sets))
+}
+
+// The 154 bits of a record of no object, all 0: two, eight, and then whole bytes.
+fn write_none(out: &mut [u8], at: usize, acc: u32) -> u32
+    requires { ⌜ (at + 154 ≤ 8 * imageSize) × (imageSize ≤ length (now out)) ⌝ }
+    ensures { λ r. ⌜ Appends (now (out .entry)) at acc (replicate 154 false) (now (out .exit)) (at + 154) r ⌝ }
+{
+    let two = bits::append(out, at, acc, 2, 0);
+    let waiting = bits::append(out, at + 2, two, 8, 0);
+    let mut k: usize = 1;
+    while k < 19 {
+        out[(at + 2) / 8 + k] = 0;
+        k += 1;
+    }
+    waiting
+}
+
+// ---- objects
+
 // An object's record: live, owner, the label, the sets.
 fn write_object(out: &mut [u8], at: usize, acc: u32, object: Object) -> u32
     requires { ⌜ (at + 154 ≤ 8 * imageSize) × (imageSize ≤ length (now out)) ⌝ }
     ensures { λ r. ⌜ Appends (now (out .entry)) at acc (objectBits object) (now (out .exit)) (at + 154) r ⌝ }
 {
+    if is_none(object) {
+        return write_none(out, at, acc);
+    }
     let live = object.live;
     let owner = object.owner;
     let label = object.label;

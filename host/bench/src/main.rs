@@ -1,6 +1,7 @@
 //! Benchmark: the proved monitor beside the second implementation, on the same loads in one run.
 //!
-//! `cargo run --release -p bench` from host/; with a word behind it, as `-- release`, only the loads whose names have it.
+//! `cargo run --release -p bench` from host/; with a word behind it, as `-- release`, only the loads whose
+//! names have it, and with `-- images` only the images.
 //! The two are timed in turns, each load several times; what is printed are
 //! medians and their ratio, above 1 where the proved monitor is ahead. Before each timing the reply buffer is cleared,
 //! for both alike, outside the time taken.
@@ -160,20 +161,20 @@ fn replay(wanted: &str) {
     }
 }
 
-/// Reading, and reading, one request and writing, of images with so many objects.
+/// Reading a table and writing the image of the monitor begun; reading, and reading, one request and writing, of images with
+/// so many objects.
 fn images() {
-    println!("\nimages: microseconds, and the ratio to the second implementation");
-    println!("{:<34} {:>9} {:>9} {:>7}", "work", "circmon", "reference", "ratio");
+    println!("images: microseconds, and the ratio to the second implementation");
+    println!("{:<40} {:>9} {:>9} {:>7}", "work", "circmon", "reference", "ratio");
+    begin();
     let release = Request { actor: 0, object: 0, kind: Kind::Release(reference::Mode::Execute) }.encode();
     for (objects, dense) in [(4, false), (16, false), (64, false), (4, true), (16, true), (64, true)] {
         let (monitor, _) = prepare(&mut Random::new(7), objects, dense);
         let mut image = [0; IMAGE_BYTES];
         monitor.write_image(&mut image);
         let what = format!("{objects} objects, {}", if dense { "dense" } else { "sparse" });
-        let repeat = 200;
         let mut rows = [("read", Vec::new(), Vec::new()), ("read, request, write", Vec::new(), Vec::new())];
         for _ in 0..ROUNDS {
-            let each = |work: &mut dyn FnMut()| time(|| (0..repeat).for_each(|_| work())) / repeat as f64 * 1e6;
             rows[0].1.push(each(&mut || assert_eq!(circmon::read(&image), 0)));
             rows[0].2.push(each(&mut || assert!(Monitor::from_image(&image).is_ok())));
             let mut one = image;
@@ -187,17 +188,44 @@ fn images() {
             assert_eq!(one, two);
         }
         for (work, proved, reference) in rows {
-            let (proved, reference) = (median(proved), median(reference));
-            println!("{:<34} {:>9.2} {:>9.2} {:>7.2}", format!("{work}, {what}"), proved, reference, reference / proved);
+            image_row(&format!("{work}, {what}"), proved, reference);
         }
     }
 }
 
+/// Microseconds for one of many repetitions.
+fn each(work: &mut dyn FnMut()) -> f64 {
+    let repeat = 200;
+    time(|| (0..repeat).for_each(|_| work())) / repeat as f64 * 1e6
+}
+
+fn image_row(work: &str, proved: Vec<f64>, reference: Vec<f64>) {
+    let (proved, reference) = (median(proved), median(reference));
+    println!("{work:<40} {proved:>9.2} {reference:>9.2} {:>7.2}", reference / proved);
+}
+
+/// The table is short and the image long: this is nearly the time of writing alone.
+fn begin() {
+    let table = load::table(&mut Random::new(7), shape(4));
+    let (mut one, mut two) = ([0; IMAGE_BYTES], [0; IMAGE_BYTES]);
+    let (mut proved, mut reference) = (Vec::new(), Vec::new());
+    for _ in 0..ROUNDS {
+        proved.push(each(&mut || assert_eq!(circmon::begin(&table, &mut one), 0)));
+        reference.push(each(&mut || {
+            assert_eq!(Monitor::from_table(&table).expect("a table that was written").write_image(&mut two), 0)
+        }));
+        assert_eq!(one, two);
+    }
+    image_row("begin from a table, write", proved, reference);
+}
+
 fn main() {
-    match std::env::args().nth(1) {
-        Some(wanted) => replay(&wanted),
+    match std::env::args().nth(1).as_deref() {
+        Some("images") => images(),
+        Some(wanted) => replay(wanted),
         None => {
             replay("");
+            println!();
             images();
         }
     }

@@ -1,6 +1,6 @@
--- Five bits, the label and the sets, one behind the other, are the object's record.
+-- Five bits, the label and the sets, one behind the other, are the object's record; where there is no object, its bits are all 0.
 -- Assumes nothing.
-use mathlib.Core.Path.{ap, _∙_}
+use mathlib.Core.Path.{refl, sym, ap, _∙_}
 use mathlib.Core.Bool.{Bool}
 use mathlib.Core.List.{List, _∷_, _++_, append-assoc}
 use native.Mathlib.Omega.{arith}
@@ -10,9 +10,24 @@ use Rattle.bits.specs.Stream.{next, ends}
 use Rattle.model.specs.Layout.{labelBits, setsBits, objectBits}
 use Rattle.writing.proofs.Words.{flag-bits}
 use Rattle.writing.proofs.Streams.{appended}
+use Rattle.writing.proofs.Zeros.{none-bits}
 use borrow.Author.Needs.{needs}
 use Rattle.writing.proofs.write_object.Statement.{statement}
 use Rattle.writing.proofs.write_object.Tie as tie
+
+is-none-requires : tie.Need-is-none-requires
+is-none-requires c κs = search needs
+
+write-none-requires : tie.Need-write-none-requires
+write-none-requires c κs = search needs
+
+same-length : tie.Need-same-length
+same-length c = search needs
+
+returns : tie.Need-returns
+returns c =
+    let none = c .before .before .before .before .before .is-none .ensures (c .before .before .before .before .if1 .taken) in
+    ends _ _ (none-bits ∙ ap objectBits (sym none)) refl (c .before .before .write-none .ensures)
 
 cast-side-by-side : tie.Need-cast-side-by-side
 cast-side-by-side c = search needs
@@ -35,20 +50,20 @@ add-write-sets c = search needs
 write-sets-requires : tie.Need-write-sets-requires
 write-sets-requires c κs = search needs
 
-same-length : tie.Need-same-length
-same-length c = search needs
+same-length-2 : tie.Need-same-length-2
+same-length-2 c = search needs
 
-returns : tie.Need-returns
+returns-2 : tie.Need-returns-2
 unfolding objectBits
-returns c =
+returns-2 c =
     let third = c .before .before in
     let second = third .before .before .before .before in
     let first = second .before .before .before .before in
     let word = first .before in
-    let a = word .before .before .before .before .before .args in
+    let a = word .before .before .before .before .before .before .before .args in
     let ob = a .object in
     let head = word .side-by-side in
-    let A = appended (a .out .now) (first .append .last .0) (a .at) (a .acc) 5 (head .result) (first .append .result) (lit≤ tt) (omega arith) (first .append .ensures) in
+    let A = appended (a .out .now) (first .append .last .0) (a .at) (a .acc) 5 (head .result) (first .append .result) (lit≤ tt) (omega (arith, word .before .before .before .before .before .before .before .pre)) (first .append .ensures) in
     let record-bits =
     ap (λ (l : List Bool). (l ++ labelBits (ob .label)) ++ setsBits (ob .rights) (ob .held)) (ap (toBits 5) (head .ensures) ∙ flag-bits (ob .live) (ob .owner))
     ∙ append-assoc (ob .live ∷ toBits 4 (ob .owner)) (labelBits (ob .label)) (setsBits (ob .rights) (ob .held)) in
@@ -59,6 +74,10 @@ pub write-object-spec : {M : Type 1} → statement M
 write-object-spec =
     tie.close
     (tie.spec
+    is-none-requires
+    write-none-requires
+    same-length
+    returns
     cast-side-by-side
     side-by-side-requires
     append-requires
@@ -66,5 +85,5 @@ write-object-spec =
     write-label-requires
     add-write-sets
     write-sets-requires
-    same-length
-    returns)
+    same-length-2
+    returns-2)

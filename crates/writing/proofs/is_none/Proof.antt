@@ -1,0 +1,45 @@
+-- `writing::is_none` meets its contract.
+-- Assumes nothing.
+use mathlib.Core.Path.{_≡_, refl, sym, _∙_}
+use mathlib.Core.Bool.{false, not}
+use lib.Dec.{eqb}
+use borrow.Author.Needs.{needs}
+use borrow.Author.Tests.{eqb-true}
+use Rattle.model.specs.declared.Label.{Label}
+use Rattle.model.specs.declared.Label.the-variants.{Absent, Present}
+use Rattle.model.specs.Levels.{present}
+use Rattle.model.specs.State.{noModes}
+use Rattle.model.proofs.Tests.{clash, and-left, and-right, not-on}
+use Rattle.writing.proofs.is_none.Statement.{statement}
+use Rattle.writing.proofs.is_none.Tie as tie
+
+absent : (l : Label) → present l ≡ false → l ≡ Absent
+absent Absent e = refl
+absent (Present v) e = clash e
+
+is-empty-requires : tie.Need-is-empty-requires
+is-empty-requires c κs = search needs
+
+is-empty-requires-2 : tie.Need-is-empty-requires-2
+is-empty-requires-2 c κs = search needs
+
+is-present-requires : tie.Need-is-present-requires
+is-present-requires c κs = search needs
+
+returns : tie.Need-returns
+returns c e =
+    let ob = c .before .before .before .before .before .before .before .args .object in
+    let no-owner = and-right (not (ob .live)) _ e in
+    let no-label = and-right (eqb (ob .owner) 0) _ no-owner in
+    let no-sets = and-right (not (c .before .before .is-present .result)) _ no-label in
+    let live : ob .live ≡ false = not-on (ob .live) (and-left (not (ob .live)) _ e) in
+    let owner : ob .owner ≡ 0 = eqb-true (ob .owner) 0 (and-left (eqb (ob .owner) 0) _ no-owner) in
+    let label : ob .label ≡ Absent =
+    absent (ob .label) (sym (c .before .before .is-present .ensures) ∙ not-on _ (and-left (not (c .before .before .is-present .result)) _ no-label)) in
+    let rights : ob .rights ≡ noModes = c .before .before .before .before .is-empty .ensures (and-left (c .before .before .before .before .is-empty .result) _ no-sets) in
+    let held : ob .held ≡ noModes = c .before .before .before .is-empty2 .ensures (and-right (c .before .before .before .before .is-empty .result) _ no-sets) in
+    λ i. record { live = live i; owner = owner i; label = label i; rights = rights i; held = held i }
+
+pub is-none-spec : {M : Type 1} → statement M
+is-none-spec =
+    tie.close (tie.spec is-empty-requires is-empty-requires-2 is-present-requires returns)
