@@ -1,4 +1,4 @@
-//! Builds the proved static library and has it linked: `rt staticlib capi` in the root of the repository.
+//! Proves and builds the static library and has it linked: `rt check capi` and `rt staticlib capi` in the root of the repository.
 
 use std::path::Path;
 use std::process::Command;
@@ -7,13 +7,16 @@ fn main() {
     let root = Path::new(env!("CARGO_MANIFEST_DIR")).join("../..").canonicalize().expect("the root of the repository");
     println!("cargo:rerun-if-changed={}", root.join("crates").display());
     println!("cargo:rerun-if-changed={}", root.join("crates.txt").display());
-    let status = Command::new("rt")
-        .args(["staticlib", "capi"])
-        .current_dir(&root)
-        .stdout(std::process::Stdio::null())
-        .status()
-        .expect("rt, the Rattle toolchain, on the path");
-    assert!(status.success(), "rt staticlib capi: {status}");
+    // the first proves what the library stands on, several crates at a time; the second would prove one after the other
+    for words in [["check", "capi"], ["staticlib", "capi"]] {
+        let status = Command::new("rt")
+            .args(words)
+            .current_dir(&root)
+            .stdout(std::process::Stdio::null())
+            .status()
+            .expect("rt, the Rattle toolchain, on the path");
+        assert!(status.success(), "rt {}: {status}", words.join(" "));
+    }
     println!("cargo:rustc-link-search=native={}", root.join("target/staticlib").display());
     println!("cargo:rustc-link-lib=static=capi");
 }
