@@ -4,7 +4,8 @@ use std::path::Path;
 use std::process::Command;
 
 fn main() {
-    let root = Path::new(env!("CARGO_MANIFEST_DIR")).join("../..").canonicalize().expect("the root of the repository");
+    let folder = std::env::var("CARGO_MANIFEST_DIR").expect("set by cargo");
+    let root = Path::new(&folder).join("../..").canonicalize().expect("the root of the repository");
     println!("cargo:rerun-if-changed={}", root.join("crates").display());
     println!("cargo:rerun-if-changed={}", root.join("crates.txt").display());
     // the first proves what the library stands on, several crates at a time; the second would prove one after the other
