@@ -146,6 +146,9 @@ fn three_requests_where_every_slot_is_live() {
     kept_low(level(1, 0), &[(1, R)]).full().gives(4, "give get level");
     // no clearance of subject 0 dominates the label
     kept_low(level(3, 0), &[(0, R)]).full().gives(4, "level get level");
+    // and it alters o3, so that it can read o0 only at the lowest level
+    let low = kept_low(level(3, 0), &[(0, R)]).object(3, Some(LOW), &[], &[(0, A)]);
+    low.full().gives(4, "level get level");
     let mut hidden = classes();
     hidden.monitor.subjects[5] = Some(LOW);
     hidden.monitor.subjects[6] = Some(LOW);
