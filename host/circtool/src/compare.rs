@@ -4,9 +4,13 @@ use crate::difference::differences;
 use crate::explain::{step, Step};
 use crate::paint::Paint;
 use crate::refusal;
+use crate::shortest::shortest;
 use crate::view::View;
 use crate::words::{count, reply_words, wrapped};
 use circmon::{distinguish, Unit, DISTINGUISH_BYTES, REQUEST_BYTES};
+
+/// Over the list of requests.
+const HEADING: &str = "the shortest list of requests on which the two reply differently";
 
 /// An image with the name of its file.
 pub struct Named<'a> {
@@ -21,7 +25,7 @@ pub enum Comparison {
     Trouble(String),
 }
 
-/// Both texts, and the list of requests from the library.
+/// Both texts, and the list of requests: the library's, or a shorter one that the library answers differently too.
 pub fn compare(a: &Named, b: &Named, paint: Paint) -> Comparison {
     let mut requests = [0; DISTINGUISH_BYTES];
     match distinguish(a.bytes, b.bytes, &mut requests) {
@@ -43,7 +47,7 @@ fn equal(a: &Named, b: &Named) -> String {
     )
 }
 
-fn different(a: &Named, b: &Named, requests: &[u8], paint: Paint) -> Comparison {
+fn different(a: &Named, b: &Named, proved: &[u8], paint: Paint) -> Comparison {
     let (Ok(mut first), Ok(mut second)) = (Unit::from_image(a.bytes), Unit::from_image(b.bytes)) else {
         return Comparison::Trouble("an image that was accepted is refused; please report it\n".to_string());
     };
@@ -54,7 +58,8 @@ fn different(a: &Named, b: &Named, requests: &[u8], paint: Paint) -> Comparison 
     for place in &places {
         text.push_str(&format!("  {place}\n"));
     }
-    text.push_str(&format!("\n{}\n", paint.heading("requests on which the two reply differently")));
+    text.push_str(&format!("\n{}\n", paint.heading(HEADING)));
+    let requests = shortest(&first, &second, proved);
     let mut told = false;
     for (at, request) in requests.chunks(REQUEST_BYTES).enumerate() {
         let (in_a, in_b) = (step(&mut first, request), step(&mut second, request));

@@ -104,7 +104,8 @@ pub const COMPARE: &str = "\
 Usage: circtool compare A B
 
 Compares two images. Equal: every further list of requests draws the same replies from both, which is proved. Different:
-where, in words, and at most four requests on which the two reply differently, with both replies to each.
+where, in words, and the shortest list of requests on which the two reply differently, with both replies to each. It has
+at most four requests, which is proved.
 
 Example: circtool compare before.img after.img
 

@@ -21,6 +21,7 @@ pub mod properties;
 pub mod refusal;
 pub mod request;
 pub mod script;
+pub mod shortest;
 pub mod show;
 pub mod view;
 pub mod words;
