@@ -1,34 +1,22 @@
 -- The definition `distinguish` from the parts that the code computes.
 -- Assumes nothing.
-use Prim.Native.Nat.{ℕ, zero, suc, _<_}
-use native.Mathlib.Omega.{arith}
+use Prim.Native.Nat.{ℕ, zero, suc}
 use mathlib.Core.Path.{_≡_, refl, sym, ap, ap₂, _∙_}
 use mathlib.Core.Bool.{true, false, cond}
-use mathlib.Core.List.{List, []}
-use lib.ListN.{length, getD}
+use mathlib.Core.List.{List}
 use Rattle.model.specs.declared.Level.{Level}
 use Rattle.model.specs.declared.Label.{Label}
 use Rattle.model.specs.declared.Label.the-variants.{Absent, Present}
-use Rattle.model.specs.declared.Object.{Object}
 use Rattle.model.specs.declared.Monitor.{Monitor}
 use Rattle.model.specs.declared.Request.{Request}
 use Rattle.model.specs.Levels.{dominates}
-use Rattle.model.specs.State.{noObject, clearance, objectAt, object}
-use Rattle.model.proofs.Tests.{any-default}
+use Rattle.model.specs.State.{clearance, object}
 use Rattle.security.specs.Distinguish.{orElse, search, searchModes, byEnrolment, byLife, byOwner, toLabel, byLabel, byRight, byAccess, byObject, freeBelow, readAt, toClearance, byClearance, distinguish}
-use Rattle.distinguish.specs.declared.sequence.Sequence.{Sequence}
-use Rattle.distinguish.specs.declared.sequence.Sequence.the-variants.{Reading}
-use Rattle.distinguish.specs.Sequences.{found, requestsOf}
-use Rattle.distinguish.specs.Records.{lifeApart, ownerApart, labelApart, modeApart, setApart, rowApart, objectApart, objectsApart, enrolmentApart, enrolmentsApart, freeOf, freePlace, levelApart, clearanceApart, clearancesApart}
-use Rattle.distinguish.proofs.Searching.{or-found, or-nothing, search-same}
-
--- what the logic reads past the end of an array of objects, which is not the definition's record
-abbrev pub blank : Object
-blank = record { live = false; owner = 0; label = Absent; rights = []; held = [] }
-
--- before its end the array has the object's record
-pub read-object : (l : List Object) (o : ℕ) → length l ≡ 64 → o < 64 → getD l o blank ≡ objectAt l o
-read-object l o e h = any-default l o blank noObject (omega (arith, e))
+use Rattle.differences.specs.declared.sequence.Sequence.{Sequence}
+use Rattle.differences.specs.declared.sequence.Sequence.the-variants.{Reading}
+use Rattle.differences.specs.Sequences.{found, requestsOf}
+use Rattle.differences.specs.Records.{lifeApart, ownerApart, labelApart, modeApart, setApart, rowApart, objectApart, objectsApart, enrolmentApart, enrolmentsApart, freeOf, freePlace, levelApart, clearanceApart, clearancesApart}
+use Rattle.differences.proofs.Searching.{or-found, or-nothing, search-same}
 
 module _ (m n : Monitor) where
   label-part : (s o : ℕ) (a b : Label) → toLabel m n s o a b ≡ labelApart s o a b

@@ -1,4 +1,2 @@
--- What the code of this crate computes, part by part, over the definition `distinguish`.
-pub mod Sequences
-pub mod Records
+-- What is returned and left where two states are told apart.
 pub mod Telling

@@ -1,20 +1,17 @@
 // The requests on which two states reply differently, found and written one behind the other.
-mod objects;
 mod packing;
-mod sequence;
-mod subjects;
 
 ghost use mathlib.Core.Path.{_≡_};
 ghost use Rattle.security.specs.Distinguish.{distinguish};
-ghost use Rattle.distinguish.specs.Sequences.{requestsOf};
+ghost use Rattle.differences.specs.Sequences.{requestsOf};
 ghost use Rattle.distinguish.specs.Telling.{toldNumber, toldBytes};
-use crate::objects::objects_apart;
 use crate::packing::write_sequence;
-use crate::sequence::Sequence;
-use crate::sequence::is_found;
-use crate::subjects::clearances_apart;
-use crate::subjects::enrolments_apart;
-use crate::subjects::free_place;
+use differences::Sequence;
+use differences::clearances_apart;
+use differences::enrolments_apart;
+use differences::free_place;
+use differences::is_found;
+use differences::objects_apart;
 use labels::number;
 use model::Decision;
 use model::Monitor;

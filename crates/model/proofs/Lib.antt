@@ -7,3 +7,4 @@ pub mod Packing
 pub mod Requests
 pub mod Records
 pub mod Examples
+pub mod Arrays

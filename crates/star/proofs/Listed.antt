@@ -19,6 +19,7 @@ use Rattle.model.specs.Levels.{dominates}
 use Rattle.model.specs.Modes.{anyObserves, anyAlters, anyNeedsLabel}
 use Rattle.model.specs.State.{heldBy}
 use Rattle.model.specs.Rules.{starFor, starFrom, starPair}
+use Rattle.model.proofs.Arrays.{blank}
 use Rattle.model.proofs.Tests.{split, apart, and-both, or-left, or-right, not-on, cond-all, implies-in, implies-out, below-out, all-at}
 use Rattle.star.specs.Idle.{free, nothingHeld, idle}
 
@@ -102,10 +103,6 @@ bit-small true = omega arith
 bit-small false = omega arith
 
 -- ---- the star property by the objects that a subject reads and those that it alters
-
--- the record that the code's logic has for what lies past an array's end
-abbrev pub blank : Object
-blank = record { live = false; owner = 0; label = Label.Absent; rights = []; held = [] }
 
 abbrev pub readBy : ℕ → List Object → ℕ → Bool
 readBy s l k = anyObserves (heldBy (getD l k blank) s)

@@ -13,9 +13,9 @@ use Rattle.model.specs.declared.Request.{Request}
 use Rattle.model.specs.declared.Decision.the-variants.{ShortBuffer}
 use Rattle.model.specs.Decisions.{number}
 use Rattle.security.specs.Distinguish.{distinguish}
-use Rattle.distinguish.specs.declared.sequence.Sequence.{Sequence}
-use Rattle.distinguish.specs.declared.sequence.Sequence.the-variants.{Nothing, One, Reading}
-use Rattle.distinguish.specs.Sequences.{requestsOf}
+use Rattle.differences.specs.declared.sequence.Sequence.{Sequence}
+use Rattle.differences.specs.declared.sequence.Sequence.the-variants.{Nothing, One, Reading}
+use Rattle.differences.specs.Sequences.{requestsOf}
 use Rattle.distinguish.specs.Telling.{bytesOf, noRoom, toldNumber, toldBytes}
 use Rattle.distinguish.proofs.Storing.{sets-front}
 use borrow.Author.Needs.{needs}

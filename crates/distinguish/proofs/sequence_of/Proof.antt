@@ -1,8 +1,8 @@
 -- The first part that has a request; where neither of the first two has one, the clearances.
 -- Assumes nothing.
 use mathlib.Core.Path.{sym, ap, _∙_}
-use Rattle.distinguish.specs.declared.sequence.Place.{Place}
-use Rattle.distinguish.specs.Records.{clearancesApart}
+use Rattle.differences.specs.declared.sequence.Place.{Place}
+use Rattle.differences.specs.Records.{clearancesApart}
 use Rattle.distinguish.proofs.Parts.{told-by-enrolment, told-by-object, told-by-clearance}
 use borrow.Author.Needs.{needs}
 use Rattle.distinguish.proofs.sequence_of.Statement.{statement}

@@ -5,10 +5,9 @@ use native.Mathlib.Omega.{arith}
 use lib.ListN.{length, getD}
 use Rattle.model.specs.declared.Monitor.{Monitor}
 use Rattle.model.specs.declared.Decision.{Decision}
-use Rattle.model.specs.State.{noObject, object}
 use Rattle.model.specs.Runs.{carryOut, respond}
-use Rattle.model.proofs.Tests.{any-default, mapped-length, not-on, not-off}
-use Rattle.star.proofs.Listed.{blank}
+use Rattle.model.proofs.Tests.{mapped-length, not-on, not-off}
+use Rattle.model.proofs.Arrays.{blank, read-object}
 use Rattle.rules.proofs.Answered.{Numbers}
 use Rattle.rules.proofs.Turn.{SaidInRange, decoded-in-range, said-numbers, Turned, turned-by, still-by, asks-by, responded}
 use borrow.Author.Needs.{needs}
@@ -26,14 +25,9 @@ named c = subst Numbers (sym (c .parts-said .ensures)) (said-numbers (c .before 
 objects-length : (c : tie.Start) → length (c .args .m .objects) ≡ 64
 objects-length c = mapped-length (c .args .m .objects) (Rattle.model.proofs.Object.the-type .to) 64 (c .good .0 .1 .1 .1 .0 .1 .0 .1)
 
--- the record that the code reads is that of the request's object
-read-object : (c : tie.After-parts-said) → getD (c .before .before .before .args .m .objects) (c .parts-said .result .object) blank ≡ object (c .before .before .before .args .m) (c .parts-said .result .object)
-read-object c =
-    any-default (c .before .before .before .args .m .objects) (c .parts-said .result .object) blank noObject (omega (arith, named c .object, objects-length (c .before .before .before)))
-
 turn : (c : tie.After-decide)
     → Turned (c .before .before .before .before .before .before .before .before .decode .result) (c .before .before .before .before .before .before .before .before .before .before .args .m) (c .before .before .before .before .before .before .before .parts-said .result) (getD (c .before .before .before .before .before .before .before .before .before .before .args .m .objects) (c .before .before .before .before .before .before .before .parts-said .result .object) blank) (c .decide .result)
-turn c = turned-by _ _ _ _ _ (said (c .before .before .before .before .before .before .before .before)) (c .before .before .before .before .before .before .before .parts-said .ensures) (read-object (c .before .before .before .before .before .before .before)) (c .decide .ensures)
+turn c = turned-by _ _ _ _ _ (said (c .before .before .before .before .before .before .before .before)) (c .before .before .before .before .before .before .before .parts-said .ensures) (read-object (c .before .before .before .before .before .before .before .before .before .before .args .m .objects) (c .before .before .before .before .before .before .before .parts-said .result .object) (objects-length (c .before .before .before .before .before .before .before .before .before .before)) (named (c .before .before .before .before .before .before .before) .object)) (c .decide .ensures)
 
 -- a turn answers the bytes
 answers : (c : tie.After-decode) (d : Decision) (n : Monitor) → record { decision = d; monitor = n } ≡ carryOut (c .decode .result) (c .before .before .args .m)

@@ -12,9 +12,8 @@ use borrow.Author.Needs.{needs}
 use native.Mathlib.Omega.{arith}
 use Rattle.model.specs.Requests.{decode}
 use Rattle.model.specs.Program.{pieces}
-use Rattle.model.specs.State.{noObject, object, withObject}
-use Rattle.model.proofs.Tests.{any-default, mapped-length, not-on, not-off}
-use Rattle.star.proofs.Listed.{blank}
+use Rattle.model.proofs.Tests.{mapped-length, not-on, not-off}
+use Rattle.model.proofs.Arrays.{blank, read-object}
 use Rattle.rules.proofs.Answered.{Numbers}
 use Rattle.rules.proofs.Turn.{SaidInRange, decoded-in-range, said-numbers, Turned, turned-by, still-by, asks-by, settled}
 use Rattle.turns.proofs.Runs.{Looping, start, further, ended, piece-at, length-pieces}
@@ -46,17 +45,10 @@ named : (c : tie.After-parts-said Inv-loop μ-loop) → Numbers (c .parts-said .
 named c =
     subst Numbers (sym (c .parts-said .ensures)) (said-numbers (c .before .decode .result) (said (c .before)))
 
--- the record that the code reads is that of the piece's object
-read-object : (c : tie.After-parts-said Inv-loop μ-loop)
-    → getD (c .before .before .before .before .before .loop .n .objects) (c .parts-said .result .object) blank ≡ object (c .before .before .before .before .before .loop .n) (c .parts-said .result .object)
-read-object c =
-    any-default (c .before .before .before .before .before .loop .n .objects) (c .parts-said .result .object) blank noObject
-    (omega (arith, named c .object, c .before .before .before .before .before .loop .inv .objects-length))
-
 turn : (c : tie.After-decide Inv-loop μ-loop)
     → Turned (c .before .before .before .before .before .before .before .before .decode .result) (c .before .before .before .before .before .before .before .before .before .before .before .before .loop .n) (c .before .before .before .before .before .before .before .parts-said .result)
     (getD (c .before .before .before .before .before .before .before .before .before .before .before .before .loop .n .objects) (c .before .before .before .before .before .before .before .parts-said .result .object) blank) (c .decide .result)
-turn c = turned-by _ _ _ _ _ (said (c .before .before .before .before .before .before .before .before)) (c .before .before .before .before .before .before .before .parts-said .ensures) (read-object (c .before .before .before .before .before .before .before)) (c .decide .ensures)
+turn c = turned-by _ _ _ _ _ (said (c .before .before .before .before .before .before .before .before)) (c .before .before .before .before .before .before .before .parts-said .ensures) (read-object (c .before .before .before .before .before .before .before .before .before .before .before .before .loop .n .objects) (c .before .before .before .before .before .before .before .parts-said .result .object) (c .before .before .before .before .before .before .before .before .before .before .before .before .loop .inv .objects-length) (named (c .before .before .before .before .before .before .before) .object)) (c .decide .ensures)
 
 -- a turn answers its piece: refused by the verdict, with more to ask of the whole state, or without
 answered : (c : tie.Joined1 Inv-loop μ-loop)

@@ -1,0 +1,104 @@
+-- The parts of `distinguish` as the code computes them: from two records and not from two states.
+-- Assumes nothing.
+use Prim.Native.Nat.{ℕ, zero, suc}
+use mathlib.Core.Bool.{Bool, true, false, cond, not}
+use mathlib.Core.List.{List, [], _∷_}
+use lib.Dec.{eqb}
+use lib.ListN.{getD}
+use Rattle.model.specs.declared.Level.{Level}
+use Rattle.model.specs.declared.Label.{Label}
+use Rattle.model.specs.declared.Label.the-variants.{Absent, Present}
+use Rattle.model.specs.declared.Subject.{Subject}
+use Rattle.model.specs.declared.Object.{Object}
+use Rattle.model.specs.declared.Mode.{Mode}
+use Rattle.model.specs.declared.Mode.the-variants.{Read}
+use Rattle.model.specs.declared.Request.{Request}
+use Rattle.model.specs.declared.Request.the-variants.{Get, Release, Delete, ChangeLevel}
+use Rattle.model.specs.Levels.{dominates, present, sameLabel}
+use Rattle.model.specs.Modes.{has}
+use Rattle.model.specs.State.{subjectCount, objectCount, clearanceAt, objectAt}
+use Rattle.security.specs.Distinguish.{orElse, search, searchModes, when, differ}
+use Rattle.differences.specs.declared.sequence.Place.{Place}
+use Rattle.differences.specs.declared.sequence.Sequence.the-variants.{Reading}
+use Rattle.differences.specs.Sequences.{requestsOf}
+
+-- ---- objects
+
+-- object o is live in one record only
+unfoldable pub lifeApart : ℕ → Object → Object → List Request
+lifeApart o a b = when (differ (a .live) (b .live)) (Release (cond (a .live) (a .owner) (b .owner)) o Read)
+
+-- it has another owner
+unfoldable pub ownerApart : ℕ → Object → Object → List Request
+ownerApart o a b = when (not (eqb (a .owner) (b .owner))) (Delete (a .owner) o)
+
+-- it has another label; s is the owner
+unfoldable pub labelApart : ℕ → ℕ → Label → Label → List Request
+labelApart s o Absent Absent = []
+labelApart s o Absent (Present b) = ChangeLevel s o b ∷ []
+labelApart s o (Present a) b = when (not (sameLabel (Present a) b)) (ChangeLevel s o a)
+
+-- what asks of a held access, or of a right
+abbrev pub asked : Bool → ℕ → ℕ → Mode → Request
+asked true s o x = Release s o x
+asked false s o x = Get s o x
+
+-- the mode is in one of the sets of subject s only
+unfoldable pub modeApart : Bool → ℕ → ℕ → ℕ → ℕ → Mode → List Request
+modeApart held o s a b x = when (differ (has x a) (has x b)) (asked held s o x)
+
+-- the first such mode
+unfoldable pub setApart : Bool → ℕ → ℕ → ℕ → ℕ → List Request
+setApart held o s a b = searchModes (modeApart held o s a b)
+
+-- the first subject whose sets differ
+unfoldable pub rowApart : Bool → ℕ → List ℕ → List ℕ → List Request
+rowApart held o a b = search subjectCount (λ s. setApart held o s (getD a s 0) (getD b s 0))
+
+-- the first difference of two records
+unfoldable pub objectApart : ℕ → Object → Object → List Request
+objectApart o a b =
+    orElse (lifeApart o a b) (orElse (ownerApart o a b) (orElse (labelApart (a .owner) o (a .label) (b .label))
+    (orElse (rowApart false o (a .rights) (b .rights)) (rowApart true o (a .held) (b .held)))))
+
+-- the first object whose records differ
+unfoldable pub objectsApart : List Object → List Object → List Request
+objectsApart a b = search objectCount (λ o. objectApart o (objectAt a o) (objectAt b o))
+
+-- ---- subjects
+
+-- subject s is enrolled in one only
+unfoldable pub enrolmentApart : ℕ → Label → Label → List Request
+enrolmentApart s a b = when (differ (present a) (present b)) (Delete s 0)
+
+-- the first such subject
+unfoldable pub enrolmentsApart : List Subject → List Subject → List Request
+enrolmentsApart a b = search subjectCount (λ s. enrolmentApart s (clearanceAt a s) (clearanceAt b s))
+
+-- the last object below k that is not live, 0 where all are
+unfoldable pub freeOf : ℕ → List Object → ℕ
+freeOf zero l = 0
+freeOf (suc k) l = cond (objectAt l k .live) (freeOf k l) k
+
+-- where an object is created: in the last free place, or in that of object 0
+unfoldable pub freePlace : List Object → Place
+freePlace l =
+    record {
+      live = objectAt l (freeOf objectCount l) .live;
+      owner = objectAt l (freeOf objectCount l) .owner;
+      object = freeOf objectCount l;
+    }
+
+-- the level at which s reads; above: b dominates a, below: a dominates b
+unfoldable pub levelApart : Place → ℕ → Level → Level → Bool → Bool → List Request
+levelApart p s a b above below = cond above (cond below [] (requestsOf (Reading p s b))) (requestsOf (Reading p s a))
+
+-- two clearances of subject s
+unfoldable pub clearanceApart : Place → ℕ → Label → Label → List Request
+clearanceApart p s Absent b = []
+clearanceApart p s (Present a) Absent = []
+clearanceApart p s (Present a) (Present b) = levelApart p s a b (dominates (Present b) (Present a)) (dominates (Present a) (Present b))
+
+-- the first subject whose clearances differ
+unfoldable pub clearancesApart : Place → List Subject → List Subject → List Request
+clearancesApart p a b = search subjectCount (λ s. clearanceApart p s (clearanceAt a s) (clearanceAt b s))

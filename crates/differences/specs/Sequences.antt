@@ -1,0 +1,27 @@
+-- The requests of a sequence.
+-- Assumes nothing.
+use Prim.Native.Nat.{ℕ}
+use mathlib.Core.Bool.{Bool, true, false, cond}
+use mathlib.Core.List.{List, [], _∷_}
+use Rattle.model.specs.declared.Level.{Level}
+use Rattle.model.specs.declared.Mode.the-variants.{Read}
+use Rattle.model.specs.declared.Request.{Request}
+use Rattle.model.specs.declared.Request.the-variants.{Get, Create, Delete, ChangeLevel}
+use Rattle.differences.specs.declared.sequence.Sequence.{Sequence}
+use Rattle.differences.specs.declared.sequence.Sequence.the-variants.{Nothing, One, Reading}
+
+-- it has a request
+abbrev pub found : Sequence → Bool
+found Nothing = false
+found (One q) = true
+found (Reading p s l) = true
+
+-- subject s creates object o, labels it and asks to read it
+abbrev pub readingOf : ℕ → ℕ → Level → List Request
+readingOf s o l = Create s o false ∷ ChangeLevel s o l ∷ Get s o Read ∷ []
+
+-- the requests in their order; the owner of a live object makes room first
+abbrev pub requestsOf : Sequence → List Request
+requestsOf Nothing = []
+requestsOf (One q) = q ∷ []
+requestsOf (Reading p s l) = cond (p .live) (Delete (p .owner) (p .object) ∷ readingOf s (p .object) l) (readingOf s (p .object) l)

@@ -1,0 +1,56 @@
+// A sequence of requests that two states answer differently, as a value: no request, one, or those that end in a reading.
+ghost use mathlib.Core.Path.{_≡_};
+ghost use Rattle.security.specs.Distinguish.{orElse, when, differ};
+ghost use Rattle.differences.specs.Sequences.{found, requestsOf};
+use model::Level;
+use model::Request;
+
+// Where an object is to be created: its number, and whether one is live there, whose owner deletes it first.
+pub struct Place {
+    pub live: bool,
+    pub owner: u8,
+    pub object: u8,
+}
+
+// Reading: the subject creates an object at the place, gives it the level and asks to read it.
+pub enum Sequence {
+    Nothing,
+    One(Request),
+    Reading(Place, u8, Level),
+}
+
+// The sequence has a request.
+pub fn is_found(q: Sequence) -> bool
+    ensures { λ r. ⌜ r ≡ found q ⌝ }
+{
+    match q {
+        Sequence::Nothing => false,
+        Sequence::One(_) => true,
+        Sequence::Reading(_, _, _) => true,
+    }
+}
+
+// The first that has a request.
+pub fn or_else(a: Sequence, b: Sequence) -> Sequence
+    ensures { λ r. ⌜ requestsOf r ≡ orElse (requestsOf a) (requestsOf b) ⌝ }
+{
+    if is_found(a) { a } else { b }
+}
+
+// The request, where the test passes.
+pub fn when(test: bool, q: Request) -> Sequence
+    ensures { λ r. ⌜ requestsOf r ≡ when test q ⌝ }
+{
+    if test {
+        Sequence::One(q)
+    } else {
+        Sequence::Nothing
+    }
+}
+
+// The two tests differ.
+pub fn differ(a: bool, b: bool) -> bool
+    ensures { λ r. ⌜ r ≡ differ a b ⌝ }
+{
+    (a & !b) | (!a & b)
+}

@@ -1,0 +1,118 @@
+// The clearances of the subjects in two states: who is enrolled, and a level that one clearance dominates and the other does not.
+ghost use mathlib.Core.Path.{_≡_};
+ghost use mathlib.Core.Bool.{cond};
+ghost use Rattle.differences.specs.Sequences.{requestsOf};
+ghost use Rattle.differences.specs.Records.{enrolmentApart, enrolmentsApart, freePlace, levelApart, clearanceApart, clearancesApart};
+use crate::sequence::Place;
+use crate::sequence::Sequence;
+use crate::sequence::differ;
+use crate::sequence::is_found;
+use crate::sequence::when;
+use labels::dominates;
+use labels::is_present;
+use model::Label;
+use model::Level;
+use model::Monitor;
+use model::Object;
+use model::Request;
+use model::Subject;
+
+// Enrolled in one only: any request by that subject, 3 or not.
+fn enrolment_apart(s: u8, a: Label, b: Label) -> Sequence
+    ensures { λ r. ⌜ requestsOf r ≡ enrolmentApart s a b ⌝ }
+{
+    when(differ(is_present(a), is_present(b)), Request::Delete(s, 0))
+}
+
+// The first subject that is enrolled in one only.
+pub fn enrolments_apart(a: [Subject; 16], b: [Subject; 16]) -> Sequence
+    ensures { λ r. ⌜ requestsOf r ≡ enrolmentsApart a b ⌝ }
+{
+    let mut s: usize = 0;
+    while s < Monitor::SUBJECTS {
+        let one = a[s];
+        let two = b[s];
+        let clearance = one.clearance;
+        let other = two.clearance;
+        let q = enrolment_apart(s as u8, clearance, other);
+        if is_found(q) {
+            return q;
+        }
+        s += 1;
+    }
+    Sequence::Nothing
+}
+
+// The last free object, one object further on.
+fn last_free(live: bool, free: usize, o: usize) -> usize
+    ensures { λ r. ⌜ r ≡ cond live free o ⌝ }
+{
+    if live { free } else { o }
+}
+
+// The last object that is not live; where all are, object 0, which its owner can delete.
+pub fn free_place(objects: [Object; 64]) -> Place
+    ensures { λ r. ⌜ r ≡ freePlace objects ⌝ }
+{
+    let mut free: usize = 0;
+    let mut o: usize = 0;
+    while o < Monitor::OBJECTS {
+        let ob = objects[o];
+        free = last_free(ob.live, free, o);
+        o += 1;
+    }
+    let there = objects[free];
+    Place {
+        live: there.live,
+        owner: there.owner,
+        object: free as u8,
+    }
+}
+
+// A level that the other clearance does not dominate, if there is one. above: b dominates a; below: a dominates b.
+fn level_apart(p: Place, s: u8, a: Level, b: Level, above: bool, below: bool) -> Sequence
+    ensures { λ r. ⌜ requestsOf r ≡ levelApart p s a b above below ⌝ }
+{
+    if !above {
+        return Sequence::Reading(p, s, a);
+    }
+    if below {
+        Sequence::Nothing
+    } else {
+        Sequence::Reading(p, s, b)
+    }
+}
+
+// Another clearance: s reads at a level that one of the two does not dominate, 8 or not.
+fn clearance_apart(p: Place, s: u8, a: Label, b: Label) -> Sequence
+    ensures { λ r. ⌜ requestsOf r ≡ clearanceApart p s a b ⌝ }
+{
+    let above = dominates(b, a);
+    let below = dominates(a, b);
+    match a {
+        Label::Absent => Sequence::Nothing,
+        Label::Present(x) => match b {
+            Label::Absent => Sequence::Nothing,
+            Label::Present(y) => level_apart(p, s, x, y, above, below),
+        },
+    }
+}
+
+// The first subject whose clearances differ.
+pub fn clearances_apart(p: Place, a: [Subject; 16], b: [Subject; 16]) -> Sequence
+    ensures { λ r. ⌜ requestsOf r ≡ clearancesApart p a b ⌝ }
+{
+    let mut s: usize = 0;
+    while s < Monitor::SUBJECTS {
+        let one = a[s];
+        let two = b[s];
+        let clearance = one.clearance;
+        let other = two.clearance;
+        let q = clearance_apart(p, s as u8, clearance, other);
+        if is_found(q) {
+            return q;
+        }
+        s += 1;
+    }
+    Sequence::Nothing
+}
