@@ -1,8 +1,10 @@
-//! What the tests share: both monitors on one run.
+//! What the tests share: both monitors on one run, and a program with bytes on its standard input.
 
 use circmon::Unit;
 use load::{Random, Shape};
 use reference::{Monitor, IMAGE_BYTES, TABLE_BYTES};
+use std::io::Write;
+use std::process::{Command, Output, Stdio};
 
 /// The image of a state of the second implementation.
 pub fn image(monitor: &Monitor) -> Vec<u8> {
@@ -60,6 +62,21 @@ pub fn compare_run(seed: u64, shape: Shape, requests: usize, every: usize, count
         }
     }
     round_trip(seed, &monitor, &unit);
+}
+
+/// What a program prints with these bytes on its standard input.
+pub fn fed(program: &mut Command, input: &[u8]) -> Output {
+    let piped = program.stdin(Stdio::piped()).stdout(Stdio::piped()).stderr(Stdio::piped());
+    let mut child = piped.spawn().unwrap_or_else(|error| panic!("{program:?}: {error}"));
+    let mut stdin = child.stdin.take().expect("piped");
+    let bytes = input.to_vec();
+    // a program that reads no more closes its standard input, so the write may fail
+    let writer = std::thread::spawn(move || {
+        let _ = stdin.write_all(&bytes);
+    });
+    let output = child.wait_with_output().expect("the program was started");
+    writer.join().expect("the writer does not panic");
+    output
 }
 
 /// The image of a run is read by both and written back byte for byte.

@@ -2,10 +2,9 @@
 
 use load::Random;
 use reference::{program, MOST_REQUESTS};
-use sidebyside::SHAPES;
-use std::io::Write;
+use sidebyside::{fed, SHAPES};
 use std::path::{Path, PathBuf};
-use std::process::{Command, Stdio};
+use std::process::Command;
 
 fn root() -> PathBuf {
     Path::new(env!("CARGO_MANIFEST_DIR")).join("../..").canonicalize().unwrap()
@@ -42,19 +41,8 @@ fn a_c_program_over_the_header() {
 
 /// What `circmon` itself prints.
 fn circmon(input: &[u8]) -> String {
-    let mut child = Command::new(root().join("target/bin/circmon"))
-        .stdin(Stdio::piped())
-        .stdout(Stdio::piped())
-        .spawn()
-        .expect("target/bin/circmon, which `rt check` builds");
-    let mut stdin = child.stdin.take().unwrap();
-    let bytes = input.to_vec();
-    // the program stops reading after 4,096 requests, so a longer write may fail
-    let writer = std::thread::spawn(move || {
-        let _ = stdin.write_all(&bytes);
-    });
-    let output = child.wait_with_output().unwrap();
-    writer.join().unwrap();
+    // `rt check` builds it
+    let output = fed(&mut Command::new(root().join("target/bin/circmon")), input);
     String::from_utf8(output.stdout).unwrap()
 }
 

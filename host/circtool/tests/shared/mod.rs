@@ -5,9 +5,9 @@ pub mod lists;
 
 use load::{Random, Shape};
 use reference::Monitor;
-use std::io::Write;
+use sidebyside::fed;
 use std::path::{Path, PathBuf};
-use std::process::{Command, Output, Stdio};
+use std::process::{Command, Output};
 
 pub fn root() -> PathBuf {
     Path::new(env!("CARGO_MANIFEST_DIR")).join("../..").canonicalize().unwrap()
@@ -53,23 +53,7 @@ pub fn run(seed: u64, shape: Shape, length: usize) -> Run {
 
 /// The command with these words, with bytes on its standard input.
 pub fn circtool(words: &[&str], input: &[u8]) -> Output {
-    let mut child = Command::new(env!("CARGO_BIN_EXE_circtool"))
-        .args(words)
-        .current_dir(root())
-        .stdin(Stdio::piped())
-        .stdout(Stdio::piped())
-        .stderr(Stdio::piped())
-        .spawn()
-        .unwrap();
-    let mut stdin = child.stdin.take().unwrap();
-    let bytes = input.to_vec();
-    // a call that reads no standard input closes it, so the write may fail
-    let writer = std::thread::spawn(move || {
-        let _ = stdin.write_all(&bytes);
-    });
-    let output = child.wait_with_output().unwrap();
-    writer.join().unwrap();
-    output
+    fed(Command::new(env!("CARGO_BIN_EXE_circtool")).args(words).current_dir(root()), input)
 }
 
 pub fn out(output: &Output) -> String {
