@@ -56,7 +56,7 @@ fn images_damaged_in_random_ways() {
         let mut bytes = image(&load::rich(seed, 1 + random.below(64), 300));
         for _ in 0..1 + random.below(4) {
             let at = random.below(bytes.len());
-            bytes[at] = if random.once_in(2) { random.next() as u8 } else { 0 };
+            bytes[at] = if random.once_in(2) { random.number() as u8 } else { 0 };
         }
         let what = format!("seed {seed}");
         let number = circmon::read(&bytes);

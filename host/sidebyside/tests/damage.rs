@@ -48,7 +48,7 @@ fn images_damaged_in_random_ways() {
         for _ in 0..1 + random.below(4) {
             let at = random.below(bytes.len());
             match random.below(3) {
-                0 => bytes[at] = random.next() as u8,
+                0 => bytes[at] = random.number() as u8,
                 1 => bytes[at] = 0,
                 _ => {
                     let end = (at + random.below(40)).min(bytes.len());
