@@ -4,11 +4,11 @@ ghost use Prim.Native.Nat.{_*_, _/_, _%_, _^_, _<_, min};
 ghost use lib.ListN.{set};
 ghost use Rattle.bits.specs.Bits.{field, joined, waiting, stored};
 
-// The lesser of a and most: a greater width counts as the greatest that is read or written at once.
-fn at_most(a: usize, most: usize) -> usize
-    ensures { λ r. ⌜ r ≡ min a most ⌝ }
+// The lesser of two numbers; here a greater width counts as the greatest that is read or written at once.
+pub fn smaller(a: usize, b: usize) -> usize
+    ensures { λ r. ⌜ r ≡ min a b ⌝ }
 {
-    if a < most { a } else { most }
+    if a < b { a } else { b }
 }
 
 // The byte at index i, 0 past the end, so that a window may reach over the end.
@@ -38,7 +38,7 @@ fn three_bytes(s: &[u8], at: usize) -> u32
 pub fn read_field(s: &[u8], at: usize, width: usize) -> u32
     ensures { λ r. ⌜ (r ≡ field (now (s .entry)) at (min width 16)) × (r < 2 ^ min width 16) ⌝ }
 {
-    let w = at_most(width, 16);
+    let w = smaller(width, 16);
     (three_bytes(s, at) >> (24 - at % 8 - w)) & ((1 << w) - 1)
 }
 
@@ -62,7 +62,7 @@ pub fn read_word(s: &[u8]) -> u64
 fn join_bits(acc: u32, width: usize, x: u32) -> u32
     ensures { λ r. ⌜ r ≡ joined acc (min width 8) x ⌝ }
 {
-    let w = at_most(width, 8);
+    let w = smaller(width, 8);
     ((acc & 255) << w) | (x & ((1 << w) - 1))
 }
 
@@ -80,7 +80,7 @@ pub fn append(out: &mut [u8], at: usize, acc: u32, width: usize, x: u32) -> u32
     ensures { λ r. ⌜ (r ≡ waiting acc (min width 8) x) × (now (out .exit) ≡ stored (now (out .entry)) at acc (min width 8) x) ⌝ }
 {
     let v = join_bits(acc, width, x);
-    let n = at % 8 + at_most(width, 8);
+    let n = at % 8 + smaller(width, 8);
     if 8 <= n {
         store_byte(out, at / 8, v >> (n - 8));
     }

@@ -1,20 +1,25 @@
 // The requests on which two states reply differently, found and written one behind the other.
-mod packing;
-
 ghost use mathlib.Core.Path.{_≡_};
+ghost use Prim.Native.Nat.{_+_, _≤_};
+ghost use lib.ListN.{length};
+ghost use lib.Seq.{sets};
+ghost use Rattle.model.specs.Requests.{encode};
 ghost use Rattle.security.specs.Distinguish.{distinguish};
-ghost use Rattle.differences.specs.Sequences.{requestsOf};
-ghost use Rattle.distinguish.specs.Telling.{toldNumber, toldBytes};
-use crate::packing::write_sequence;
+ghost use Rattle.differences.specs.Sequences.{readingOf, requestsOf};
+ghost use Rattle.distinguish.specs.Telling.{bytesOf, toldNumber, toldBytes};
 use differences::Sequence;
 use differences::clearances_apart;
 use differences::enrolments_apart;
 use differences::free_place;
 use differences::is_found;
 use differences::objects_apart;
+use encoding::encode;
 use labels::number;
 use model::Decision;
+use model::Level;
+use model::Mode;
 use model::Monitor;
+use model::Request;
 
 // The room for four requests.
 const ROOM: usize = 24;
@@ -37,6 +42,55 @@ fn sequence_of(m: Monitor, n: Monitor) -> Sequence
     }
     let place = free_place(objects);
     clearances_apart(place, subjects, other_subjects)
+}
+
+// ---- the requests, written one behind the other
+
+// The six bytes of the request from at on.
+fn write_request(out: &mut [u8], at: usize, q: Request)
+    requires { ⌜ at + 6 ≤ length (now out) ⌝ }
+    ensures { λ _. ⌜ now (out .exit) ≡ sets (now (out .entry)) at (encode q) ⌝ }
+{
+    let bytes = encode(q);
+    out[at] = bytes[0];
+    out[at + 1] = bytes[1];
+    out[at + 2] = bytes[2];
+    out[at + 3] = bytes[3];
+    out[at + 4] = bytes[4];
+    out[at + 5] = bytes[5];
+}
+
+// Create, change of level and get.
+fn write_reading(out: &mut [u8], at: usize, s: u8, o: u8, l: Level)
+    requires { ⌜ at + 18 ≤ length (now out) ⌝ }
+    ensures { λ _. ⌜ now (out .exit) ≡ sets (now (out .entry)) at (bytesOf (readingOf s o l)) ⌝ }
+{
+    write_request(out, at, Request::Create(s, o, false));
+    write_request(out, at + 6, Request::ChangeLevel(s, o, l));
+    write_request(out, at + 12, Request::Get(s, o, Mode::Read));
+}
+
+// The requests of the sequence from the first byte on; returns how many there are.
+fn write_sequence(out: &mut [u8], q: Sequence) -> u8
+    requires { ⌜ 24 ≤ length (now out) ⌝ }
+    ensures { λ r. ⌜ (r ≡ length (requestsOf q)) × (now (out .exit) ≡ sets (now (out .entry)) 0 (bytesOf (requestsOf q))) ⌝ }
+{
+    match q {
+        Sequence::Nothing => 0,
+        Sequence::One(only) => {
+            write_request(out, 0, only);
+            1
+        }
+        Sequence::Reading(p, s, l) => {
+            if p.live {
+                write_request(out, 0, Request::Delete(p.owner, p.object));
+                write_reading(out, 6, s, p.object, l);
+                return 4;
+            }
+            write_reading(out, 0, s, p.object, l);
+            3
+        }
+    }
 }
 
 // The number of requests, which are in the first bytes of out, six for each; 13 where out has no room for four.

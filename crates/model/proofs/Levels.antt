@@ -5,7 +5,7 @@ use native.Mathlib.Numerals.{one-add}
 use native.Mathlib.Omega.{arith}
 use mathlib.Core.Path.{_≡_, refl, sym, ap, _∙_, subst}
 use mathlib.Core.Logic.{_↔_}
-use mathlib.Core.Bool.{true}
+use mathlib.Core.Bool.{true, false}
 use lib.Dec.{leb, eqb}
 use lib.Pow.{shr-shr}
 use borrow.Author.Tests.{le-leb, leb-true, eqb-true, eq-eqb}
@@ -13,7 +13,7 @@ use Rattle.bits.specs.Bits.{odd}
 use Rattle.model.specs.declared.Level.{Level}
 use Rattle.model.specs.declared.Label.{Label}
 use Rattle.model.specs.declared.Label.the-variants.{Absent, Present}
-use Rattle.model.specs.Levels.{need, LevelDominates, Dominates, subset, levelDominates, dominates, sameLabel}
+use Rattle.model.specs.Levels.{need, LevelDominates, Dominates, subset, levelDominates, dominates, present, sameLabel}
 use Rattle.model.specs.State.{LevelFits}
 use Rattle.model.proofs.Tests.{and-left, and-right, and-both, clash}
 
@@ -123,3 +123,8 @@ itself (Present a) = and-both (eq-eqb (a .class) (a .class) refl) (eq-eqb (a .ne
 
 pub label-same : (a b : Label) → a ≡ b → sameLabel a b ≡ true
 label-same a b e = subst (λ (c : Label). sameLabel a c ≡ true) e (itself a)
+
+-- what is not there is absent
+pub absent : (l : Label) → present l ≡ false → l ≡ Absent
+absent Absent e = refl
+absent (Present v) e = clash e

@@ -17,7 +17,7 @@ fn pick(b: bool, n: u8, x: u8) -> u8
     x * (1 - e) + n * e
 }
 
-// Every set of the row is written, one of them anew: a row that is changed in registers need not wait for a byte stored into it.
+// Every set of the row is written, one of them anew: that is quicker than storing one set and then reading the row as a whole.
 pub fn with_set(row: [u8; 16], s: u8, n: u8) -> [u8; 16]
     ensures { λ r. ⌜ r ≡ set row s n ⌝ }
 {

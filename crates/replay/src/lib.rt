@@ -7,6 +7,7 @@ ghost use Rattle.bits.specs.Bits.{join};
 ghost use Rattle.model.specs.Program.{line, program};
 ghost use Rattle.replay.specs.Lines.{put};
 ghost use Rattle.replay.specs.Replay.{replayAnswer, replayed};
+use bits::smaller;
 use image::read_table;
 use labels::number;
 use labels::refuses;
@@ -14,7 +15,6 @@ use model::Decision;
 use model::Monitor;
 use turns::piece_count;
 use turns::run;
-use turns::smaller;
 
 // One reply byte for each piece of six bytes, a short last one counted; a refusal leaves every byte of the buffer.
 pub fn replay(table: &[u8], requests: &[u8], out: &mut [u8]) -> Decision

@@ -26,6 +26,7 @@ use Rattle.model.specs.State.{noObject, clearance, enrolled, object, rightsOf, 
 use Rattle.model.specs.Properties.{Simple, Star, Permits}
 use Rattle.model.specs.Requests.{InRange}
 use Rattle.model.specs.Rules.{changed, afterwards, checks, owns, simpleAll, starAll}
+use Rattle.model.proofs.Levels.{absent}
 use Rattle.model.proofs.Tests.{set-all, apart, clash, and-left, and-right, and-false, implies-in, not-on, not-off}
 use Rattle.security.specs.First.{AnswersFirst}
 use Rattle.security.specs.Causes.{NotIn, requestOrder, RequestCause, LabelMissing}
@@ -35,10 +36,6 @@ use Rattle.security.proofs.Steps.{Sound}
 use Rattle.security.proofs.Gets.{simple-get-in, simple-get-out}
 
 -- ---- what each test says of its cause
-
-absent : (a : Label) → present a ≡ false → a ≡ Absent
-absent Absent e = refl
-absent (Present l) e = clash e
 
 not-absent : (a : Label) → present a ≡ true → a ≡ Absent → ⊥
 not-absent a e w = apart e (ap present w)

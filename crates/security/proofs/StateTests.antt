@@ -7,8 +7,6 @@ use mathlib.Core.Bool.{true, false, _&&_, _||_}
 use mathlib.Core.List.{List}
 use lib.Dec.{eqb}
 use borrow.Author.Tests.{eq-eqb, eqb-true}
-use Rattle.model.specs.declared.Label.{Label}
-use Rattle.model.specs.declared.Label.the-variants.{Absent, Present}
 use Rattle.model.specs.declared.Subject.{Subject}
 use Rattle.model.specs.declared.Object.{Object}
 use Rattle.model.specs.declared.Monitor.{Monitor}
@@ -20,7 +18,8 @@ use Rattle.model.specs.State.{noObject, clearanceAt, clearance, enrolled, objec
 use Rattle.model.specs.Properties.{Discretionary, Labelled, Simple, Star}
 use Rattle.model.specs.Rules.{simpleAll, starAll}
 use Rattle.model.specs.Reading.{onlyEnrolled, withinMatrix, heldLabelled}
-use Rattle.model.proofs.Tests.{split, apart, clash, and-left, and-right, and-both, and-false, or-cases, or-left, or-right, or-false, implies-in, implies-out, implies-false, below-in, below-out, below-false, all-in, all-out, all-false, row-all}
+use Rattle.model.proofs.Levels.{absent}
+use Rattle.model.proofs.Tests.{split, apart, and-left, and-right, and-both, and-false, or-cases, or-left, or-right, or-false, implies-in, implies-out, implies-false, below-in, below-out, below-false, all-in, all-out, all-false, row-all}
 use Rattle.model.proofs.Modes.{subset-in, subset-out, any-needs-label, needs-label-some}
 use Rattle.security.specs.Causes.{AbsentActs}
 use Rattle.security.proofs.Form.{no-modes, no-object-formed}
@@ -60,10 +59,6 @@ module _ (l : List Subject) where
       (below-in 16 (λ (s : ℕ). present (clearanceAt l s) || (eqb (rightsOf ob s) 0 && eqb (heldBy ob s) 0))
       (λ s h. split (present (clearanceAt l s)) (λ e. or-left (present (clearanceAt l s)) _ e)
       (λ e. or-right (present (clearanceAt l s)) _ (and-both (eq-eqb (rightsOf ob s) 0 (F .absent-rights s e)) (eq-eqb (heldBy ob s) 0 (F .absent-held s e))))))
-
-absent : (a : Label) → present a ≡ false → a ≡ Absent
-absent Absent e = refl
-absent (Present l) e = clash e
 
 not-zero : (n : ℕ) → eqb n 0 ≡ false → n ≢ 0
 not-zero n e w = apart (eq-eqb n 0 w) e

@@ -1,11 +1,11 @@
 // The star property over all objects, and the simple property over all subjects.
 ghost use mathlib.Core.Path.{_≡_};
 ghost use mathlib.Core.Bool.{not};
-ghost use Prim.Native.Nat.{min};
 ghost use Rattle.bits.specs.Bits.{bit};
 ghost use Rattle.model.specs.Rules.{simpleAll};
 ghost use Rattle.star.specs.Between.{starBetween};
 ghost use Rattle.star.specs.Idle.{nothingHeld, idle};
+use bits::smaller;
 use labels::any_alters;
 use labels::any_needs_label;
 use labels::any_observes;
@@ -19,12 +19,6 @@ fn one_if(b: bool) -> usize
     ensures { λ r. ⌜ r ≡ bit b ⌝ }
 {
     if b { 1 } else { 0 }
-}
-
-fn smaller(a: usize, b: usize) -> usize
-    ensures { λ r. ⌜ r ≡ min a b ⌝ }
-{
-    if a < b { a } else { b }
 }
 
 // Nobody holds r, w or a in the row. Every set is looked at, without a branch: sixteen at once are quicker than up to the first.

@@ -1,10 +1,10 @@
 // A list of requests on one monitor, which stays in one local: a turn stores the record of one object.
 ghost use mathlib.Core.Path.{_≡_};
 ghost use mathlib.Core.List.{_++_};
-ghost use Prim.Native.Nat.{min};
 ghost use lib.ListN.{length, drop};
 ghost use Rattle.model.specs.Runs.{after, replies};
 ghost use Rattle.turns.specs.Turns.{pieceCount, turns};
+use bits::smaller;
 use decoding::decode;
 use labels::number;
 use labels::refuses;
@@ -17,12 +17,6 @@ use rules::parts_said;
 use rules::record_of;
 use rules::simple_where;
 use star::star_broken;
-
-pub fn smaller(a: usize, b: usize) -> usize
-    ensures { λ r. ⌜ r ≡ min a b ⌝ }
-{
-    if a < b { a } else { b }
-}
 
 // How many pieces of six bytes there are, a last short one counted.
 pub fn piece_count(bytes: usize) -> usize

@@ -15,8 +15,8 @@ use Rattle.bits.proofs.append.Tie as tie
 join-bits-requires : tie.Need-join-bits-requires
 join-bits-requires c κs = search needs
 
-at-most-requires : tie.Need-at-most-requires
-at-most-requires c κs = search needs
+smaller-requires : tie.Need-smaller-requires
+smaller-requires c κs = search needs
 
 add-n : tie.Need-add-n
 add-n c = search needs
@@ -36,7 +36,7 @@ returns c =
     let a = c .before .before .before .before .args in
     let w = min (a .width) 8 in
     let v = c .before .before .join-bits in
-    let n = c .before .at-most .ensures in (
+    let n = c .before .smaller .ensures in (
       rw (byte-of (v .result), v .ensures),
       ⊎-elim
           (λ t. t .5 ∙ t .2 .ensures ∙ rw (v .ensures, n) (sym (stored-full (a .out .now) (a .at) (a .acc) w (a .x) (omega (arith, t .0 .taken)))))
@@ -54,7 +54,7 @@ append-spec =
     tie.close
     (tie.spec
     join-bits-requires
-    at-most-requires
+    smaller-requires
     add-n
     cast-store-byte
     shr-store-byte

@@ -8,8 +8,8 @@ use Rattle.bits.proofs.Machine.{mask-safe, field-out}
 use Rattle.bits.proofs.read_field.Statement.{statement}
 use Rattle.bits.proofs.read_field.Tie as tie
 
-at-most-requires : tie.Need-at-most-requires
-at-most-requires c κs = search needs
+smaller-requires : tie.Need-smaller-requires
+smaller-requires c κs = search needs
 
 three-bytes-requires : tie.Need-three-bytes-requires
 three-bytes-requires c κs = search needs
@@ -33,20 +33,20 @@ shl-result : tie.Need-shl-result
 shl-result c = search needs
 
 sub-result-3 : tie.Need-sub-result-3
-sub-result-3 c = mask-safe (c .before .at-most .result) (omega arith)
+sub-result-3 c = mask-safe (c .before .smaller .result) (omega arith)
 
 returns : tie.Need-returns
 returns c =
     let a = c .before .before .before .args in
     let w = min (a .width) 16 in
     let e = field-out (a .s .now) 24 (a .at) w (omega arith) (omega arith) in
-    rw (c .before .at-most .ensures, c .three-bytes .ensures) (e, rw e (field-lt (a .s .now) (a .at) w))
+    rw (c .before .smaller .ensures, c .three-bytes .ensures) (e, rw e (field-lt (a .s .now) (a .at) w))
 
 pub read-field-spec : {M : Type 1} → statement M
 read-field-spec =
     tie.close
     (tie.spec
-    at-most-requires
+    smaller-requires
     three-bytes-requires
     sub-result
     sub-result-2

@@ -16,7 +16,7 @@ use Rattle.replay.proofs.put_line.Reads as put-line-reads
 use Rattle.replay.proofs.put_lines.Reads as put-lines-reads
 use Rattle.turns.proofs.piece_count.Reads as piece-count-reads
 use Rattle.turns.proofs.run.Reads as run-reads
-use Rattle.turns.proofs.smaller.Reads as smaller-reads
+use Rattle.bits.proofs.smaller.Reads as smaller-reads
 
 smaller-requires : tie.Need-smaller-requires
 smaller-requires c κs = search needs

@@ -1,21 +1,16 @@
 -- `writing::is_none` meets its contract.
 -- Assumes nothing.
-use mathlib.Core.Path.{_≡_, refl, sym, _∙_}
+use mathlib.Core.Path.{_≡_, sym, _∙_}
 use mathlib.Core.Bool.{false, not}
 use lib.Dec.{eqb}
 use borrow.Author.Needs.{needs}
 use borrow.Author.Tests.{eqb-true}
-use Rattle.model.specs.declared.Label.{Label}
-use Rattle.model.specs.declared.Label.the-variants.{Absent, Present}
-use Rattle.model.specs.Levels.{present}
+use Rattle.model.specs.declared.Label.the-variants.{Absent}
 use Rattle.model.specs.State.{noModes}
-use Rattle.model.proofs.Tests.{clash, and-left, and-right, not-on}
+use Rattle.model.proofs.Levels.{absent}
+use Rattle.model.proofs.Tests.{and-left, and-right, not-on}
 use Rattle.writing.proofs.is_none.Statement.{statement}
 use Rattle.writing.proofs.is_none.Tie as tie
-
-absent : (l : Label) → present l ≡ false → l ≡ Absent
-absent Absent e = refl
-absent (Present v) e = clash e
 
 is-empty-requires : tie.Need-is-empty-requires
 is-empty-requires c κs = search needs

@@ -4,8 +4,8 @@ use native.Mathlib.Omega.{arith}
 use lib.ListN.{length-set}
 use Rattle.distinguish.proofs.Storing.{stored-request}
 use borrow.Author.Needs.{needs}
-use Rattle.distinguish.proofs.packing.write_request.Statement.{statement}
-use Rattle.distinguish.proofs.packing.write_request.Tie as tie
+use Rattle.distinguish.proofs.write_request.Statement.{statement}
+use Rattle.distinguish.proofs.write_request.Tie as tie
 
 encode-requires : tie.Need-encode-requires
 encode-requires c κs = search needs

@@ -4,8 +4,8 @@ use mathlib.Core.Path.{refl}
 use native.Mathlib.Omega.{arith}
 use Rattle.distinguish.proofs.Storing.{stored-next, stored-last}
 use borrow.Author.Needs.{needs}
-use Rattle.distinguish.proofs.packing.write_reading.Statement.{statement}
-use Rattle.distinguish.proofs.packing.write_reading.Tie as tie
+use Rattle.distinguish.proofs.write_reading.Statement.{statement}
+use Rattle.distinguish.proofs.write_reading.Tie as tie
 
 write-request-requires : tie.Need-write-request-requires
 write-request-requires c κs = search needs

@@ -5,8 +5,8 @@ use Rattle.bits.specs.Bits.{join}
 use Rattle.distinguish.specs.Telling.{bytesOf}
 use Rattle.distinguish.proofs.Storing.{stored-next, stored-last}
 use borrow.Author.Needs.{needs}
-use Rattle.distinguish.proofs.packing.write_sequence.Statement.{statement}
-use Rattle.distinguish.proofs.packing.write_sequence.Tie as tie
+use Rattle.distinguish.proofs.write_sequence.Statement.{statement}
+use Rattle.distinguish.proofs.write_sequence.Tie as tie
 
 enum-told : tie.Need-enum-told
 enum-told c = search needs
