@@ -1,7 +1,8 @@
 /* circmon: a Bell-LaPadula reference monitor. Link with libcapi.a, which `rt staticlib capi` writes to target/staticlib.
  *
- * Each function is proved to meet its contract for every pointer that comes with the length of what it points to. Two
- * buffers of one call must not overlap. No function keeps a pointer, allocates, or has a state of its own.
+ * Each function is proved to meet its contract for every pointer that comes with the length of what it points to. A
+ * buffer that a call may write must not overlap another one of that call; two that it only reads may be the same. No
+ * function keeps a pointer, allocates, or has a state of its own.
  *
  * Numbers: 0 granted and changed, or accepted, or written; 1 granted and so already; 2 malformed; 3 not enrolled;
  * 4 object not live; 5 create on a live object; 6 right or ownership missing; 7 no label; 8 the simple property would
