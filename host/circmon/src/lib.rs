@@ -36,7 +36,7 @@ mod raw {
 /// The image of a monitor begun from the table, into the first 1,274 bytes of the buffer: 0, or 10, 11 or 13 and every
 /// byte left.
 pub fn begin(table: &[u8], image: &mut [u8]) -> u8 {
-    // Safety: each pointer comes with the length of its slice, and the slices do not overlap.
+    // Safety: each pointer comes with the length of its slice, and no slice overlaps the one that is written.
     unsafe { raw::circmon_begin(table.as_ptr(), table.len(), image.as_mut_ptr(), image.len()) }
 }
 
@@ -49,14 +49,14 @@ pub fn read(image: &[u8]) -> u8 {
 /// Carries out the request on the state in the buffer, which is exactly an image, and writes the state after it in
 /// place: the reply, or 128 + n and every byte left where the image is refused with n.
 pub fn request(image: &mut [u8], request: &[u8]) -> u8 {
-    // Safety: each pointer comes with the length of its slice, and the slices do not overlap.
+    // Safety: each pointer comes with the length of its slice, and no slice overlaps the one that is written.
     unsafe { raw::circmon_request(image.as_mut_ptr(), image.len(), request.as_ptr(), request.len()) }
 }
 
 /// One reply byte for each piece of six bytes, a short last one counted, from a monitor begun from the table: 0; or 10,
 /// 11, or 13 where there is no room for a reply to each piece, and every byte left.
 pub fn replay(table: &[u8], requests: &[u8], replies: &mut [u8]) -> u8 {
-    // Safety: each pointer comes with the length of its slice, and the slices do not overlap.
+    // Safety: each pointer comes with the length of its slice, and no slice overlaps the one that is written.
     unsafe {
         raw::circmon_replay(
             table.as_ptr(),
@@ -73,7 +73,7 @@ pub fn replay(table: &[u8], requests: &[u8], replies: &mut [u8]) -> u8 {
 /// number, 0 where the images are equal and 1 to 4 where they differ, and any later byte left. Or 128 + n where the image a
 /// is refused with n, then 192 + n where the image b is, then 13 where the buffer has under 24 bytes, and every byte left.
 pub fn distinguish(a: &[u8], b: &[u8], requests: &mut [u8]) -> u8 {
-    // Safety: each pointer comes with the length of its slice, and no slice overlaps the buffer.
+    // Safety: each pointer comes with the length of its slice, and no slice overlaps the one that is written.
     unsafe {
         raw::circmon_distinguish(a.as_ptr(), a.len(), b.as_ptr(), b.len(), requests.as_mut_ptr(), requests.len())
     }
