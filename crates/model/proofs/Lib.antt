@@ -7,4 +7,7 @@ pub mod Packing
 pub mod Requests
 pub mod Records
 pub mod Examples
+pub mod RuleExamples
+pub mod ByteExamples
+pub mod StateExamples
 pub mod Arrays

@@ -1,0 +1,89 @@
+-- Bytes worked out by hand from the scope's widths: requests in which every field has another number, and one object record.
+-- Assumes nothing.
+use Prim.Native.Nat.{ℕ}
+use mathlib.Core.Path.{_≡_, refl}
+use mathlib.Core.Bool.{true, false}
+use mathlib.Core.List.{List, [], _∷_, map}
+use lib.ListN.{take}
+use Rattle.bits.specs.Bits.{odd, toBits, fromBits, bytesToBits, bitsToBytes, field, cut, allZero}
+use Rattle.model.specs.declared.Level.{Level}
+use Rattle.model.specs.declared.Label.the-variants.{Present}
+use Rattle.model.specs.declared.Object.{Object}
+use Rattle.model.specs.declared.Mode.the-variants.{Read, Write, Append, Execute}
+use Rattle.model.specs.declared.Request.{Request}
+use Rattle.model.specs.declared.Request.the-variants.{Get, Release, Give, Rescind, Create, Delete, ChangeLevel}
+use Rattle.model.specs.declared.Decoded.{Decoded}
+use Rattle.model.specs.declared.Decoded.the-variants.{Malformed, Says}
+use Rattle.model.specs.Levels.{need}
+use Rattle.model.specs.Requests.{fields, modeAllowed, unusedZero, wellFormed, request, decodeFields, decode}
+use Rattle.model.specs.Layout.{objectWidth, labelBits, setsBits, objectBits}
+use Rattle.model.specs.Reading.{labelFrom, labelForm, objectFrom, objectForm}
+
+-- ---- requests
+
+-- "kind 4 bits, actor 5, other subject 5, object 7, mode 3, class 4, needs 16, spare 4":
+-- 1010 10101 01100 1001101 110 1001 1011001111000101 1110
+pub every-field : fields (0xAA ∷ 0xB2 ∷ 0x6E ∷ 0x9B ∷ 0x3C ∷ 0x5E ∷ [])
+    ≡ record { kind = 10; actor = 21; other = 12; object = 77; mode = 6; class = 9; needs = 0xB3C5; spare = 14 }
+unfolding fields field bytesToBits toBits odd fromBits
+every-field = refl
+
+abbrev level : ℕ → ℕ → Level
+level class needs = record { class = class; needs = needs }
+
+-- the seven kinds, 1 to 7, by subject 5, in give and rescind for subject 9, on object 42; "Modes: .. 1 r, 2 w, 3 a, 4 e"
+pub every-kind : map decode
+    ((0x12 ∷ 0x80 ∷ 0x01 ∷ 0x00 ∷ 0x00 ∷ 0x00 ∷ [])
+    ∷ (0x22 ∷ 0x81 ∷ 0x52 ∷ 0x00 ∷ 0x00 ∷ 0x00 ∷ [])
+    ∷ (0x32 ∷ 0xA5 ∷ 0x53 ∷ 0x00 ∷ 0x00 ∷ 0x00 ∷ [])
+    ∷ (0x42 ∷ 0xA5 ∷ 0x54 ∷ 0x00 ∷ 0x00 ∷ 0x00 ∷ [])
+    ∷ (0x52 ∷ 0x81 ∷ 0x54 ∷ 0x00 ∷ 0x00 ∷ 0x00 ∷ [])
+    ∷ (0x52 ∷ 0x81 ∷ 0x50 ∷ 0x00 ∷ 0x00 ∷ 0x00 ∷ [])
+    ∷ (0x62 ∷ 0x81 ∷ 0x50 ∷ 0x00 ∷ 0x00 ∷ 0x00 ∷ [])
+    ∷ (0x72 ∷ 0x81 ∷ 0x50 ∷ 0xB1 ∷ 0x23 ∷ 0x40 ∷ [])
+    ∷ [])
+    ≡ map Says
+    (Get 5 0 Read
+    ∷ Release 5 42 Write
+    ∷ Give 5 9 42 Append
+    ∷ Rescind 5 9 42 Execute
+    ∷ Create 5 42 true
+    ∷ Create 5 42 false
+    ∷ Delete 5 42
+    ∷ ChangeLevel 5 42 (level 11 0x1234)
+    ∷ [])
+unfolding decode decodeFields fields field bytesToBits toBits odd fromBits wellFormed modeAllowed unusedZero request
+every-kind = refl
+
+-- "need k weighs 2^k": 8005 has the needs 0, 2 and 15
+pub need-weights : map (λ (k : ℕ). need k 0x8005) (0 ∷ 1 ∷ 2 ∷ 3 ∷ 14 ∷ 15 ∷ []) ≡ true ∷ false ∷ true ∷ false ∷ false ∷ true ∷ []
+unfolding need odd
+need-weights = refl
+
+-- ---- an object record
+
+-- live, owned by subject 5, labelled (9, 1234); subject 0 has r and w and holds r, 1 has w and a and holds a, 5 has all and holds w,
+-- 15 has r, a and e and holds e
+abbrev trace : Object
+trace =
+    record {
+      live = true;
+      owner = 5;
+      label = Present (level 9 0x1234);
+      rights = 12 ∷ 6 ∷ 0 ∷ 0 ∷ 0 ∷ 15 ∷ 0 ∷ 0 ∷ 0 ∷ 0 ∷ 0 ∷ 0 ∷ 0 ∷ 0 ∷ 0 ∷ 11 ∷ [];
+      held = 8 ∷ 2 ∷ 0 ∷ 0 ∷ 0 ∷ 4 ∷ 0 ∷ 0 ∷ 0 ∷ 0 ∷ 0 ∷ 0 ∷ 0 ∷ 0 ∷ 0 ∷ 1 ∷ [];
+    }
+
+-- "live 1, owner 4, label present 1, class 4, needs 16, then for subjects 0 to 15 four right bits and four access bits, each r, w, a, e":
+-- 1 0101 1 1001 0001001000110100, then 1100 1000, 0110 0010, three times 0, 1111 0100, nine times 0, 1011 0001, and six bits behind it
+abbrev traceBytes : List ℕ
+traceBytes =
+    0xAE ∷ 0x44 ∷ 0x8D ∷ 0x32 ∷ 0x18 ∷ 0x80 ∷ 0x00 ∷ 0x00 ∷ 0x3D ∷ 0x00 ∷ 0x00 ∷ 0x00 ∷ 0x00 ∷ 0x00 ∷ 0x00 ∷ 0x00 ∷ 0x00 ∷ 0x00 ∷ 0x2C ∷ 0x40 ∷ []
+
+pub record-bits : objectBits trace ≡ take 154 (bytesToBits traceBytes)
+unfolding objectBits labelBits setsBits bytesToBits toBits odd
+record-bits = refl
+
+pub record-read : (objectFrom (take 154 (bytesToBits traceBytes)) ≡ trace) × (objectForm (take 154 (bytesToBits traceBytes)) ≡ true)
+unfolding objectFrom objectForm labelFrom labelForm bytesToBits toBits odd fromBits cut
+record-read = (refl, refl)
