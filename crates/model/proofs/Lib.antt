@@ -5,6 +5,7 @@ pub mod Modes
 pub mod Levels
 pub mod Packing
 pub mod Requests
+pub mod Lists
 pub mod Records
 pub mod Examples
 pub mod RuleExamples

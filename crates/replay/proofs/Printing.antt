@@ -16,7 +16,8 @@ use Rattle.model.specs.Reading.{readTable}
 use Rattle.model.specs.Program.{pieces, line, linesAfter, program}
 use Rattle.model.proofs.Tests.{cond-true, cond-false, le-or-lt}
 use Rattle.turns.specs.Turns.{pieceCount, turns}
-use Rattle.turns.proofs.Runs.{taken, length-pieces, length-replies}
+use Rattle.model.proofs.Lists.{length-replies}
+use Rattle.turns.proofs.Runs.{taken, length-pieces}
 use Rattle.replay.specs.Lines.{put}
 use Rattle.replay.proofs.Putting.{line-short, lines-short}
 

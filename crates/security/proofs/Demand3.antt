@@ -98,15 +98,22 @@ unfolding Differs
 same-replies m n S N h =
     elim (probe-all m n S N) [ alike p e ↦ e | apart r l d ↦ absurd (d (h (map encode (distinguish m n)) (encoded-bytes (distinguish m n)))) ]
 
+-- equal images draw the same replies, to lists of byte strings with any numbers in them
+pub equal-images-reply-alike : (b c : Beginning) → Accepted b → Accepted c → (qs rs : List (List ℕ))
+    → (buffer other : List ℕ) → number (writing buffer) ≡ 0 → number (writing other) ≡ 0
+    → take imageSize (written (left b qs) buffer) ≡ take imageSize (written (left c rs) other)
+    → (further : List (List ℕ)) → replies further (left b qs) ≡ replies further (left c rs)
+equal-images-reply-alike b c e f qs rs buffer other u v p further =
+    ap (replies further)
+    (image-tells (left b qs) (left c rs) (sound-left b e qs) (sound-left c f rs)
+    (sym (fills (left b qs) buffer u) ∙ p ∙ fills (left c rs) other v))
+
 pub demand-3 : (b c : Beginning) → Accepted b → Accepted c → (qs rs : List (List ℕ))
     → (buffer other : List ℕ) → number (writing buffer) ≡ 0 → number (writing other) ≡ 0
     → (take imageSize (written (left b qs) buffer) ≡ take imageSize (written (left c rs) other))
     ↔ ((further : List (List ℕ)) → AllBytes further → replies further (left b qs) ≡ replies further (left c rs))
-demand-3 b c e f qs rs buffer other u v =
-    let S = sound-left b e qs in
-    let N = sound-left c f rs in
-    let here = fills (left b qs) buffer u in
-    let there = fills (left c rs) other v in (
-      λ p further g. ap (replies further) (image-tells (left b qs) (left c rs) S N (sym here ∙ p ∙ there)),
-      λ h. here ∙ ap imageOf (same-replies (left b qs) (left c rs) S N h) ∙ sym there,
-    )
+demand-3 b c e f qs rs buffer other u v = (
+  λ p further g. equal-images-reply-alike b c e f qs rs buffer other u v p further,
+  λ h. fills (left b qs) buffer u ∙ ap imageOf (same-replies (left b qs) (left c rs) (sound-left b e qs) (sound-left c f rs) h)
+      ∙ sym (fills (left c rs) other v),
+)

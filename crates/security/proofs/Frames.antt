@@ -13,10 +13,12 @@ use Rattle.model.specs.declared.Monitor.{Monitor}
 use Rattle.model.specs.declared.Mode.{Mode}
 use Rattle.model.specs.declared.Request.{Request}
 use Rattle.model.specs.declared.Request.the-variants.{Get, Release, Give, Rescind, Create, Delete, ChangeLevel}
+use Rattle.model.specs.declared.Decoded.the-variants.{Says}
 use Rattle.model.specs.declared.Decision.the-variants.{Granted, NotEnrolled, AlreadyLive}
 use Rattle.model.specs.declared.Response.{Response}
 use Rattle.model.specs.Modes.{has, add, remove}
 use Rattle.model.specs.State.{noObject, object, rightsOf, heldBy, WellFormed}
+use Rattle.model.specs.Requests.{decode}
 use Rattle.model.specs.Rules.{target, changed, checks, created, step}
 use Rattle.model.specs.Runs.{respond, after}
 use Rattle.model.proofs.Tests.{set-all, split, apart, clash, passed, not-on, and-both, or-right}
@@ -211,3 +213,40 @@ pub create-fresh : (s o : ℕ) (w : Bool) (m : Monitor) → WellFormed m → o <
 unfolding changed
 create-fresh s o w m W h g =
     ap (λ (r : Response). object (r .monitor) o) (step-granted (Create s o w) m g) ∙ getD-set-same (m .objects) o _ noObject (omega (arith, W .objects-length, h))
+
+-- ---- the life of an object
+
+-- what a request does to the life of object o: nothing, or it begins by a create of it, or it ends by a delete of it
+data Life (q : Request) (o : ℕ) (before behind : Bool) : Type 0 where
+  stays : behind ≡ before → Life q o before behind
+  begins : (s : ℕ) (w : Bool) → q ≡ Create s o w → behind ≡ true → Life q o before behind
+  ends : (s : ℕ) → q ≡ Delete s o → behind ≡ false → Life q o before behind
+
+changed-life : (q : Request) (ob : Object) → Life q (target q) (ob .live) (changed q ob .live)
+unfolding changed
+changed-life (Get s o x) ob = stays refl
+changed-life (Release s o x) ob = stays refl
+changed-life (Give s t o x) ob = stays refl
+changed-life (Rescind s t o x) ob = stays refl
+changed-life (Create s o w) ob = begins s w refl refl
+changed-life (Delete s o) ob = ends s refl refl
+changed-life (ChangeLevel s o l) ob = stays refl
+
+step-life : (q : Request) (m : Monitor) (o : ℕ) → Life q o (object m o .live) (object (step q m .monitor) o .live)
+step-life q m o =
+    frame (λ (ob : Object). Life q o (object m o .live) (ob .live)) q m o (stays refl)
+    (λ g e. subst (λ (k : ℕ). Life q k (object m k .live) (changed q (object m (target q)) .live)) e (changed-life q (object m (target q))))
+
+-- whatever the bytes and the monitor: a live object ends only by a delete of it
+pub live-kept : (m : Monitor) (g : List ℕ) (o : ℕ) → object m o .live ≡ true
+    → (object (respond g m .monitor) o .live ≡ true) ⊎ ((s : ℕ) × (decode g ≡ Says (Delete s o)))
+live-kept m g o live =
+    respond-all (λ (r : Response). (object (r .monitor) o .live ≡ true) ⊎ ((s : ℕ) × (decode g ≡ Says (Delete s o)))) g m (λ e. inl live)
+    (λ q d. elim (step-life q m o) [ stays e ↦ inl (e ∙ live) | begins s w e f ↦ inl f | ends s e f ↦ inr (s, d ∙ ap Says e) ])
+
+-- and one that is not live begins only by a create of it
+pub live-by-create : (m : Monitor) (g : List ℕ) (o : ℕ) → object m o .live ≡ false
+    → (object (respond g m .monitor) o .live ≡ false) ⊎ ((s : ℕ) × (w : Bool) × (decode g ≡ Says (Create s o w)))
+live-by-create m g o dead =
+    respond-all (λ (r : Response). (object (r .monitor) o .live ≡ false) ⊎ ((s : ℕ) × (w : Bool) × (decode g ≡ Says (Create s o w)))) g m (λ e. inl dead)
+    (λ q d. elim (step-life q m o) [ stays e ↦ inl (e ∙ dead) | begins s w e f ↦ inr (s, w, d ∙ ap Says e) | ends s e f ↦ inl f ])

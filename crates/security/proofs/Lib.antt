@@ -12,6 +12,7 @@ pub mod Shapes
 pub mod StateTests
 pub mod Images
 pub mod Trips
+pub mod Reached
 pub mod Probes
 pub mod Objects
 pub mod ObjectProbes
@@ -23,4 +24,5 @@ pub mod Effects
 pub mod RoundTrips
 pub mod ToldApart
 pub mod MarkedRun
+pub mod Programs
 pub mod Witnesses

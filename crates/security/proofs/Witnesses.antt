@@ -92,6 +92,6 @@ unfolding readTable readImage begin tableChecks imageChecks unless
 refused-met = (refl, refl)
 
 -- a buffer that is too short
-pub short-met : tooShort [] ≡ true
-unfolding tooShort
+pub short-met : number (writing []) ≡ 13
+unfolding writing tooShort
 short-met = refl

@@ -4,5 +4,6 @@ pub mod Causes
 pub mod Access
 pub mod Effects
 pub mod Tables
+pub mod Inputs
 pub mod Distinguish
 pub mod MarkedRun

@@ -13,27 +13,13 @@ use Rattle.model.specs.declared.Monitor.{Monitor}
 use Rattle.model.specs.Runs.{respond, reply, after, replies}
 use Rattle.model.specs.Program.{pieces}
 use Rattle.model.proofs.Tests.{le-or-lt}
+use Rattle.model.proofs.Lists.{after-append, replies-append, length-replies}
 
 -- one element more is taken
 take-more : {A : Type 0} (i : ℕ) (l : List A) (d : A) → i < length l → take (suc i) l ≡ take i l ++ (getD l i d ∷ [])
 take-more i [] d h = absurd (omega arith)
 take-more zero (x ∷ l) d h = refl
 take-more (suc i) (x ∷ l) d h = ap (λ r. x ∷ r) (take-more i l d (omega arith))
-
-after-more : (bs : List (List ℕ)) (b : List ℕ) (m : Monitor) → after (bs ++ (b ∷ [])) m ≡ respond b (after bs m) .monitor
-unfolding after
-after-more [] b m = refl
-after-more (c ∷ bs) b m = after-more bs b (respond c m .monitor)
-
-replies-more : (bs : List (List ℕ)) (b : List ℕ) (m : Monitor) → replies (bs ++ (b ∷ [])) m ≡ replies bs m ++ (reply b (after bs m) ∷ [])
-unfolding after replies
-replies-more [] b m = refl
-replies-more (c ∷ bs) b m = ap (λ r. reply c m ∷ r) (replies-more bs b (respond c m .monitor))
-
-pub length-replies : (bs : List (List ℕ)) (m : Monitor) → length (replies bs m) ≡ length bs
-unfolding replies
-length-replies [] m = refl
-length-replies (b ∷ bs) m = ap suc (length-replies bs (respond b m .monitor))
 
 -- a store at the first place behind a front
 set-front : (front rest : List ℕ) (i v : ℕ) → length front ≡ i → i < length front + length rest → set (front ++ rest) i v ≡ (front ++ (v ∷ [])) ++ drop 1 rest
@@ -67,15 +53,16 @@ length-taken (suc i) (x ∷ l) h = ap suc (length-taken i l (omega arith))
 pub further : (ps : List (List ℕ)) (out₀ : List ℕ) (m : Monitor) (out : List ℕ) (n : Monitor) (i : ℕ) (b : List ℕ) (n₁ : Monitor) (r : ℕ)
     → After ps out₀ m out n i → i < length ps → i < length out₀ → getD ps i [] ≡ b → n₁ ≡ respond b n .monitor → r ≡ reply b n
     → After ps out₀ m (set out i r) n₁ (i + 1)
+unfolding after replies
 further ps out₀ m out n i b n₁ r A h g e p q =
     let more : take (i + 1) ps ≡ take i ps ++ (b ∷ []) = rw (add-one i) (take-more i ps [] h ∙ ap (λ c. take i ps ++ (c ∷ [])) e) in
     let front : length (replies (take i ps) m) ≡ i = length-replies (take i ps) m ∙ length-taken i ps (omega arith) in
     record {
-      state = p ∙ ap (λ (k : Monitor). respond b k .monitor) (A .state) ∙ sym (after-more (take i ps) b m) ∙ ap (λ l. after l m) (sym more);
+      state = p ∙ ap (λ (k : Monitor). respond b k .monitor) (A .state) ∙ sym (after-append (take i ps) (b ∷ []) m) ∙ ap (λ l. after l m) (sym more);
       written = ap (λ l. set l i r) (A .written)
           ∙ set-front (replies (take i ps) m) (drop i out₀) i r front (omega (arith, front, length-drop i out₀))
           ∙ ap₂ (λ (x y : List ℕ). x ++ y)
-          (ap (λ v. replies (take i ps) m ++ (v ∷ [])) (q ∙ ap (reply b) (A .state)) ∙ sym (replies-more (take i ps) b m) ∙ ap (λ l. replies l m) (sym more))
+          (ap (λ v. replies (take i ps) m ++ (v ∷ [])) (q ∙ ap (reply b) (A .state)) ∙ sym (replies-append (take i ps) (b ∷ []) m) ∙ ap (λ l. replies l m) (sym more))
           (drop-more i out₀ ∙ ap (λ k. drop k out₀) (sym (add-one i)));
     }
 
