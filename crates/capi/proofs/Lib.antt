@@ -1,2 +1,4 @@
--- The answers at the boundary.
+-- The answers at the boundary, and what rows of calls give.
 pub mod Boundary
+pub mod Numbers
+pub mod Calls

@@ -35,13 +35,13 @@ use Rattle.security.proofs.FirstRefusal.{reply-2-exactly}
 
 -- ---- pieces
 
-whole-length : (qs : List (List ℕ)) → SixEach qs → length (join qs) ≡ 6 * length qs
+pub whole-length : (qs : List (List ℕ)) → SixEach qs → length (join qs) ≡ 6 * length qs
 unfolding join
 whole-length [] h = omega arith
 whole-length (q ∷ qs) h = length-append q (join qs) ∙ omega (arith, h .0, whole-length qs (h .1))
 
 -- whole requests are cut off, and what stands behind them is cut further
-cut-whole : (qs : List (List ℕ)) → SixEach qs → (n k : ℕ) (rest : List ℕ) → n ≡ k + length qs → cut n 6 (join qs ++ rest) ≡ qs ++ cut k 6 rest
+pub cut-whole : (qs : List (List ℕ)) → SixEach qs → (n k : ℕ) (rest : List ℕ) → n ≡ k + length qs → cut n 6 (join qs ++ rest) ≡ qs ++ cut k 6 rest
 unfolding cut join
 cut-whole [] h n k rest e = let p : n ≡ k = omega (arith, e) in ap (λ (j : ℕ). cut j 6 rest) p
 cut-whole (q ∷ qs) h zero k rest e = absurd (omega (arith, e))
@@ -50,14 +50,14 @@ cut-whole (q ∷ qs) h (suc n) k rest e =
     ∙ ap₂ (λ (x : List ℕ) (y : List (List ℕ)). x ∷ y) (take-at q (join qs ++ rest) 6 (h .0))
     (ap (cut n 6) (drop-at q (join qs ++ rest) 6 (h .0)) ∙ cut-whole qs (h .1) n k rest (omega (arith, e)))
 
-pieces-whole : (qs : List (List ℕ)) → SixEach qs → pieces (join qs) ≡ qs
+pub pieces-whole : (qs : List (List ℕ)) → SixEach qs → pieces (join qs) ≡ qs
 unfolding pieces cut
 pieces-whole qs h =
     ap (cut ((length (join qs) + 5) / 6) 6) (sym (append-nil (join qs)))
     ∙ cut-whole qs h ((length (join qs) + 5) / 6) 0 [] (omega (arith, whole-length qs h)) ∙ append-nil qs
 
 -- "a last short piece"
-pieces-short : (qs : List (List ℕ)) → SixEach qs → (short : List ℕ) → 0 < length short → length short < 6
+pub pieces-short : (qs : List (List ℕ)) → SixEach qs → (short : List ℕ) → 0 < length short → length short < 6
     → pieces (join qs ++ short) ≡ qs ++ (short ∷ [])
 unfolding pieces cut
 pieces-short qs h short some less =

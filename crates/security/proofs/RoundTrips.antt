@@ -22,7 +22,7 @@ use Rattle.model.specs.Writing.{tooShort, writing, written}
 use Rattle.model.specs.Beginnings.{image, table, Accepted, Reached}
 use Rattle.model.proofs.Tests.{split, cond-true, cond-false, le-or-lt}
 use Rattle.security.specs.Tables.{tableOf}
-use Rattle.security.proofs.Steps.{TableFits}
+use Rattle.security.proofs.Steps.{Sound, TableFits}
 use Rattle.security.proofs.Trips.{image-read-back, image-accepted, image-bytes-back, table-accepted, table-read-back, table-bytes-back}
 use Rattle.security.proofs.Demand3.{sound-reached, fills}
 
@@ -31,13 +31,15 @@ begin-granted : (d : Decision) (m n : Monitor) → d ≡ Granted → m ≡ n →
 unfolding begin
 begin-granted d m n e p = ap (λ (k : Decision). begin k m) e ∙ (λ i. record { decision = Granted; monitor = p i })
 
+-- the image of a sound state reads back to it
+pub image-reads : (m : Monitor) → Sound m → readImage (imageOf m) ≡ record { decision = Granted; monitor = m }
+unfolding readImage
+image-reads m S = begin-granted (imageChecks (imageOf m)) (monitorFrom (imageOf m)) m (image-accepted m S) (image-read-back m S)
+
 -- "Reading a written image gives back its monitor"
 pub read-written : (m : Monitor) → Reached m → (buffer : List ℕ) → number (writing buffer) ≡ 0
     → readImage (take imageSize (written m buffer)) ≡ record { decision = Granted; monitor = m }
-unfolding readImage
-read-written m R buffer e =
-    let S = sound-reached m R in
-    ap readImage (fills m buffer e) ∙ begin-granted (imageChecks (imageOf m)) (monitorFrom (imageOf m)) m (image-accepted m S) (image-read-back m S)
+read-written m R buffer e = ap readImage (fills m buffer e) ∙ image-reads m (sound-reached m R)
 
 -- "writing from an accepted image gives back its bytes"
 pub write-read : (b : List ℕ) → Bytes b → Accepted (image b) → (buffer : List ℕ) → number (writing buffer) ≡ 0

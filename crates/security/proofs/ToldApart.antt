@@ -85,7 +85,7 @@ at-most-four m n =
 -- ---- accepted images
 
 -- the monitor of an accepted image is written as that image
-written-back : (b : List ℕ) → Bytes b → Accepted (image b) → imageOf (readImage b .monitor) ≡ b
+pub written-back : (b : List ℕ) → Bytes b → Accepted (image b) → imageOf (readImage b .monitor) ≡ b
 unfolding readImage begin
 written-back b hb e = ap imageOf (cond-false (refuses (imageChecks b)) emptyMonitor (monitorFrom b) (ap refuses e)) ∙ image-bytes-back b hb e
 

@@ -1,0 +1,137 @@
+-- A unit is many calls: `circmon_request` in a row, from an accepted image or from one that `circmon_begin` wrote. The numbers are
+-- the replies to the list, the bytes left are the image after it, and demand 3 and `circmon_distinguish` hold of them.
+-- Assumes nothing.
+use Prim.Native.Nat.{ℕ, _+_, _*_, _≤_}
+use native.Mathlib.Omega.{arith}
+use mathlib.Core.Path.{_≡_, refl, sym, ap, ap₂, _∙_, subst}
+use mathlib.Core.Logic.{_↔_, _≢_}
+use mathlib.Core.Bool.{true, false}
+use mathlib.Core.List.{List, [], _∷_, _++_, map, append-nil}
+use lib.ListN.{length, drop, length-map}
+use lib.Seq.{drop-length}
+use Rattle.bits.specs.Bits.{Bytes, cut, join}
+use Rattle.model.specs.declared.Monitor.{Monitor}
+use Rattle.model.specs.declared.Request.{Request}
+use Rattle.model.specs.declared.Response.{Response}
+use Rattle.model.specs.Decisions.{number, refuses}
+use Rattle.model.specs.Requests.{encode}
+use Rattle.model.specs.Runs.{respond, reply, after, replies}
+use Rattle.model.specs.Layout.{imageOf}
+use Rattle.model.specs.Reading.{readTable, readImage}
+use Rattle.model.specs.Beginnings.{Beginning, table, image, begun, Accepted, AllBytes}
+use Rattle.model.proofs.Tests.{cond-false}
+use Rattle.security.specs.Inputs.{SixEach}
+use Rattle.security.specs.Distinguish.{distinguish}
+use Rattle.security.proofs.Steps.{Sound, sound-respond, sound-after}
+use Rattle.security.proofs.Trips.{image-tells}
+use Rattle.security.proofs.Demand3.{sound-begun, same-replies}
+use Rattle.security.proofs.RoundTrips.{image-length, write-0-fills, image-reads}
+use Rattle.security.proofs.ToldApart.{written-back, equal-images-told, different-images-told}
+use Rattle.security.proofs.Programs.{cut-whole}
+use Rattle.distinguish.proofs.Storing.{length-encode}
+use Rattle.capi.specs.Boundary.{beginNumber, beginBytes, requestNumber, requestBytes, distinguishNumber, distinguishBytes}
+use Rattle.capi.specs.Calls.{numbers, bytesLeft}
+use Rattle.capi.proofs.Numbers.{begin-0, distinguish-requests}
+
+-- ---- calls on the image of a state
+
+-- one call: the reply, and the image of the state after it
+call-image : (m : Monitor) → Sound m → (b : List ℕ) → (requestNumber (imageOf m) b ≡ reply b m) × (requestBytes (imageOf m) b ≡ imageOf (respond b m .monitor))
+unfolding requestNumber requestBytes
+call-image m S b =
+    let r = image-reads m S in
+    let w : refuses (readImage (imageOf m) .decision) ≡ false = ap (λ (k : Response). refuses (k .decision)) r in
+    let state : readImage (imageOf m) .monitor ≡ m = ap (λ (k : Response). k .monitor) r in (
+      cond-false (refuses (readImage (imageOf m) .decision)) _ _ w ∙ ap (reply b) state,
+      cond-false (refuses (readImage (imageOf m) .decision)) _ _ w
+          ∙ write-0-fills _ (imageOf m) (omega (arith, image-length m))
+          ∙ ap₂ (λ (x : Monitor) (rest : List ℕ). imageOf (respond b x .monitor) ++ rest) state
+          (ap (λ (n : ℕ). drop n (imageOf m)) (sym (image-length m)) ∙ drop-length (imageOf m))
+          ∙ append-nil (imageOf (respond b m .monitor)),
+    )
+
+-- a list of calls
+calls-image : (bs : List (List ℕ)) (m : Monitor) → Sound m → (numbers bs (imageOf m) ≡ replies bs m) × (bytesLeft bs (imageOf m) ≡ imageOf (after bs m))
+unfolding numbers bytesLeft replies after
+calls-image [] m S = (refl, refl)
+calls-image (b ∷ bs) m S =
+    let one = call-image m S b in
+    let rest = calls-image bs (respond b m .monitor) (sound-respond b m S) in (
+      ap₂ (λ (n : ℕ) (l : List ℕ). n ∷ l) (one .0) (ap (numbers bs) (one .1) ∙ rest .0),
+      ap (bytesLeft bs) (one .1) ∙ rest .1,
+    )
+
+-- ---- from an accepted image, and from a table
+
+-- "Returns the reply .. and writes the image of the state after the request in place", call after call
+pub calls-from-image : (a : List ℕ) → Bytes a → Accepted (image a) → (bs : List (List ℕ))
+    → (numbers bs a ≡ replies bs (readImage a .monitor)) × (bytesLeft bs a ≡ imageOf (after bs (readImage a .monitor)))
+calls-from-image a ha A bs =
+    subst (λ (x : List ℕ). (numbers bs x ≡ replies bs (readImage a .monitor)) × (bytesLeft bs x ≡ imageOf (after bs (readImage a .monitor))))
+    (written-back a ha A) (calls-image bs (readImage a .monitor) (sound-begun (image a) A))
+
+-- the same in a buffer of 1,274 bytes into which `circmon_begin` wrote
+pub calls-from-table : (t buffer : List ℕ) → length buffer ≡ 1274 → Accepted (table t) → (bs : List (List ℕ))
+    → (numbers bs (beginBytes t buffer) ≡ replies bs (readTable t .monitor)) × (bytesLeft bs (beginBytes t buffer) ≡ imageOf (after bs (readTable t .monitor)))
+calls-from-table t buffer size A bs =
+    let fresh : beginBytes t buffer ≡ imageOf (readTable t .monitor) =
+    begin-0 t buffer A (omega (arith, size)) .1
+    ∙ ap (λ (rest : List ℕ). imageOf (readTable t .monitor) ++ rest) (ap (λ (n : ℕ). drop n buffer) (sym size) ∙ drop-length buffer)
+    ∙ append-nil (imageOf (readTable t .monitor)) in
+    subst (λ (x : List ℕ). (numbers bs x ≡ replies bs (readTable t .monitor)) × (bytesLeft bs x ≡ imageOf (after bs (readTable t .monitor))))
+    (sym fresh) (calls-image bs (readTable t .monitor) (sound-begun (table t) A))
+
+-- ---- demand 3, of calls
+
+-- two buffers after their calls are equal in every byte exactly when every further list of calls returns the same numbers from both
+pub equal-bytes-same-numbers : (a b : List ℕ) → Bytes a → Bytes b → Accepted (image a) → Accepted (image b) → (qs rs : List (List ℕ))
+    → (bytesLeft qs a ≡ bytesLeft rs b)
+    ↔ ((further : List (List ℕ)) → AllBytes further → numbers further (bytesLeft qs a) ≡ numbers further (bytesLeft rs b))
+equal-bytes-same-numbers a b ha hb A B qs rs =
+    let m = after qs (readImage a .monitor) in
+    let n = after rs (readImage b .monitor) in
+    let M = sound-after qs _ (sound-begun (image a) A) in
+    let N = sound-after rs _ (sound-begun (image b) B) in
+    let here : bytesLeft qs a ≡ imageOf m = calls-from-image a ha A qs .1 in
+    let there : bytesLeft rs b ≡ imageOf n = calls-from-image b hb B rs .1 in (
+      λ e further w. ap (numbers further) e,
+      λ h. here
+          ∙ ap imageOf (same-replies m n M N (λ further w.
+          sym (ap (numbers further) here ∙ calls-image further m M .0) ∙ h further w ∙ ap (numbers further) there ∙ calls-image further n N .0))
+          ∙ sym there,
+    )
+
+-- ---- circmon_distinguish, of calls
+
+six-encoded : (l : List Request) → SixEach (map encode l)
+six-encoded [] = tt
+six-encoded (q ∷ l) = (length-encode q, six-encoded l)
+
+cut-encoded : (l : List Request) (rest : List ℕ) → cut (length l) 6 (join (map encode l) ++ rest) ≡ map encode l
+unfolding cut
+cut-encoded l rest = cut-whole (map encode l) (six-encoded l) (length l) 0 rest (omega (arith, length-map l encode)) ∙ append-nil (map encode l)
+
+-- its requests as byte strings: 0 of them where the images are equal; where they differ 1 to 4, and calls with them return different numbers
+pub distinguish-calls : (a b buffer : List ℕ) → Bytes a → Bytes b → Accepted (image a) → Accepted (image b) → 24 ≤ length buffer
+    → let n = distinguishNumber a b buffer in
+    let qs = cut n 6 (distinguishBytes a b buffer) in
+    (a ≡ b → n ≡ 0) × (a ≢ b → (1 ≤ n) × (n ≤ 4) × (numbers qs a ≢ numbers qs b))
+distinguish-calls a b buffer ha hb A B room =
+    let l = distinguish (readImage a .monitor) (readImage b .monitor) in
+    let d = distinguish-requests a b buffer A B room in
+    let qs : cut (distinguishNumber a b buffer) 6 (distinguishBytes a b buffer) ≡ map encode l =
+    ap₂ (λ (n : ℕ) (x : List ℕ). cut n 6 x) (d .0) (d .1) ∙ cut-encoded l (drop (6 * length l) buffer) in (
+      λ e. d .0 ∙ ap length (equal-images-told a b A B e),
+      λ h.
+      let t = different-images-told a b A B ha hb h in (
+        subst (λ (k : ℕ). 1 ≤ k) (sym (d .0)) (some l (t .0)),
+        subst (λ (k : ℕ). k ≤ 4) (sym (d .0)) (t .1),
+        λ e. t .2
+            (sym (ap (λ (x : List (List ℕ)). numbers x a) qs ∙ calls-from-image a ha A (map encode l) .0) ∙ e
+            ∙ ap (λ (x : List (List ℕ)). numbers x b) qs ∙ calls-from-image b hb B (map encode l) .0),
+      ),
+    )
+  where
+    some : (l : List Request) → l ≢ [] → 1 ≤ length l
+    some [] h = absurd (h refl)
+    some (q ∷ l) h = omega arith
