@@ -123,13 +123,13 @@ distinguish-calls a b buffer ha hb A B room =
     ap₂ (λ (n : ℕ) (x : List ℕ). cut n 6 x) (d .0) (d .1) ∙ cut-encoded l (drop (6 * length l) buffer) in (
       λ e. d .0 ∙ ap length (equal-images-told a b A B e),
       λ h.
-      let t = different-images-told a b A B ha hb h in (
-        subst (λ (k : ℕ). 1 ≤ k) (sym (d .0)) (some l (t .0)),
-        subst (λ (k : ℕ). k ≤ 4) (sym (d .0)) (t .1),
-        λ e. t .2
-            (sym (ap (λ (x : List (List ℕ)). numbers x a) qs ∙ calls-from-image a ha A (map encode l) .0) ∙ e
-            ∙ ap (λ (x : List (List ℕ)). numbers x b) qs ∙ calls-from-image b hb B (map encode l) .0),
-      ),
+          let t = different-images-told a b A B ha hb h in (
+            subst (λ (k : ℕ). 1 ≤ k) (sym (d .0)) (some l (t .0)),
+            subst (λ (k : ℕ). k ≤ 4) (sym (d .0)) (t .1),
+            λ e. t .2
+                (sym (ap (λ (x : List (List ℕ)). numbers x a) qs ∙ calls-from-image a ha A (map encode l) .0) ∙ e
+                ∙ ap (λ (x : List (List ℕ)). numbers x b) qs ∙ calls-from-image b hb B (map encode l) .0),
+          ),
     )
   where
     some : (l : List Request) → l ≢ [] → 1 ≤ length l

@@ -5,32 +5,29 @@ use native.Mathlib.Nat.{not-suc-le-zero, le-of-suc-le-suc, eq-or-lt-of-le}
 use native.Mathlib.Numerals.{add-one}
 use mathlib.Core.Path.{_≡_, refl, sym, ap, ap₂, _∙_}
 use mathlib.Core.Logic.{⊎-elim}
-use mathlib.Core.Bool.{Bool, true, false, cond}
+use mathlib.Core.Bool.{true, false}
 use mathlib.Core.List.{List, [], _∷_}
 use Rattle.model.specs.declared.Request.{Request}
 use Rattle.model.proofs.Tests.{clash}
 use Rattle.security.specs.Distinguish.{orElse, search}
 use Rattle.differences.specs.declared.sequence.Sequence.{Sequence}
-use Rattle.differences.specs.declared.sequence.Sequence.the-variants.{Nothing, One, Reading}
+use Rattle.differences.specs.declared.sequence.Sequence.the-variants.{Nothing, One, Reading, Replacing}
 use Rattle.differences.specs.Sequences.{found, requestsOf}
 
 -- ---- one of two
-
-or-either : (b : Bool) (q r : Request) (qs rs later : List Request) → orElse (cond b (q ∷ qs) (r ∷ rs)) later ≡ cond b (q ∷ qs) (r ∷ rs)
-unfolding orElse
-or-either true q r qs rs later = refl
-or-either false q r qs rs later = refl
 
 pub or-found : (q : Sequence) (later : List Request) → found q ≡ true → orElse (requestsOf q) later ≡ requestsOf q
 unfolding orElse
 or-found Nothing later e = clash (sym e)
 or-found (One q) later e = refl
-or-found (Reading p s l) later e = or-either (p .live) _ _ _ _ later
+or-found (Reading o s l) later e = refl
+or-found (Replacing w o s l) later e = refl
 
 pub not-found : (q : Sequence) → found q ≡ false → requestsOf q ≡ []
 not-found Nothing e = refl
 not-found (One q) e = clash e
-not-found (Reading p s l) e = clash e
+not-found (Reading o s l) e = clash e
+not-found (Replacing w o s l) e = clash e
 
 pub or-nothing : (q : Sequence) (later : List Request) → found q ≡ false → orElse (requestsOf q) later ≡ later
 unfolding orElse

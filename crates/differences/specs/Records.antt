@@ -19,8 +19,7 @@ use Rattle.model.specs.Modes.{has}
 use Rattle.model.specs.State.{subjectCount, objectCount, clearanceAt, objectAt}
 use Rattle.security.specs.Distinguish.{orElse, search, searchModes, when, differ}
 use Rattle.differences.specs.declared.sequence.Place.{Place}
-use Rattle.differences.specs.declared.sequence.Sequence.the-variants.{Reading}
-use Rattle.differences.specs.Sequences.{requestsOf}
+use Rattle.differences.specs.Sequences.{readingAt, requestsOf}
 
 -- ---- objects
 
@@ -91,7 +90,7 @@ freePlace l =
 
 -- the level at which s reads; above: b dominates a, below: a dominates b
 unfoldable pub levelApart : Place → ℕ → Level → Level → Bool → Bool → List Request
-levelApart p s a b above below = cond above (cond below [] (requestsOf (Reading p s b))) (requestsOf (Reading p s a))
+levelApart p s a b above below = cond above (cond below [] (requestsOf (readingAt p s b))) (requestsOf (readingAt p s a))
 
 -- two clearances of subject s
 unfoldable pub clearanceApart : Place → ℕ → Label → Label → List Request

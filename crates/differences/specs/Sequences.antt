@@ -7,21 +7,28 @@ use Rattle.model.specs.declared.Level.{Level}
 use Rattle.model.specs.declared.Mode.the-variants.{Read}
 use Rattle.model.specs.declared.Request.{Request}
 use Rattle.model.specs.declared.Request.the-variants.{Get, Create, Delete, ChangeLevel}
+use Rattle.differences.specs.declared.sequence.Place.{Place}
 use Rattle.differences.specs.declared.sequence.Sequence.{Sequence}
-use Rattle.differences.specs.declared.sequence.Sequence.the-variants.{Nothing, One, Reading}
+use Rattle.differences.specs.declared.sequence.Sequence.the-variants.{Nothing, One, Reading, Replacing}
 
 -- it has a request
 abbrev pub found : Sequence → Bool
 found Nothing = false
 found (One q) = true
-found (Reading p s l) = true
+found (Reading o s l) = true
+found (Replacing w o s l) = true
 
 -- subject s creates object o, labels it and asks to read it
 abbrev pub readingOf : ℕ → ℕ → Level → List Request
 readingOf s o l = Create s o false ∷ ChangeLevel s o l ∷ Get s o Read ∷ []
 
--- the requests in their order; the owner of a live object makes room first
+-- the requests in their order
 abbrev pub requestsOf : Sequence → List Request
 requestsOf Nothing = []
 requestsOf (One q) = q ∷ []
-requestsOf (Reading p s l) = cond (p .live) (Delete (p .owner) (p .object) ∷ readingOf s (p .object) l) (readingOf s (p .object) l)
+requestsOf (Reading o s l) = readingOf s o l
+requestsOf (Replacing w o s l) = Delete w o ∷ readingOf s o l
+
+-- the reading at a place: the owner of a live object makes room first
+unfoldable pub readingAt : Place → ℕ → Level → Sequence
+readingAt p s l = cond (p .live) (Replacing (p .owner) (p .object) s l) (Reading (p .object) s l)

@@ -1,7 +1,7 @@
 // A sequence of requests that two states answer differently, as a value: no request, one, or those that end in a reading.
 ghost use mathlib.Core.Path.{_≡_};
 ghost use Rattle.security.specs.Distinguish.{orElse, when, differ};
-ghost use Rattle.differences.specs.Sequences.{found, requestsOf};
+ghost use Rattle.differences.specs.Sequences.{found, readingAt, requestsOf};
 use model::Level;
 use model::Request;
 
@@ -12,11 +12,13 @@ pub struct Place {
     pub object: u8,
 }
 
-// Reading: the subject creates an object at the place, gives it the level and asks to read it.
+// Reading: the subject creates the object, gives it the level and asks to read it. Replacing: the owner of a live object deletes it,
+// and then the subject does this. The numbers are the owner, the object, the subject.
 pub enum Sequence {
     Nothing,
     One(Request),
-    Reading(Place, u8, Level),
+    Reading(u8, u8, Level),
+    Replacing(u8, u8, u8, Level),
 }
 
 // The sequence has a request.
@@ -27,6 +29,18 @@ pub fn is_found(q: Sequence) -> bool
         Sequence::Nothing => false,
         Sequence::One(_) => true,
         Sequence::Reading(_, _, _) => true,
+        Sequence::Replacing(_, _, _, _) => true,
+    }
+}
+
+// The reading at a place.
+pub fn reading_at(p: Place, s: u8, l: Level) -> Sequence
+    ensures { λ r. ⌜ r ≡ readingAt p s l ⌝ }
+{
+    if p.live {
+        Sequence::Replacing(p.owner, p.object, s, l)
+    } else {
+        Sequence::Reading(p.object, s, l)
     }
 }
 

@@ -7,6 +7,7 @@ use crate::sequence::Place;
 use crate::sequence::Sequence;
 use crate::sequence::differ;
 use crate::sequence::is_found;
+use crate::sequence::reading_at;
 use crate::sequence::when;
 use labels::dominates;
 use labels::is_present;
@@ -74,12 +75,12 @@ fn level_apart(p: Place, s: u8, a: Level, b: Level, above: bool, below: bool) ->
     ensures { λ r. ⌜ requestsOf r ≡ levelApart p s a b above below ⌝ }
 {
     if !above {
-        return Sequence::Reading(p, s, a);
+        return reading_at(p, s, a);
     }
     if below {
         Sequence::Nothing
     } else {
-        Sequence::Reading(p, s, b)
+        reading_at(p, s, b)
     }
 }
 

@@ -2,7 +2,7 @@
 -- Assumes nothing.
 use Prim.Native.Nat.{ℕ, zero, suc}
 use mathlib.Core.Path.{_≡_, refl, sym, ap, ap₂, _∙_}
-use mathlib.Core.Bool.{true, false, cond}
+use mathlib.Core.Bool.{Bool, true, false, cond}
 use mathlib.Core.List.{List}
 use Rattle.model.specs.declared.Level.{Level}
 use Rattle.model.specs.declared.Label.{Label}
@@ -13,8 +13,7 @@ use Rattle.model.specs.Levels.{dominates}
 use Rattle.model.specs.State.{clearance, object}
 use Rattle.security.specs.Distinguish.{orElse, search, searchModes, byEnrolment, byLife, byOwner, toLabel, byLabel, byRight, byAccess, byObject, freeBelow, readAt, toClearance, byClearance, distinguish}
 use Rattle.differences.specs.declared.sequence.Sequence.{Sequence}
-use Rattle.differences.specs.declared.sequence.Sequence.the-variants.{Reading}
-use Rattle.differences.specs.Sequences.{found, requestsOf}
+use Rattle.differences.specs.Sequences.{found, readingAt, requestsOf}
 use Rattle.differences.specs.Records.{lifeApart, ownerApart, labelApart, modeApart, setApart, rowApart, objectApart, objectsApart, enrolmentApart, enrolmentsApart, freeOf, freePlace, levelApart, clearanceApart, clearancesApart}
 use Rattle.differences.proofs.Searching.{or-found, or-nothing, search-same}
 
@@ -42,9 +41,15 @@ unfolding freeBelow freeOf
 free-same zero m = refl
 free-same (suc k) m = ap (λ (i : ℕ). cond (object m k .live) i k) (free-same k m)
 
-reading-part : (m : Monitor) (s : ℕ) (l : Level) → readAt m (freeBelow 64 m) s l ≡ requestsOf (Reading (freePlace (m .objects)) s l)
-unfolding readAt freePlace
-reading-part m s l = ap (λ (o : ℕ). readAt m o s l) (free-same 64 m)
+requests-either : (b : Bool) (x y : Sequence) → requestsOf (cond b x y) ≡ cond b (requestsOf x) (requestsOf y)
+requests-either true x y = refl
+requests-either false x y = refl
+
+reading-part : (m : Monitor) (s : ℕ) (l : Level) → readAt m (freeBelow 64 m) s l ≡ requestsOf (readingAt (freePlace (m .objects)) s l)
+unfolding readAt readingAt freePlace
+reading-part m s l =
+    ap (λ (o : ℕ). readAt m o s l) (free-same 64 m)
+    ∙ sym (requests-either (object m (freeOf 64 (m .objects)) .live) _ _)
 
 clearance-part : (m : Monitor) (s : ℕ) (a b : Label) → toClearance m s a b ≡ clearanceApart (freePlace (m .objects)) s a b
 unfolding toClearance clearanceApart levelApart dominates

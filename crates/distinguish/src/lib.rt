@@ -81,14 +81,14 @@ fn write_sequence(out: &mut [u8], q: Sequence) -> u8
             write_request(out, 0, only);
             1
         }
-        Sequence::Reading(p, s, l) => {
-            if p.live {
-                write_request(out, 0, Request::Delete(p.owner, p.object));
-                write_reading(out, 6, s, p.object, l);
-                return 4;
-            }
-            write_reading(out, 0, s, p.object, l);
+        Sequence::Reading(o, s, l) => {
+            write_reading(out, 0, s, o, l);
             3
+        }
+        Sequence::Replacing(owner, o, s, l) => {
+            write_request(out, 0, Request::Delete(owner, o));
+            write_reading(out, 6, s, o, l);
+            4
         }
     }
 }

@@ -14,7 +14,7 @@ use Rattle.model.specs.declared.Decision.the-variants.{ShortBuffer}
 use Rattle.model.specs.Decisions.{number}
 use Rattle.security.specs.Distinguish.{distinguish}
 use Rattle.differences.specs.declared.sequence.Sequence.{Sequence}
-use Rattle.differences.specs.declared.sequence.Sequence.the-variants.{Nothing, One, Reading}
+use Rattle.differences.specs.declared.sequence.Sequence.the-variants.{Nothing, One, Reading, Replacing}
 use Rattle.differences.specs.Sequences.{requestsOf}
 use Rattle.distinguish.specs.Telling.{bytesOf, noRoom, toldNumber, toldBytes}
 use Rattle.distinguish.proofs.Storing.{sets-front}
@@ -22,15 +22,12 @@ use borrow.Author.Needs.{needs}
 use Rattle.distinguish.proofs.distinguish.Statement.{statement}
 use Rattle.distinguish.proofs.distinguish.Tie as tie
 
-few-either : (b : Bool) (q r s t : Request) → length (cond b (q ∷ r ∷ s ∷ t ∷ []) (r ∷ s ∷ t ∷ [])) ≤ 4
-few-either true q r s t = omega arith
-few-either false q r s t = omega arith
-
 -- no sequence has more than four requests
 few : (q : Sequence) → length (requestsOf q) ≤ 4
 few Nothing = omega arith
 few (One q) = omega arith
-few (Reading p s l) = few-either (p .live) _ _ _ _
+few (Reading o s l) = omega arith
+few (Replacing w o s l) = omega arith
 
 -- the two answers
 short : (m n : Monitor) (s : List ℕ) (k : ℕ) → length s < 24 → k ≡ number ShortBuffer → (k ≡ toldNumber m n s) × (s ≡ toldBytes m n s)

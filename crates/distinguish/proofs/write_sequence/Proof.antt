@@ -20,40 +20,41 @@ write-request-requires c κs = search needs
 enum-known-q-2 : tie.Need-enum-known-q-2
 enum-known-q-2 c = search needs
 
-write-request-requires-2 : tie.Need-write-request-requires-2
-write-request-requires-2 c κs = search needs
-
 write-reading-requires : tie.Need-write-reading-requires
 write-reading-requires c κs = search needs
 
-same-length : tie.Need-same-length
-same-length c = search needs
+enum-known-q-3 : tie.Need-enum-known-q-3
+enum-known-q-3 c = search needs
 
-returns : tie.Need-returns
-returns c =
-    let q = c .before .before .before .before .before .before .before .before .before .before .q2 .given in
-    let live = c .before .before .before .before .before .before .before .before .if1 .taken in
-    let first = c .before .before .before .before .before .before .write-request2 in
-    rw (q .1, live) (refl, stored-next _ _ _ _ _ _ _ (first .ensures) refl (c .before .before .write-reading .ensures))
+write-request-requires-2 : tie.Need-write-request-requires-2
+write-request-requires-2 c κs = search needs
 
 write-reading-requires-2 : tie.Need-write-reading-requires-2
 write-reading-requires-2 c κs = search needs
 
-returns-2 : tie.Need-returns-2
+returns : tie.Need-returns
 unfolding bytesOf join
-returns-2 c = rw (c .enum-told .given .1) (refl, refl)
+returns c = rw (c .enum-told .given .1) (refl, refl)
+
+same-length : tie.Need-same-length
+same-length c = search needs
+
+returns-2 : tie.Need-returns-2
+returns-2 c = rw (c .before .before .before .before .before .q .given .1) (refl, stored-last _ _ _ _ (c .before .before .write-request .ensures))
 
 same-length-2 : tie.Need-same-length-2
 same-length-2 c = search needs
 
 returns-3 : tie.Need-returns-3
-returns-3 c = rw (c .before .before .before .before .before .q .given .1) (refl, stored-last _ _ _ _ (c .before .before .write-request .ensures))
+returns-3 c = rw (c .before .before .before .before .before .q2 .given .1) (refl, c .before .before .write-reading .ensures)
 
 same-length-3 : tie.Need-same-length-3
 same-length-3 c = search needs
 
 returns-4 : tie.Need-returns-4
-returns-4 c = rw (c .before .before .before .before .before .before .q2 .given .1, c .before .before .before .before .if1 .left) (refl, c .before .before .write-reading2 .ensures)
+returns-4 c =
+    let first = c .before .before .before .before .before .before .write-request2 in
+    rw (c .before .before .before .before .before .before .before .before .before .q3 .given .1) (refl, stored-next _ _ _ _ _ _ _ (first .ensures) refl (c .before .before .write-reading2 .ensures))
 
 pub write-sequence-spec : {M : Type 1} → statement M
 write-sequence-spec =
@@ -63,11 +64,12 @@ write-sequence-spec =
     enum-known-q
     write-request-requires
     enum-known-q-2
-    write-request-requires-2
     write-reading-requires
-    same-length
-    returns
+    enum-known-q-3
+    write-request-requires-2
     write-reading-requires-2
+    returns
+    same-length
     returns-2
     same-length-2
     returns-3
