@@ -1,7 +1,6 @@
 // Executes the edges of requests with the proved functions, and prints a line for each: what was tried, and the number that came.
 // The numbers in the file stdout were worked out from the scope by hand; the comment at each request says why.
 mod asking;
-mod packing;
 mod requests;
 
 fn main() {

@@ -1,18 +1,24 @@
 // The edges of a request: subjects, objects, modes, lengths, kinds, and fields that are not used. The comment behind each request
 // has the reply that the scope gives it, and why.
 ghost use Prim.Native.Nat.{_≤_};
+ghost use mathlib.Core.Path.{_≡_};
+ghost use Rattle.edges.specs.Asking.{left};
 use crate::asking::ask;
+use crate::asking::ask_plain;
 use crate::asking::create;
 use crate::asking::get;
 use crate::asking::give;
 use crate::asking::release;
+use encoding::without_level;
 use model::Monitor;
 use saying::answered;
 use saying::say_bytes;
 
 // Subjects 15 and 16 as the actor and as the other subject, on a monitor without a live object. Subjects 0, 1, 2 and 15 are enrolled.
 // Handed back: the monitor in which subject 0 owns object 0, unlabelled, and has r, w, a and e on it.
-pub fn subjects(fresh: Monitor) -> Monitor {
+pub fn subjects(fresh: Monitor) -> Monitor
+    ensures { λ r. ⌜ r ≡ left 5 0 0 0 4 fresh ⌝ }
+{
     create(fresh, 15, 0, 0); // 0: enrolled, and the object is not live
     create(fresh, 16, 0, 0); // 2: an actor above 15
     create(fresh, 14, 0, 0); // 3: well formed, but not enrolled
@@ -58,23 +64,30 @@ pub fn lengths(fresh: Monitor) {
 }
 
 // Kinds 0 and 8 beside the first and the last kind, where subject 0 owns object 0, which has no label. The numbers of a request are
-// kind, actor, other subject, object, mode, class, needs, spare.
+// kind, actor, other subject, object, mode.
 // Handed back: the monitor in which object 0 has class 0 and no needs.
-pub fn kinds(one: Monitor) -> Monitor {
-    ask(one, 0, 0, 0, 0, 1, 0, 0, 0); // 2: no such kind; the mode is one of a get
-    ask(one, 1, 0, 0, 0, 1, 0, 0, 0); // 7: the right r is there, and no label
-    let labelled = ask(one, 7, 0, 0, 0, 0, 0, 0, 0); // 0: no label differs from class 0 without needs; nothing is held
-    ask(one, 8, 0, 0, 0, 0, 0, 0, 0); // 2: no such kind; the mode is that of a change of level
+pub fn kinds(one: Monitor) -> Monitor
+    ensures { λ r. ⌜ r ≡ left 7 0 0 0 0 one ⌝ }
+{
+    ask_plain(one, 0, 0, 0, 0, 1); // 2: no such kind; the mode is one of a get
+    ask_plain(one, 1, 0, 0, 0, 1); // 7: the right r is there, and no label
+    let labelled = ask_plain(one, 7, 0, 0, 0, 0); // 0: no label differs from class 0 without needs; nothing is held
+    ask_plain(one, 8, 0, 0, 0, 0); // 2: no such kind; the mode is that of a change of level
     labelled
 }
 
 // Each field that a get does not use with its lowest bit set, and then the same get without them. Subject 0, cleared for class 1 and
 // need 0, has r on object 0, which has class 0 and no needs.
-// Handed back: the monitor in which subject 0 holds r on object 0.
-pub fn unused(labelled: Monitor) -> Monitor {
-    ask(labelled, 1, 0, 1, 0, 1, 0, 0, 0); // 2: the other subject
-    ask(labelled, 1, 0, 0, 0, 1, 1, 0, 0); // 2: the class
-    ask(labelled, 1, 0, 0, 0, 1, 0, 1, 0); // 2: the needs
-    ask(labelled, 1, 0, 0, 0, 1, 0, 0, 1); // 2: spare
-    ask(labelled, 1, 0, 0, 0, 1, 0, 0, 0) // 0: right and label are there, the clearance dominates, nothing else is held
+pub fn unused(labelled: Monitor) {
+    ask_plain(labelled, 1, 0, 1, 0, 1); // 2: the other subject
+    let mut with_class = without_level(1, 0, 0, 0, 1);
+    with_class.class = 1;
+    ask(labelled, with_class); // 2: the class
+    let mut with_needs = without_level(1, 0, 0, 0, 1);
+    with_needs.needs = 1;
+    ask(labelled, with_needs); // 2: the needs
+    let mut with_spare = without_level(1, 0, 0, 0, 1);
+    with_spare.spare = 1;
+    ask(labelled, with_spare); // 2: spare
+    get(labelled, 0, 0, 1); // 0: right and label are there, the clearance dominates, nothing else is held
 }

@@ -15,7 +15,10 @@ fn reading(fresh: Monitor) -> Monitor {
 }
 
 fn main() {
-    let state = reading(beginnings::tables());
+    beginnings::tables();
+    let table = saying::enrolment();
+    let begun = image::read_table(&table[0..42]);
+    let state = reading(begun.monitor);
     beginnings::images(state);
     buffers::buffers(state);
 }

@@ -11,8 +11,7 @@ use lib.Seq.{take-at, drop-at}
 use Rattle.bits.specs.Bits.{toBits, bitsToBytes}
 use Rattle.bits.specs.Laws.{length-toBits, toBits-split, toBits-join, toBits-mod, fromBits-toBits-mod}
 use Rattle.model.specs.declared.Fields.{Fields}
-use Rattle.model.specs.declared.Request.{Request}
-use Rattle.model.specs.Requests.{fieldsOf, pack, encode}
+use Rattle.model.specs.Requests.{pack}
 use Rattle.encoding.specs.Word.{behind, wordOf, wordBytes}
 
 word-bytes : (n word : ℕ) → bitsToBytes n (toBits (8 * n) word) ≡ wordBytes n word
@@ -46,6 +45,6 @@ word-bits f =
     (more-bits 14 7 _ (f .object) _ (more-bits 9 5 _ (f .other) _ (more-bits 4 5 _ (f .actor) _ (toBits-mod 4 (f .kind))))))))
     ∙ simp append-assoc)
 
--- the six bytes of the fields of a request
-pub word-encode : (q : Request) → wordBytes 6 (wordOf (fieldsOf q)) ≡ encode q
-word-encode q = sym (word-bytes 6 (wordOf (fieldsOf q))) ∙ word-bits (fieldsOf q)
+-- the six bytes of the fields
+pub word-pack : (f : Fields) → wordBytes 6 (wordOf f) ≡ pack f
+word-pack f = sym (word-bytes 6 (wordOf f)) ∙ word-bits f

@@ -1,6 +1,6 @@
 // The six bytes of a request.
 ghost use mathlib.Core.Path.{_≡_};
-ghost use Rattle.model.specs.Requests.{modeNumber, fieldsOf, encode};
+ghost use Rattle.model.specs.Requests.{modeNumber, fieldsOf, pack, encode};
 ghost use Rattle.encoding.specs.Word.{withoutLevel, wordOf, wordBytes};
 use model::Fields;
 use model::Mode;
@@ -18,7 +18,7 @@ fn mode_number(x: Mode) -> u8
 }
 
 // The fields of a request without a level.
-fn without_level(kind: u8, actor: u8, other: u8, object: u8, mode: u8) -> Fields
+pub fn without_level(kind: u8, actor: u8, other: u8, object: u8, mode: u8) -> Fields
     ensures { λ r. ⌜ r ≡ withoutLevel kind actor other object mode ⌝ }
 {
     Fields {
@@ -88,9 +88,16 @@ fn bytes_of(word: u64) -> [u8; 6]
     ]
 }
 
-// The bytes that say the request; of a subject, an object or a class that is out of range the low bits count.
+// The bytes of the fields, also of such as no request has; each field keeps as many of its low bits as it has room for.
+pub fn pack(f: Fields) -> [u8; 6]
+    ensures { λ r. ⌜ r ≡ pack f ⌝ }
+{
+    bytes_of(word_of(f))
+}
+
+// The bytes that say the request.
 pub fn encode(q: Request) -> [u8; 6]
     ensures { λ r. ⌜ r ≡ encode q ⌝ }
 {
-    bytes_of(word_of(fields_of(q)))
+    pack(fields_of(q))
 }

@@ -1,4 +1,6 @@
 // The parts of a line that the programs over the scope's edges print, and the table that they begin with.
+ghost use mathlib.Core.Path.{_≡_};
+ghost use Rattle.saying.specs.Enrolment.{enrolled};
 use model::Decision;
 use model::Monitor;
 use model::Response;
@@ -34,7 +36,9 @@ pub fn answer(d: Decision) {
 }
 
 // The same for the answer to a request or to a beginning; its monitor is handed back.
-pub fn answered(r: Response) -> Monitor {
+pub fn answered(r: Response) -> Monitor
+    ensures { λ m. ⌜ m ≡ r .monitor ⌝ }
+{
     let d = r.decision;
     answer(d);
     r.monitor
@@ -42,7 +46,9 @@ pub fn answered(r: Response) -> Monitor {
 
 // A table in which subject 0 has (1, 0001), subject 1 (3, 0003), subject 2 (0, 0000), as in table W, and subject 15 (15, FFFF); zeros
 // behind it. Subject 15's record is bits 315 to 335: enrolled weighs 16 in byte 39, the class is the rest of that byte, then the needs.
-pub fn enrolment() -> [u8; 1275] {
+pub fn enrolment() -> [u8; 1275]
+    ensures { λ r. ⌜ r ≡ enrolled ⌝ }
+{
     let mut bytes = [0u8; 1275];
     bytes[0] = 0x88;
     bytes[2] = 0x0c;

@@ -1,8 +1,7 @@
--- The fields, their number and its bytes.
+-- The bytes of a request are those of its fields.
 -- Assumes nothing.
 use mathlib.Core.Path.{ap, _∙_}
-use Rattle.encoding.specs.Word.{wordOf, wordBytes}
-use Rattle.encoding.proofs.Word.{word-encode}
+use Rattle.model.specs.Requests.{pack}
 use borrow.Author.Needs.{needs}
 use Rattle.encoding.proofs.encode.Statement.{statement}
 use Rattle.encoding.proofs.encode.Tie as tie
@@ -10,14 +9,11 @@ use Rattle.encoding.proofs.encode.Tie as tie
 fields-of-requires : tie.Need-fields-of-requires
 fields-of-requires c κs = search needs
 
-word-of-requires : tie.Need-word-of-requires
-word-of-requires c κs = search needs
-
-bytes-of-requires : tie.Need-bytes-of-requires
-bytes-of-requires c κs = search needs
+pack-requires : tie.Need-pack-requires
+pack-requires c κs = search needs
 
 returns : tie.Need-returns
-returns c = c .bytes-of .ensures ∙ ap (wordBytes 6) (c .before .word-of .ensures ∙ ap wordOf (c .before .before .fields-of .ensures)) ∙ word-encode (c .before .before .before .args .q)
+returns c = c .pack .ensures ∙ ap pack (c .before .fields-of .ensures)
 
 pub encode-spec : {M : Type 1} → statement M
-encode-spec = tie.close (tie.spec fields-of-requires word-of-requires bytes-of-requires returns)
+encode-spec = tie.close (tie.spec fields-of-requires pack-requires returns)

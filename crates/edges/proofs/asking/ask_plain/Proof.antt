@@ -1,0 +1,24 @@
+-- The fields are those of the definition.
+-- Assumes nothing.
+use mathlib.Core.Path.{ap, _∙_}
+use Rattle.model.specs.declared.Fields.{Fields}
+use Rattle.model.specs.declared.Response.{Response}
+use Rattle.model.specs.Requests.{pack}
+use Rattle.model.specs.Runs.{respond}
+use Rattle.edges.specs.Asking.{left}
+use borrow.Author.Needs.{needs}
+use Rattle.edges.proofs.asking.ask_plain.Statement.{statement}
+use Rattle.edges.proofs.asking.ask_plain.Tie as tie
+
+without-level-requires : tie.Need-without-level-requires
+without-level-requires c κs = search needs
+
+ask-requires : tie.Need-ask-requires
+ask-requires c κs = search needs
+
+returns : tie.Need-returns
+unfolding left
+returns c = c .ask .ensures ∙ ap (λ (f : Fields). respond (pack f) (c .before .before .args .m) .monitor) (c .before .without-level .ensures)
+
+pub ask-plain-spec : {M : Type 1} → statement M
+ask-plain-spec = tie.close (tie.spec without-level-requires ask-requires returns)

@@ -1,0 +1,2 @@
+-- The monitor that a request leaves.
+pub mod Asking

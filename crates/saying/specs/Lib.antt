@@ -1,0 +1,2 @@
+-- The table that the programs over the scope's edges begin with.
+pub mod Enrolment
