@@ -1,6 +1,6 @@
 // Reads a table and requests from standard input and prints one line for each request; all of it is in `replay`.
 fn main() {
-    let mut input = [0u8; 24618];
+    let mut input = replay::input_room();
     let n = io::read_full(0, &mut input);
     let printed = replay::program(&input[..n]);
     let bytes = printed.bytes;

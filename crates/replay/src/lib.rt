@@ -4,7 +4,9 @@ ghost use mathlib.Core.List.{map};
 ghost use Prim.Native.Nat.{_+_, _*_, _≤_, _<_};
 ghost use lib.ListN.{length, take, replicate};
 ghost use Rattle.bits.specs.Bits.{join};
-ghost use Rattle.model.specs.Program.{line, program};
+ghost use Rattle.model.specs.Requests.{requestSize};
+ghost use Rattle.model.specs.Layout.{tableSize};
+ghost use Rattle.model.specs.Program.{mostRequests, line, program};
 ghost use Rattle.replay.specs.Lines.{put};
 ghost use Rattle.replay.specs.Replay.{replayAnswer, replayed};
 use bits::smaller;
@@ -63,6 +65,16 @@ fn put_lines(out: &mut [u8], numbers: &[u8], count: usize) -> usize
         i += 1;
     }
     at
+}
+
+// All that the program reads: a table and 4,096 requests of six bytes.
+pub const INPUT_BYTES: usize = 24618;
+
+// Room for it, each byte 0.
+pub fn input_room() -> [u8; INPUT_BYTES]
+    ensures { λ r. ⌜ r ≡ replicate (tableSize + requestSize * mostRequests) 0 ⌝ }
+{
+    [0u8; INPUT_BYTES]
 }
 
 // What the program prints: the first len bytes.

@@ -9,11 +9,9 @@ use Rattle.replay.proofs.Putting.{length-put}
 use borrow.Author.Needs.{needs}
 use Rattle.circmon.proofs.main.Statement.{statement}
 use Rattle.circmon.proofs.main.Tie as tie
-use Rattle.circmon.proofs.main.Reads as reads
-use Rattle.circmon.proofs.main.Lts as lts
-use Rattle.io.proofs.read_full.Reads as read-full-reads
-use Rattle.io.proofs.write_all.Reads as write-all-reads
-use Rattle.replay.proofs.program.Reads as program-reads
+
+input-room-requires : tie.Need-input-room-requires
+input-room-requires c κs = search needs
 
 slice-aggregate-read-full : tie.Need-slice-aggregate-read-full
 slice-aggregate-read-full c = search needs
@@ -52,6 +50,7 @@ pub main-spec : {M : Type 1} → statement M
 main-spec =
     tie.close
     (tie.spec
+    input-room-requires
     slice-aggregate-read-full
     read-full-requires
     array-share-prefix-input
