@@ -22,7 +22,8 @@ use Rattle.model.specs.Beginnings.{Beginning, table, image, begun, Accepted, Al
 use Rattle.model.proofs.Tests.{cond-false}
 use Rattle.security.specs.Inputs.{SixEach}
 use Rattle.security.specs.Distinguish.{distinguish}
-use Rattle.security.proofs.Steps.{Sound, sound-respond, sound-after}
+use Rattle.security.specs.Sound.{Sound}
+use Rattle.security.proofs.Steps.{sound-respond, sound-after}
 use Rattle.security.proofs.Trips.{image-tells}
 use Rattle.security.proofs.Demand3.{sound-begun, same-replies}
 use Rattle.security.proofs.RoundTrips.{image-length, write-0-fills, image-reads}

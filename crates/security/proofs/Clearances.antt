@@ -31,9 +31,11 @@ use Rattle.model.proofs.Levels.{level-refl, level-antisym}
 use Rattle.security.specs.Distinguish.{freeBelow, readAt, toClearance, byClearance}
 use Rattle.security.proofs.Form.{no-modes}
 use Rattle.security.proofs.Secure.{none-held, simple-in, star-all-in, star-less, less-idle, star-for}
-use Rattle.security.proofs.Steps.{Sound, step-granted, sound-afterwards}
+use Rattle.security.specs.Sound.{Sound}
+use Rattle.security.proofs.Steps.{step-granted, sound-afterwards}
 use Rattle.security.proofs.Objects.{tells-refusal, delete-granted}
-use Rattle.security.proofs.Probes.{AllInRange, Differs, differs-sym, differs-first, differs-later, Probe, alike, apart}
+use Rattle.security.specs.Inputs.{AllInRange}
+use Rattle.security.proofs.Probes.{Differs, differs-sym, differs-first, differs-later, Probe, alike, apart}
 
 -- the state that a granted request leaves
 left-by : (q : Request) (m : Monitor) → checks q m ≡ Granted → step q m .monitor ≡ afterwards q m

@@ -22,10 +22,12 @@ use Rattle.model.specs.Beginnings.{Beginning, table, image, begun, Accepted, le
 use Rattle.model.proofs.Tests.{split, cond-true, cond-false}
 use Rattle.model.proofs.Packing.{pack-bytes}
 use Rattle.security.specs.Distinguish.{search, byEnrolment, byObject, byClearance, distinguish}
-use Rattle.security.proofs.Steps.{Sound, sound-after}
+use Rattle.security.specs.Sound.{Sound}
+use Rattle.security.proofs.Steps.{sound-after}
 use Rattle.security.proofs.Images.{image-passed, table-sound}
 use Rattle.security.proofs.Trips.{image-tells}
-use Rattle.security.proofs.Probes.{AllInRange, Differs, Probe, alike, apart, probe-map, probe-or, probe-search}
+use Rattle.security.specs.Inputs.{AllInRange}
+use Rattle.security.proofs.Probes.{Differs, Probe, alike, apart, probe-map, probe-or, probe-search}
 use Rattle.security.proofs.ObjectProbes.{probe-enrolment, probe-object}
 use Rattle.security.proofs.Clearances.{probe-clearance}
 

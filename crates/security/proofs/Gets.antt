@@ -26,7 +26,8 @@ use Rattle.model.proofs.Levels.{dominates-decides}
 use Rattle.security.specs.Access.{withAccess}
 use Rattle.security.proofs.Form.{enrolled-below}
 use Rattle.security.proofs.Secure.{star-in, star-for}
-use Rattle.security.proofs.Steps.{Sound, sound-afterwards}
+use Rattle.security.specs.Sound.{Sound}
+use Rattle.security.proofs.Steps.{sound-afterwards}
 use Rattle.security.proofs.Replies.{reply-granted}
 
 -- a live object is one of the monitor's objects

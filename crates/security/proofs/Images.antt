@@ -19,7 +19,8 @@ use Rattle.model.proofs.Tests.{split, apart, clash, passed, pass, and-left, and
 use Rattle.security.specs.First.{AnswersFirst}
 use Rattle.security.specs.Causes.{Stray, StrayLabel, StrayInTable, StrayInObjects, AbsentActs, tableOrder, TableCause, imageOrder, ImageCause}
 use Rattle.security.proofs.First.{answers-end, answers-check}
-use Rattle.security.proofs.Steps.{Sound, sound-fresh}
+use Rattle.security.specs.Sound.{Sound}
+use Rattle.security.proofs.Steps.{sound-fresh}
 use Rattle.security.proofs.Shapes.{image-shape, table-shape, shape-of}
 use Rattle.security.proofs.StateTests.{formed-out, formed-in, absent-acts, none-acts, matrix-out, matrix-in, labelled-out, labelled-in, simple-all-out, simple-all-in, stars-out, stars-in}
 

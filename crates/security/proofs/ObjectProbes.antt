@@ -28,7 +28,7 @@ use Rattle.model.proofs.Tests as tests
 use Rattle.model.proofs.Modes.{modes-ext}
 use Rattle.model.proofs.Levels.{same-label, label-same}
 use Rattle.security.specs.Distinguish.{when, search, searchModes, byEnrolment, byLife, byOwner, toLabel, byLabel, byRight, byAccess, byObject}
-use Rattle.security.proofs.Steps.{Sound}
+use Rattle.security.specs.Sound.{Sound}
 use Rattle.security.proofs.Probes.{Probe, alike, probe-map, probe-or, probe-search, probe-modes, probe-when, probe-differ}
 use Rattle.security.proofs.Objects.{tells-enrolment, tells-life, tells-owner, tells-label, tells-right, tells-access}
 

@@ -31,7 +31,8 @@ use Rattle.model.proofs.Decisions.{number-inj}
 use Rattle.model.proofs.Modes.{has-none}
 use Rattle.model.proofs.Levels.{label-same}
 use Rattle.security.proofs.Secure.{object-secure, simple-in, star-all-in, star-for}
-use Rattle.security.proofs.Steps.{Sound, step-refused}
+use Rattle.security.specs.Sound.{Sound}
+use Rattle.security.proofs.Steps.{step-refused}
 use Rattle.security.proofs.Replies.{step-cases}
 
 -- ---- replies that differ

@@ -20,16 +20,13 @@ use Rattle.model.specs.Rules.{step}
 use Rattle.model.specs.Runs.{carryOut, respond, replies}
 use Rattle.model.proofs.Tests.{clash}
 use Rattle.model.proofs.Requests.{encode-decode}
+use Rattle.security.specs.Inputs.{AllInRange}
 use Rattle.security.specs.Distinguish.{orElse, search, searchModes, when, differ}
 
 -- the response to the bytes of a request in range
 pub respond-encode : (q : Request) (m : Monitor) → InRange q → respond (encode q) m ≡ step q m
 unfolding respond
 respond-encode q m r = ap (λ (d : Decoded). carryOut d m) (encode-decode q r)
-
-abbrev pub AllInRange : List Request → Type 0
-AllInRange [] = Unit {0}
-AllInRange (q ∷ qs) = InRange q × AllInRange qs
 
 -- the replies to a list of requests differ at some place
 unfoldable pub Differs : List Request → Monitor → Monitor → Type 0

@@ -32,7 +32,7 @@ use Rattle.security.specs.First.{AnswersFirst}
 use Rattle.security.specs.Causes.{NotIn, requestOrder, RequestCause, LabelMissing}
 use Rattle.security.proofs.First.{answers-end, answers-skip, answers-check}
 use Rattle.security.proofs.Secure.{simple-in, simple-out, star-in, star-for, star-of, star-get, star-all-in, star-all-out}
-use Rattle.security.proofs.Steps.{Sound}
+use Rattle.security.specs.Sound.{Sound}
 use Rattle.security.proofs.Gets.{simple-get-in, simple-get-out}
 
 -- ---- what each test says of its cause

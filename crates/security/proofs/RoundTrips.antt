@@ -22,7 +22,8 @@ use Rattle.model.specs.Writing.{tooShort, writing, written}
 use Rattle.model.specs.Beginnings.{image, table, Accepted, Reached}
 use Rattle.model.proofs.Tests.{split, cond-true, cond-false, le-or-lt}
 use Rattle.security.specs.Tables.{tableOf}
-use Rattle.security.proofs.Steps.{Sound, TableFits}
+use Rattle.security.specs.Sound.{Sound}
+use Rattle.security.specs.Tables.{TableFits}
 use Rattle.security.proofs.Trips.{image-read-back, image-accepted, image-bytes-back, table-accepted, table-read-back, table-bytes-back}
 use Rattle.security.proofs.Demand3.{sound-reached, fills}
 

@@ -18,7 +18,7 @@ use Rattle.model.specs.Layout.{tableSize}
 use Rattle.model.specs.Reading.{labelFrom, subjectFrom, rightsFrom, heldFrom, setsIn, liveFrom, objectFrom, tableRecords, objectRecords, tableFrom, objectsFrom, monitorFrom}
 use Rattle.model.proofs.Tests.{cond-all, map-all, clash}
 use Rattle.security.proofs.Form.{no-object-formed}
-use Rattle.security.proofs.Steps.{TableFits}
+use Rattle.security.specs.Tables.{TableFits}
 
 -- a record that is well formed, but for who is enrolled
 pub record ObjectShape (ob : Object) : Type 0 where

@@ -25,13 +25,10 @@ use Rattle.model.specs.Rules.{target, already, afterwards, checks, answer, step
 use Rattle.model.specs.Runs.{carryOut, respond, after}
 use Rattle.model.proofs.Tests.{set-all, replicate-at, cond-true, cond-false}
 use Rattle.model.proofs.Requests.{decode-range}
+use Rattle.security.specs.Sound.{Sound}
+use Rattle.security.specs.Tables.{TableFits}
 use Rattle.security.proofs.Form.{no-modes, no-object-formed, changed-formed}
 use Rattle.security.proofs.Secure.{SecureObject, object-secure, idle-secure, changed-secure, StarFor, star-of, star-idle, changed-star}
-
--- well formed and secure
-pub record Sound (m : Monitor) : Type 0 where
-  pub formed : WellFormed m
-  pub secure : Secure m
 
 -- ---- the two cases of a step
 
@@ -131,11 +128,6 @@ sound-after [] m S = S
 sound-after (b ∷ bs) m S = sound-after bs (respond b m .monitor) (sound-respond b m S)
 
 -- ---- a fresh monitor
-
--- a table with sixteen clearances that fit
-pub record TableFits (l : List Subject) : Type 0 where
-  pub subjects-length : length l ≡ 16
-  pub clearances-fit : (s : ℕ) → LabelFits (clearanceAt l s)
 
 pub sound-fresh : (l : List Subject) → TableFits l → Sound (fresh l)
 sound-fresh l t =

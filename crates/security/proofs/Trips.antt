@@ -21,7 +21,8 @@ use Rattle.model.specs.Reading.{labelForm, subjectFrom, objectFrom, objectForm,
 use Rattle.model.proofs.Tests.{pass, passed, and-both, and-left, and-right, all-at, all-map-at}
 use Rattle.model.proofs.Records.{label-length, label-read, label-form, label-back, object-length, object-read, object-form, object-back}
 use Rattle.security.specs.Tables.{tableOf}
-use Rattle.security.proofs.Steps.{Sound, TableFits}
+use Rattle.security.specs.Sound.{Sound}
+use Rattle.security.specs.Tables.{TableFits}
 use Rattle.security.proofs.Images.{state-passes, image-passed}
 
 -- ---- a table

@@ -1,6 +1,7 @@
 -- What the theorems speak of, beside the definitions of `model`.
 pub mod First
 pub mod Causes
+pub mod Sound
 pub mod Access
 pub mod Effects
 pub mod Tables
