@@ -10,9 +10,9 @@ use lib.Seq.{sets, sets-eq}
 use Rattle.bits.specs.Bits.{join}
 use Rattle.bits.specs.Laws.{length-bitsToBytes}
 use Rattle.model.specs.declared.Request.{Request}
-use Rattle.model.specs.Requests.{pack, encode}
+use Rattle.model.specs.Requests.{fieldsOf, pack, encode}
 use Rattle.encoding.specs.Word.{wordBytes}
-use Rattle.encoding.proofs.Word.{word-encode}
+use Rattle.encoding.proofs.Word.{word-pack}
 use Rattle.distinguish.specs.Telling.{bytesOf}
 
 -- six bytes, stored one by one
@@ -31,7 +31,7 @@ stores-word l at w =
     rw (one, two, three, four, five)
 
 pub stored-request : (q : Request) (l b : List ℕ) (at : ℕ) → b ≡ encode q → sixStores l at b ≡ sets l at (encode q)
-stored-request q l b at e = let w = e ∙ sym (word-encode q) in ap (sixStores l at) w ∙ stores-word l at _ ∙ ap (sets l at) (word-encode q)
+stored-request q l b at e = let w = e ∙ sym (word-pack (fieldsOf q)) in ap (sixStores l at) w ∙ stores-word l at _ ∙ ap (sets l at) (word-pack (fieldsOf q))
 
 pub length-encode : (q : Request) → length (encode q) ≡ 6
 unfolding pack
