@@ -33,6 +33,10 @@ module _ (u : Rows) (o : ℕ) (h : o < 64) where
   unfolding objectOf
   read-rights s = ap (λ (x : Object). rightsOf x s) read-object
 
+  pub read-held-row : rowAt u (heldRow o) ≡ object (stateIn u) o .held
+  unfolding objectOf
+  read-held-row = ap (λ (x : Object). x .held) read-object
+
   pub read-held : (s : ℕ) → byteAt (rowAt u (heldRow o)) s ≡ heldBy (object (stateIn u) o) s
   unfolding objectOf
   read-held s = ap (λ (x : Object). heldBy x s) read-object

@@ -5,6 +5,7 @@ mod whole;
 
 pub use parts::clearance_of;
 pub use parts::held_by;
+pub use parts::held_row;
 pub use parts::is_enrolled;
 pub use parts::is_live;
 pub use parts::is_owner;
@@ -16,8 +17,6 @@ pub use parts::set_label;
 pub use parts::set_rest;
 pub use parts::set_rights;
 pub use parts::set_rows;
-pub use rows::HELD;
-pub use rows::REST;
 pub use rows::ROWS;
 pub use rows::flag;
 pub use rows::label_in;

@@ -79,6 +79,15 @@ pub fn held_by(unit: &[[u8; 16]], o: u8, s: u8) -> u8
     unit[i][j]
 }
 
+// The accesses of all subjects at an object.
+pub fn held_row(unit: &[[u8; 16]], o: u8) -> [u8; 16]
+    requires { do ⌜ (← ⟦unit.len()⟧) ≡ rowCount ⌝ }
+    requires { ⌜ o < objectCount ⌝ }
+    ensures { λ r. ⌜ r ≡ object (stateIn (now (unit .entry))) o .held ⌝ }
+{
+    unit[HELD + o as usize]
+}
+
 pub fn set_rights(unit: &mut [[u8; 16]], o: u8, s: u8, n: u8)
     requires { do ⌜ (← ⟦unit.len()⟧) ≡ rowCount ⌝ }
     requires { ⌜ (o < objectCount) × (s < subjectCount) ⌝ }
