@@ -27,10 +27,10 @@ pub fn open(unit: &mut [[u8; 16]], image: &[u8]) -> Decision
     requires { do ⌜ (← ⟦unit.len()⟧) ≡ rowCount ⌝ }
     ensures { λ r. ⌜ (r ≡ readImage (now (image .entry)) .decision) × (now (unit .exit) ≡ unitOf (readImage (now (image .entry)) .monitor)) ⌝ }
 {
-    let begun = read_image(image);
-    let monitor = begun.monitor;
+    let read = read_image(image);
+    let monitor = read.monitor;
     fill(unit, monitor);
-    begun.decision
+    read.decision
 }
 
 // The image of the state into the buffer.

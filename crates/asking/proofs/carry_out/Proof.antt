@@ -47,7 +47,7 @@ enum-known-q-7 : tie.Need-enum-known-q-7
 enum-known-q-7 c = search needs
 
 change-level-requires : tie.Need-change-level-requires
-change-level-requires c κs = 
+change-level-requires c κs =
     let r = subst InRange (c .before .before .q7 .given .1) (c .before .before .before .before .pre .1) in
     (c .before .before .before .before .pre .0, (r .0, r .1))
 
