@@ -54,7 +54,8 @@ pub fn get(unit: &mut [[u8; 16]], s: u8, o: u8, x: Mode) -> u8
         return number(d);
     }
     let had = held_by(unit, o, s);
-    set_held(unit, o, s, labels::add(x, had));
+    let new = labels::add(x, had);
+    set_held(unit, o, s, new);
     if needs_label(x) {
         let i = s as usize;
         if breaks_star(unit, i, i + 1) {
@@ -97,9 +98,10 @@ pub fn release(unit: &mut [[u8; 16]], s: u8, o: u8, x: Mode) -> u8
     if refuses(d) {
         return number(d);
     }
-    let had = held_by(unit, o, s);
-    set_held(unit, o, s, labels::remove(x, had));
-    flag(!has(x, had))
+    let held = held_by(unit, o, s);
+    let left = labels::remove(x, held);
+    set_held(unit, o, s, left);
+    flag(!has(x, held))
 }
 
 // 3: the other subject gains the right.
@@ -112,9 +114,10 @@ pub fn give(unit: &mut [[u8; 16]], s: u8, t: u8, o: u8, x: Mode) -> u8
     if refuses(d) {
         return number(d);
     }
-    let had = rights_of(unit, o, t);
-    set_rights(unit, o, t, labels::add(x, had));
-    flag(has(x, had))
+    let rights = rights_of(unit, o, t);
+    let new = labels::add(x, rights);
+    set_rights(unit, o, t, new);
+    flag(has(x, rights))
 }
 
 // 4: the other subject loses the right and the access.
@@ -129,8 +132,10 @@ pub fn rescind(unit: &mut [[u8; 16]], s: u8, t: u8, o: u8, x: Mode) -> u8
     }
     let rights = rights_of(unit, o, t);
     let held = held_by(unit, o, t);
-    set_rights(unit, o, t, labels::remove(x, rights));
-    set_held(unit, o, t, labels::remove(x, held));
+    let rights_left = labels::remove(x, rights);
+    let held_left = labels::remove(x, held);
+    set_rights(unit, o, t, rights_left);
+    set_held(unit, o, t, held_left);
     flag(!has(x, rights) & !has(x, held))
 }
 

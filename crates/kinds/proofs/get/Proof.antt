@@ -19,7 +19,7 @@ stored : (c : tie.After-set-held) → c .set-held .last .0 ≡ stores (Get (c .b
 unfolding stores
 stored c =
     let start = c .before .before .before .before .before .before .before .before .before in
-    c .set-held .ensures ∙ ap (setHeld (start .args .unit .now) (start .args .o) (start .args .s)) (c .before .add .ensures ∙ ap (add (start .args .x)) (c .before .before .before .held-by .ensures))
+    c .set-held .ensures ∙ ap (setHeld (start .args .unit .now) (start .args .o) (start .args .s)) (c .before .before .add .ensures ∙ ap (add (start .args .x)) (c .before .before .before .held-by .ensures))
 
 may-get-requires : tie.Need-may-get-requires
 may-get-requires c κs = search needs

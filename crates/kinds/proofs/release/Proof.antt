@@ -68,7 +68,7 @@ returns-2 c = let start = c .before .before .before .before .before .before .bef
     does-granted (Release (start .args .s) (start .args .o) (start .args .x)) (start .args .unit .now) _ _ (sym (checked (c .before .before .before .before .before .before .before .before .before .before))) _
     (sym (c .before .before .before .before .before .before .before .before .before .refuses .ensures) ∙ c .before .before .before .before .before .before .before .before .if1 .left)
     (not (c .before .has .result)) (ap not (c .before .has .ensures ∙ ap (has (start .args .x)) (c .before .before .before .before .before .before .held-by .ensures))) (c .flag .ensures)
-    (c .before .before .before .set-held .ensures ∙ ap (setHeld (start .args .unit .now) (start .args .o) (start .args .s)) (c .before .before .before .before .remove .ensures ∙ ap (remove (start .args .x)) (c .before .before .before .before .before .before .held-by .ensures)))
+    (c .before .before .before .set-held .ensures ∙ ap (setHeld (start .args .unit .now) (start .args .o) (start .args .s)) (c .before .before .before .before .before .remove .ensures ∙ ap (remove (start .args .x)) (c .before .before .before .before .before .before .held-by .ensures)))
 
 pub release-spec : {M : Type 1} → statement M
 release-spec =

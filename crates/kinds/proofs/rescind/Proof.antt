@@ -38,11 +38,11 @@ held-by-requires c κs = search needs
 remove-requires : tie.Need-remove-requires
 remove-requires c κs = search needs
 
-set-rights-requires : tie.Need-set-rights-requires
-set-rights-requires c κs = search needs
-
 remove-requires-2 : tie.Need-remove-requires-2
 remove-requires-2 c κs = search needs
+
+set-rights-requires : tie.Need-set-rights-requires
+set-rights-requires c κs = search needs
 
 set-held-requires : tie.Need-set-held-requires
 set-held-requires c κs = search needs
@@ -68,8 +68,8 @@ returns-2 c = let start = c .before .before .before .before .before .before .bef
     (ap₂ (λ a b. not a && not b) (c .before .before .has .ensures ∙ ap (has x) (c .before .before .before .before .before .before .before .before .before .before .before .before .before .rights-of .ensures)) (c .before .has2 .ensures ∙ ap (has x) (c .before .before .before .before .before .before .before .before .before .before .before .held-by .ensures))) (c .flag .ensures)
     (c .before .before .before .before .set-held .ensures
     ∙ ap₂ (λ w k. setHeld w (start .args .o) (start .args .t) k)
-    (c .before .before .before .before .before .before .before .before .set-rights .ensures ∙ ap (setRights (start .args .unit .now) (start .args .o) (start .args .t)) (c .before .before .before .before .before .before .before .before .before .remove .ensures ∙ ap (remove x) (c .before .before .before .before .before .before .before .before .before .before .before .before .before .rights-of .ensures)))
-    (c .before .before .before .before .before .remove2 .ensures ∙ ap (remove x) (c .before .before .before .before .before .before .before .before .before .before .before .held-by .ensures)))
+    (c .before .before .before .before .before .before .before .set-rights .ensures ∙ ap (setRights (start .args .unit .now) (start .args .o) (start .args .t)) (c .before .before .before .before .before .before .before .before .before .before .remove .ensures ∙ ap (remove x) (c .before .before .before .before .before .before .before .before .before .before .before .before .before .rights-of .ensures)))
+    (c .before .before .before .before .before .before .before .before .before .remove2 .ensures ∙ ap (remove x) (c .before .before .before .before .before .before .before .before .before .before .before .held-by .ensures)))
 
 pub rescind-spec : {M : Type 1} → statement M
 rescind-spec =
@@ -83,8 +83,8 @@ rescind-spec =
     rights-of-requires
     held-by-requires
     remove-requires
-    set-rights-requires
     remove-requires-2
+    set-rights-requires
     set-held-requires
     has-requires
     has-requires-2
