@@ -1,2 +1,3 @@
 -- The answers at the boundary.
 pub mod Boundary
+pub mod UnitRuns
