@@ -9,7 +9,7 @@ use Rattle.model.specs.declared.Decision.{Decision}
 use Rattle.model.specs.declared.Decision.the-variants.{Granted, Already, MalformedRequest, NotEnrolled, NotLive, AlreadyLive, NoRight, NoLabel, SimpleBroken, StarBroken, WrongLength, StrayBits, AbsentSubject, ShortBuffer}
 use Rattle.model.specs.declared.Response.{Response}
 use Rattle.model.specs.Decisions.{number, refuses}
-use Rattle.model.specs.Runs.{respond, reply}
+use Rattle.model.specs.Runs.{respond}
 use Rattle.model.specs.Reading.{readTable, readImage}
 use Rattle.model.specs.Writing.{writing, written}
 use Rattle.distinguish.specs.Telling.{toldNumber, toldBytes}

@@ -1,3 +1,4 @@
 -- What the functions for C and Rust return and leave.
 pub mod Boundary
 pub mod Calls
+pub mod UnitRuns

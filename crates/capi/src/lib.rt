@@ -1,4 +1,6 @@
 // The monitor for C and Rust, on byte slices: each passes as a pointer and a length. include/circmon.h says what each does.
+mod units;
+
 ghost use mathlib.Core.Path.{_≡_};
 ghost use lib.ListN.{length};
 ghost use Rattle.model.specs.Decisions.{number};

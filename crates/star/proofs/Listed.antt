@@ -12,23 +12,15 @@ use lib.Dec.{eqb}
 use borrow.Author.Tests.{eqb-true}
 use lib.Seq.{getD-set-same, getD-set-other}
 use Rattle.bits.specs.Bits.{bit}
-use Rattle.model.specs.declared.Label.{Label}
 use Rattle.model.specs.declared.Object.{Object}
 use Rattle.model.specs.Tests.{allBelow, allOf}
 use Rattle.model.specs.Levels.{dominates}
 use Rattle.model.specs.Modes.{anyObserves, anyAlters, anyNeedsLabel}
 use Rattle.model.specs.State.{heldBy}
 use Rattle.model.specs.Rules.{starFor, starFrom, starPair}
-use Rattle.model.proofs.Arrays.{blank}
-use Rattle.model.proofs.Tests.{split, apart, and-both, or-left, or-right, not-on, cond-all, implies-in, implies-out, below-out, all-at}
+use Rattle.model.proofs.Tests.{split, apart, and-both, or-left, or-right, not-on, cond-all, implies-in, implies-out, below-out, below-false, all-at}
 use Rattle.star.specs.Idle.{free, nothingHeld, idle}
-
--- q numbers were looked at, `from 0` the first; the first n numbers of a are those that pass f
-pub record Listed (f : ℕ → Bool) (from : ℕ → ℕ) (a : List ℕ) (n q : ℕ) : Type 0 where
-  pub whole : length a ≡ 64
-  pub few : n ≤ q
-  pub sound : (j : ℕ) → j < n → (getD a j 0 < 64) × (f (getD a j 0) ≡ true)
-  pub complete : (k : ℕ) → k < q → f (from k) ≡ true → (j : ℕ) × ((j < n) × (getD a j 0 ≡ from k))
+use Rattle.star.specs.Lists.{readBy, alteredBy, busyFor, Listed, itself, out-of, Numbers, Covers, labelAt, pairsKept}
 
 pub listed-none : (f : ℕ → Bool) (from : ℕ → ℕ) (a : List ℕ) → length a ≡ 64 → Listed f from a 0 0
 listed-none f from a e =
@@ -79,44 +71,29 @@ module _ (f : ℕ → Bool) (from : ℕ → ℕ) (a : List ℕ) (n q : ℕ) (h :
             (eq-or-lt-of-le {n = k} {m = q} (omega arith));
       })
 
--- of all 64 objects: by their own numbers, or out of a list that leaves out none that passes
-abbrev pub itself : ℕ → ℕ
-itself k = k
-
-abbrev pub out-of : List ℕ → ℕ → ℕ
-out-of a k = getD a k 0
-
-pub listed-all : (f g : ℕ → Bool) (b a : List ℕ) (n r : ℕ) → ((k : ℕ) → g k ≡ true → f k ≡ true) → Listed f itself b n 64 → Listed g (out-of b) a r n → Listed g itself a r 64
-listed-all f g b a n r w B A =
+-- out of a list that leaves out none of all 64 objects that passes
+pub listed-all : (g : ℕ → Bool) (b a : List ℕ) (n r : ℕ) → Numbers b n → ((k : ℕ) → k < 64 → g k ≡ true → (j : ℕ) × ((j < n) × (getD b j 0 ≡ k)))
+    → Listed g (out-of b) a r n → Listed g itself a r 64
+listed-all g b a n r N w A =
     record {
       whole = A .whole;
-      few = omega (arith, A .few, B .few);
+      few = omega (arith, A .few, N .few);
       sound = A .sound;
       complete = λ k h t.
-          let i = B .complete k h (w k t) in
+          let i = w k h t in
           let j = A .complete (i .0) (i .1 .0) (ap g (i .1 .1) ∙ t) in
           (j .0, (j .1 .0, j .1 .1 ∙ i .1 .1));
     }
+
+-- the numbers of a list
+pub listed-numbers : (f : ℕ → Bool) (from : ℕ → ℕ) (a : List ℕ) (n q : ℕ) → Listed f from a n q → q ≤ 64 → Numbers a n
+listed-numbers f from a n q L h = record { few = omega (arith, L .few); below = λ j w. L .sound j w .0 }
 
 pub bit-small : (b : Bool) → bit b ≤ 1
 bit-small true = omega arith
 bit-small false = omega arith
 
 -- ---- the star property by the objects that a subject reads and those that it alters
-
-abbrev pub readBy : ℕ → List Object → ℕ → Bool
-readBy s l k = anyObserves (heldBy (getD l k blank) s)
-
-abbrev pub alteredBy : ℕ → List Object → ℕ → Bool
-alteredBy s l k = anyAlters (heldBy (getD l k blank) s)
-
--- the objects that are not passed over
-abbrev pub busyFor : ℕ → ℕ → List Object → ℕ → Bool
-busyFor low end l k = not (idle (getD l k blank .held) low end)
-
--- the label of the object that is listed at j in one list, and at i in the other
-abbrev pub labelAt : List Object → List ℕ → ℕ → Label
-labelAt l a j = getD l (getD a j 0) blank .label
 
 -- an idle row has nothing of a subject that is asked about
 idle-free : (row : List ℕ) (low end s : ℕ) → low ≤ s → s < end → end ≤ 16 → idle row low end ≡ true → free row s ≡ true
@@ -127,45 +104,67 @@ idle-free row low end s g h w =
     (λ e t. below-out 16 (free row) t s (omega arith))
 
 -- what a subject reads or alters is not passed over
-module _ (low end : ℕ) (l : List Object) (s : ℕ) (g : low ≤ s) (h : s < end) (w : end ≤ 16) (k : ℕ) where
-  held-busy : anyNeedsLabel (heldBy (getD l k blank) s) ≡ true → busyFor low end l k ≡ true
-  held-busy t =
-      split (idle (getD l k blank .held) low end)
-      (λ e. apart t (not-on _ (idle-free (getD l k blank .held) low end s g h w e)))
+module _ (low end s : ℕ) (g : low ≤ s) (h : s < end) (w : end ≤ 16) (at : ℕ → Object) where
+  held-busy : (k : ℕ) → anyNeedsLabel (heldBy (at k) s) ≡ true → busyFor low end at k ≡ true
+  held-busy k t =
+      split (idle (at k .held) low end)
+      (λ e. apart t (not-on _ (idle-free (at k .held) low end s g h w e)))
       (λ e. ap not e)
 
-  pub read-busy : readBy s l k ≡ true → busyFor low end l k ≡ true
-  read-busy t = held-busy (or-left (readBy s l k) (alteredBy s l k) t)
-
-  pub altered-busy : alteredBy s l k ≡ true → busyFor low end l k ≡ true
-  altered-busy t = held-busy (or-right (readBy s l k) (alteredBy s l k) t)
+  pub busy-covers : (a : List ℕ) (n : ℕ) → Listed (busyFor low end at) itself a n 64 → Covers s at a n
+  busy-covers a n L =
+      record {
+        numbers = listed-numbers _ _ a n 64 L (omega arith);
+        reads = λ k b t. L .complete k b (held-busy k (or-left (readBy s at k) (alteredBy s at k) t));
+        alters = λ k b t. L .complete k b (held-busy k (or-right (readBy s at k) (alteredBy s at k) t));
+      }
 
 -- a test passes at each element, where it passes at each index below the length
 all-below : {A : Type 0} (f : A → Bool) (d : A) (l : List A) → ((k : ℕ) → k < length l → f (getD l k d) ≡ true) → allOf f l ≡ true
 all-below f d [] h = refl
 all-below f d (x ∷ xs) h = and-both (h zero (omega arith)) (all-below f d xs (λ k w. h (suc k) (omega arith)))
 
-module _ (s : ℕ) (l : List Object) (n : length l ≡ 64) (read altered : List ℕ) (r a : ℕ)
-    (R : Listed (readBy s l) itself read r 64) (A : Listed (alteredBy s l) itself altered a 64) where
+-- a pair that is not in order
+pub pair-apart : (at : ℕ → Object) (read : List ℕ) (r : ℕ) (altered : List ℕ) (a i : ℕ) → i < r → (j : ℕ) → j < a → dominates (labelAt at altered j) (labelAt at read i) ≡ false
+    → pairsKept at read r altered a ≡ false
+unfolding pairsKept
+pair-apart at read r altered a i hi j hj e =
+    split (pairsKept at read r altered a) (λ t. apart (below-out a _ (below-out r _ t i hi) j hj) e) (λ f. f)
+
+-- `at` has what the list of the objects has
+module _ (s : ℕ) (l : List Object) (n : length l ≡ 64) (d : Object) (at : ℕ → Object) (same : (k : ℕ) → k < 64 → getD l k d ≡ at k)
+    (read altered : List ℕ) (r a : ℕ) (R : Listed (readBy s at) itself read r 64) (A : Listed (alteredBy s at) itself altered a 64) where
   -- every listed pair is in order
-  pub star-listed : ((i : ℕ) → i < r → (j : ℕ) → j < a → dominates (labelAt l altered j) (labelAt l read i) ≡ true) → starFor s l ≡ true
+  pub star-listed : ((i : ℕ) → i < r → (j : ℕ) → j < a → dominates (labelAt at altered j) (labelAt at read i) ≡ true) → starFor s l ≡ true
   unfolding starFor starFrom starPair
   star-listed h =
-      all-below (starFrom s l) blank l
-      (λ p hp. implies-in _ _ (λ t. all-below (starPair s (getD l p blank)) blank l
+      all-below (starFrom s l) d l
+      (λ p hp. implies-in _ _ (λ t. all-below (starPair s (getD l p d)) d l
       (λ q hq. implies-in _ _ (λ u.
-      let i = R .complete p (omega arith) t in
-      let j = A .complete q (omega arith) u in
-      sym (ap₂ (λ (u v : ℕ). dominates (getD l v blank .label) (getD l u blank .label)) (i .1 .1) (j .1 .1)) ∙ h (i .0) (i .1 .0) (j .0) (j .1 .0)))))
+      let i = R .complete p (omega arith) (ap (λ (x : Object). anyObserves (heldBy x s)) (sym (same p (omega arith))) ∙ t) in
+      let j = A .complete q (omega arith) (ap (λ (x : Object). anyAlters (heldBy x s)) (sym (same q (omega arith))) ∙ u) in
+      ap₂ (λ (x y : Object). dominates (y .label) (x .label)) (same p (omega arith)) (same q (omega arith))
+      ∙ sym (ap₂ (λ (x y : ℕ). dominates (at y .label) (at x .label)) (i .1 .1) (j .1 .1)) ∙ h (i .0) (i .1 .0) (j .0) (j .1 .0)))))
 
   -- a listed pair that is not
-  pub star-unlisted : (i : ℕ) → i < r → (j : ℕ) → j < a → dominates (labelAt l altered j) (labelAt l read i) ≡ false → starFor s l ≡ false
+  pub star-unlisted : (i : ℕ) → i < r → (j : ℕ) → j < a → dominates (labelAt at altered j) (labelAt at read i) ≡ false → starFor s l ≡ false
   unfolding starFor starFrom starPair
   star-unlisted i hi j hj e =
       let p = R .sound i hi in
       let q = A .sound j hj in
+      let from = same (getD read i 0) (p .0) in
+      let to = same (getD altered j 0) (q .0) in
       split (starFor s l)
       (λ t. apart
-      (implies-out _ _ (all-at (starPair s (getD l (getD read i 0) blank)) blank l
-      (implies-out _ _ (all-at (starFrom s l) blank l t (getD read i 0) (omega (arith, p .0))) (p .1)) (getD altered j 0) (omega (arith, q .0))) (q .1)) e)
+      (implies-out _ _ (all-at (starPair s (getD l (getD read i 0) d)) d l
+      (implies-out _ _ (all-at (starFrom s l) d l t (getD read i 0) (omega (arith, p .0))) (ap (λ (x : Object). anyObserves (heldBy x s)) from ∙ p .1)) (getD altered j 0) (omega (arith, q .0)))
+      (ap (λ (x : Object). anyAlters (heldBy x s)) to ∙ q .1)) (ap₂ (λ (x y : Object). dominates (y .label) (x .label)) from to ∙ e))
       (λ f. f)
+
+  -- all pairs at once
+  pub star-pairs : starFor s l ≡ pairsKept at read r altered a
+  unfolding pairsKept
+  star-pairs =
+      split (pairsKept at read r altered a)
+      (λ t. star-listed (λ i hi. below-out a _ (below-out r _ t i hi)) ∙ sym t)
+      (λ f. below-false r _ f (λ i hi g. below-false a _ g (λ j hj e. star-unlisted i hi j hj e)) ∙ sym f)

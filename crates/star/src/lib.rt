@@ -1,10 +1,20 @@
 // The star property over all objects, and the simple property over all subjects.
+mod lists;
+
 ghost use mathlib.Core.Path.{_≡_};
 ghost use mathlib.Core.Bool.{not};
+ghost use Prim.Native.Nat.{_<_, _≤_};
 ghost use Rattle.bits.specs.Bits.{bit};
 ghost use Rattle.model.specs.Rules.{simpleAll};
 ghost use Rattle.star.specs.Between.{starBetween};
 ghost use Rattle.star.specs.Idle.{nothingHeld, idle};
+ghost use Rattle.model.specs.State.{subjectCount, objectCount, object, objectAt};
+ghost use Rattle.model.specs.Rules.{starFor};
+ghost use Rattle.unit.specs.Rows.{rowCount, subjectsIn, objectsIn, stateIn};
+ghost use Rattle.star.specs.Lists.{Covers};
+use crate::lists::list_busy;
+use crate::lists::list_held;
+use crate::lists::pair_offends;
 use bits::smaller;
 use labels::any_alters;
 use labels::any_needs_label;
@@ -14,6 +24,9 @@ use labels::implies;
 use model::Monitor;
 use model::Object;
 use model::Subject;
+use unit::clearance_of;
+use unit::held_by;
+use unit::label_of;
 
 fn one_if(b: bool) -> usize
     ensures { λ r. ⌜ r ≡ bit b ⌝ }
@@ -117,6 +130,56 @@ pub fn simple_kept(subjects: [Subject; 16], ob: Object) -> bool
             return false;
         }
         s += 1;
+    }
+    true
+}
+
+// Whether subject s breaks the star property: the objects that it reads and those that it alters are listed, and their pairs looked at.
+fn subject_breaks_star(unit: &[[u8; 16]], s: u8, busy: &[u8], count: usize) -> bool
+    requires { do ⌜ (← ⟦unit.len()⟧) ≡ rowCount ⌝ }
+    requires { do ⌜ (← ⟦busy.len()⟧) ≡ objectCount ⌝ }
+    requires { ⌜ (s < subjectCount) × Covers s (objectAt (objectsIn (now unit))) (now busy) count ⌝ }
+    ensures { λ r. ⌜ r ≡ not (starFor s (objectsIn (now (unit .entry)))) ⌝ }
+{
+    let mut read = [0u8; Monitor::OBJECTS];
+    let mut altered = [0u8; Monitor::OBJECTS];
+    let counts = list_held(unit, s, busy, count, &mut read, &mut altered);
+    pair_offends(unit, &read, counts.read, &altered, counts.altered)
+}
+
+// Whether a subject from low to below high breaks the star property. The objects that are not idle are listed once for all of them.
+pub fn breaks_star(unit: &[[u8; 16]], low: usize, high: usize) -> bool
+    requires { do ⌜ (← ⟦unit.len()⟧) ≡ rowCount ⌝ }
+    requires { ⌜ high ≤ subjectCount ⌝ }
+    ensures { λ r. ⌜ r ≡ not (starBetween low high (objectsIn (now (unit .entry)))) ⌝ }
+{
+    let mut busy = [0u8; Monitor::OBJECTS];
+    let count = list_busy(unit, low, high, &mut busy);
+    let mut s = low;
+    while s < high {
+        if subject_breaks_star(unit, s as u8, &busy, count) {
+            return true;
+        }
+        s += 1;
+    }
+    false
+}
+
+// Whether each subject that reads object o has a clearance that dominates its label.
+pub fn keeps_simple(unit: &[[u8; 16]], o: u8) -> bool
+    requires { do ⌜ (← ⟦unit.len()⟧) ≡ rowCount ⌝ }
+    requires { ⌜ o < objectCount ⌝ }
+    ensures { λ r. ⌜ r ≡ simpleAll (subjectsIn (now (unit .entry))) (object (stateIn (now (unit .entry))) o) ⌝ }
+{
+    let label = label_of(unit, o);
+    let mut i = 0usize;
+    while i < Monitor::SUBJECTS {
+        let s = i as u8;
+        let reads = any_observes(held_by(unit, o, s));
+        if !implies(reads, dominates(clearance_of(unit, s), label)) {
+            return false;
+        }
+        i += 1;
     }
     true
 }

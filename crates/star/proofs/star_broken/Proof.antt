@@ -6,6 +6,7 @@ use mathlib.Core.Path.{refl, sym, ap, _∙_}
 use mathlib.Core.Bool.{not}
 use borrow.Author.Count.{below-more}
 use Rattle.bits.specs.Bits.{bit}
+use Rattle.model.proofs.Arrays.{blank}
 use Rattle.model.proofs.Tests.{not-on, not-off}
 use Rattle.star.proofs.Listed.{listed-none, listed-more, bit-small, star-listed, star-unlisted}
 use Rattle.star.proofs.Between.{between-in, between-out}
@@ -197,7 +198,7 @@ subjects-again c =
       omega (arith, inv .0),
       two .1,
       below-more _ _ (inv .2)
-          (λ g. star-listed _ _ (objects-length (c .before .before .before .before .before .before .before .before .before)) _ _ _ _ (all-read listed) (all-altered listed) (λ i h. two .2 i (omega (arith, c .loop3-test .left, two .0)))),
+          (λ g. star-listed _ _ (objects-length (c .before .before .before .before .before .before .before .before .before)) blank _ (λ k w. refl) _ _ _ _ (all-read listed) (all-altered listed) (λ i h. two .2 i (omega (arith, c .loop3-test .left, two .0)))),
     )
 
 returns : tie.Need-returns B μB L μL Q μQ P μP S μS
@@ -217,7 +218,7 @@ returns-2 c =
     let start = c .before .before .before .before .before .before .before .before .before .before .before .before .before .before .before in
     sym (ap not (between-out (start .args .low) (start .args .high) _ (subject .subjects .s) (subject .subjects .inv .0)
     (omega (arith, c .before .before .before .before .before .before .before .before .before .before .subjects-test .taken, subject .before .before .before .smaller .ensures))
-    (star-unlisted _ _ (objects-length start) _ _ _ _ (all-read listed) (all-altered listed) (outer .before .loop3 .p) (outer .loop3-test .taken)
+    (star-unlisted _ _ (objects-length start) blank _ (λ k w. refl) _ _ _ _ (all-read listed) (all-altered listed) (outer .before .loop3 .p) (outer .loop3-test .taken)
     (inner .before .loop4 .q) (inner .loop4-test .taken) (sym (c .before .dominates .ensures) ∙ not-on _ (c .if1 .taken)))))
 
 pub star-broken-spec : {M : Type 1} → statement M

@@ -1,0 +1,2 @@
+-- The rows of a unit go on as the monitor does that they say.
+pub mod Lists

@@ -1,0 +1,29 @@
+-- The rows of a unit after a byte string and after a list of them, and the replies.
+-- Assumes nothing.
+use Prim.Native.Nat.{ℕ}
+use mathlib.Core.List.{List, [], _∷_}
+use Rattle.model.specs.declared.Decoded.{Decoded}
+use Rattle.model.specs.declared.Decoded.the-variants.{Malformed, Says}
+use Rattle.model.specs.Requests.{decode}
+use Rattle.model.specs.Runs.{reply}
+use Rattle.unit.specs.Rows.{Rows, stateIn}
+use Rattle.kinds.specs.Carried.{carried}
+
+-- what says nothing leaves every byte
+abbrev pub askedSaid : Decoded → Rows → Rows
+askedSaid Malformed u = u
+askedSaid (Says q) u = carried q u
+
+-- the rows after a byte string
+unfoldable pub asked : List ℕ → Rows → Rows
+asked b u = askedSaid (decode b) u
+
+-- "The first request gets the monitor just begun, each later one the monitor that the one before it left": the rows after a list
+unfoldable pub askedAll : List (List ℕ) → Rows → Rows
+askedAll [] u = u
+askedAll (b ∷ bs) u = askedAll bs (asked b u)
+
+-- the replies to it, each that of the monitor that the rows then say
+unfoldable pub repliesOf : List (List ℕ) → Rows → List ℕ
+repliesOf [] u = []
+repliesOf (b ∷ bs) u = reply b (stateIn u) ∷ repliesOf bs (asked b u)

@@ -1,0 +1,136 @@
+-- A unit that was started or opened, asked any list and saved: what it replies and what is saved are what the scope's definitions say.
+-- Assumes nothing.
+use Prim.Native.Nat.{ℕ, _≤_}
+use mathlib.Core.Path.{_≡_, refl, sym, ap, ap₂, _∙_, subst}
+use mathlib.Core.Logic.{_↔_, _≢_}
+use mathlib.Core.List.{List, [], map}
+use lib.ListN.{length, take, length-map}
+use Rattle.bits.specs.Records.{length-cut}
+use Rattle.model.specs.declared.Monitor.{Monitor}
+use Rattle.model.specs.declared.Request.{Request}
+use Rattle.model.specs.declared.Decision.{Decision}
+use Rattle.model.specs.declared.Decision.the-variants.{Granted}
+use Rattle.model.specs.declared.Response.{Response}
+use Rattle.model.specs.State.{fresh, emptyMonitor, WellFormed}
+use Rattle.model.specs.Properties.{Secure}
+use Rattle.model.specs.Decisions.{number, refuses}
+use Rattle.model.specs.Requests.{encode}
+use Rattle.model.specs.Runs.{after, replies}
+use Rattle.model.specs.Layout.{imageSize, imageOf}
+use Rattle.model.specs.Reading.{begin, tableFrom, objectsFrom, monitorFrom, tableChecks, imageChecks, readTable, readImage}
+use Rattle.model.specs.Writing.{writing, written}
+use Rattle.model.specs.Beginnings.{Beginning, table, image, begun, Accepted, left, AllBytes}
+use Rattle.model.proofs.Tests.{cond-all}
+use Rattle.security.specs.Distinguish.{distinguish}
+use Rattle.security.proofs.Demand2.{always-secure}
+use Rattle.security.proofs.Demand3.{sound-left, fills, distinguishes, distinguishes-not, demand-3}
+use Rattle.security.proofs.RoundTrips.{read-written}
+use Rattle.unit.specs.Rows.{rowCount, stateIn}
+use Rattle.unit.proofs.Units.{unit-length, unit-says}
+use Rattle.asking.specs.Asked.{repliesOf}
+use Rattle.asking.proofs.Lists.{all-length, all-state, all-replies}
+use Rattle.capi.specs.UnitRuns.{begunUnit, unitAfter, saved}
+
+-- ---- beginnings, refused ones too
+
+record Sized (m : Monitor) : Type 0 where
+  subjects : length (m .subjects) ≡ 16
+  objects : length (m .objects) ≡ 64
+
+begin-sized : (d : Decision) (m : Monitor) → Sized m → Sized (begin d m .monitor)
+unfolding begin
+begin-sized d m z = cond-all Sized (refuses d) emptyMonitor m (λ e. record { subjects = refl; objects = refl }) (λ e. z)
+
+begun-sized : (b : Beginning) → Sized (begun b .monitor)
+unfolding readTable readImage monitorFrom tableFrom objectsFrom
+begun-sized (table b) = begin-sized (tableChecks b) (fresh (tableFrom b)) (record { subjects = simp (length-map, length-cut); objects = refl })
+begun-sized (image b) = begin-sized (imageChecks b) (monitorFrom b) (record { subjects = simp (length-map, length-cut); objects = simp (length-map, length-cut) })
+
+-- ---- started or opened, asked, saved
+
+module _ (b : Beginning) where
+  -- the unit says the monitor that the reader returns, the empty one where it refuses
+  pub begun-says : stateIn (begunUnit b) ≡ begun b .monitor
+  begun-says = unit-says (begun b .monitor) (begun-sized b .subjects) (begun-sized b .objects)
+
+  begun-length : length (begunUnit b) ≡ rowCount
+  begun-length = unit-length (begun b .monitor)
+
+  -- asked any list, it replies as the monitor does
+  pub unit-replies : (bs : List (List ℕ)) → repliesOf bs (begunUnit b) ≡ replies bs (begun b .monitor)
+  unit-replies bs = all-replies bs (begunUnit b) begun-length ∙ ap (replies bs) begun-says
+
+  module _ (bs : List (List ℕ)) where
+    -- and then says the state after the list
+    pub after-says : stateIn (unitAfter b bs) ≡ left b bs
+    after-says = all-state bs (begunUnit b) begun-length ∙ ap (after bs) begun-says
+
+    -- a further list draws the replies of that state
+    pub further-replies : (further : List (List ℕ)) → repliesOf further (unitAfter b bs) ≡ replies further (left b bs)
+    further-replies further = all-replies further (unitAfter b bs) (all-length bs (begunUnit b) ∙ begun-length) ∙ ap (replies further) after-says
+
+    -- saved, every byte of the buffer is what writing that state leaves
+    pub unit-saved : (buffer : List ℕ) → saved (unitAfter b bs) buffer ≡ written (left b bs) buffer
+    unit-saved buffer = ap (λ (m : Monitor). written m buffer) after-says
+
+    -- begun with 0, the state is well formed and secure
+    pub unit-secure : Accepted b → WellFormed (stateIn (unitAfter b bs)) × Secure (stateIn (unitAfter b bs))
+    unit-secure e = subst (λ (m : Monitor). WellFormed m × Secure m) (sym after-says) (always-secure b e bs)
+
+    -- what was saved is accepted, and opened it is that state
+    pub saved-opens : Accepted b → (buffer : List ℕ) → number (writing buffer) ≡ 0
+        → readImage (take imageSize (saved (unitAfter b bs) buffer)) ≡ record { decision = Granted; monitor = stateIn (unitAfter b bs) }
+    saved-opens e buffer w =
+        ap (λ (l : List ℕ). readImage (take imageSize l)) (unit-saved buffer)
+        ∙ read-written (left b bs) (record { beginning = b; accepted = e; requests = bs; reaches = refl }) buffer w
+        ∙ ap (λ (m : Monitor). record { decision = Granted; monitor = m }) (sym after-says)
+
+-- ---- two units
+
+module _ (b c : Beginning) (e : Accepted b) (f : Accepted c) (qs rs : List (List ℕ)) (buffer other : List ℕ) (v : number (writing buffer) ≡ 0) (w : number (writing other) ≡ 0) where
+  -- demand 3: the images saved are equal in every byte exactly when every further list draws the same replies from both units
+  pub unit-demand-3 :
+      (take imageSize (saved (unitAfter b qs) buffer) ≡ take imageSize (saved (unitAfter c rs) other))
+      ↔ ((further : List (List ℕ)) → AllBytes further → repliesOf further (unitAfter b qs) ≡ repliesOf further (unitAfter c rs))
+  unit-demand-3 =
+      let D = demand-3 b c e f qs rs buffer other v w in (
+        λ p further g.
+            further-replies b qs further
+            ∙ D .0 (ap (take imageSize) (sym (unit-saved b qs buffer)) ∙ p ∙ ap (take imageSize) (unit-saved c rs other)) further g
+            ∙ sym (further-replies c rs further),
+        λ h.
+            ap (take imageSize) (unit-saved b qs buffer)
+            ∙ D .1 (λ further g. sym (further-replies b qs further) ∙ h further g ∙ further-replies c rs further)
+            ∙ ap (take imageSize) (sym (unit-saved c rs other)),
+      )
+
+  -- the requests that `circmon_distinguish` gives for the two images saved
+  told : List Request
+  told = distinguish (readImage (take imageSize (saved (unitAfter b qs) buffer)) .monitor) (readImage (take imageSize (saved (unitAfter c rs) other)) .monitor)
+
+  told-of : told ≡ distinguish (left b qs) (left c rs)
+  unfolding told
+  told-of =
+      ap₂ distinguish (ap (λ (r : Response). r .monitor) (saved-opens b qs e buffer v) ∙ after-says b qs) (ap (λ (r : Response). r .monitor) (saved-opens c rs f other w) ∙ after-says c rs)
+
+  -- none where these are equal
+  pub same-units-told : take imageSize (saved (unitAfter b qs) buffer) ≡ take imageSize (saved (unitAfter c rs) other)
+      → distinguish (readImage (take imageSize (saved (unitAfter b qs) buffer)) .monitor) (readImage (take imageSize (saved (unitAfter c rs) other)) .monitor) ≡ []
+  unfolding told
+  same-units-told p =
+      told-of ∙ distinguishes-not (left b qs) (left c rs) (sound-left b e qs) (sound-left c f rs)
+      (sym (ap (λ (r : Response). r .monitor) (saved-opens b qs e buffer v) ∙ after-says b qs) ∙ ap (λ l. readImage l .monitor) p ∙ ap (λ (r : Response). r .monitor) (saved-opens c rs f other w) ∙ after-says c rs)
+
+  -- at most four where they differ, and the two units reply differently to them
+  pub different-units-told : (take imageSize (saved (unitAfter b qs) buffer) ≢ take imageSize (saved (unitAfter c rs) other))
+      → (length (distinguish (readImage (take imageSize (saved (unitAfter b qs) buffer)) .monitor) (readImage (take imageSize (saved (unitAfter c rs) other)) .monitor)) ≤ 4)
+      × (repliesOf (map encode (distinguish (readImage (take imageSize (saved (unitAfter b qs) buffer)) .monitor) (readImage (take imageSize (saved (unitAfter c rs) other)) .monitor))) (unitAfter b qs)
+      ≢ repliesOf (map encode (distinguish (readImage (take imageSize (saved (unitAfter b qs) buffer)) .monitor) (readImage (take imageSize (saved (unitAfter c rs) other)) .monitor))) (unitAfter c rs))
+  unfolding told
+  different-units-told h =
+      let m = left b qs in
+      let n = left c rs in
+      let apart : m ≢ n = λ p. h (ap (take imageSize) (unit-saved b qs buffer) ∙ fills m buffer v ∙ ap imageOf p ∙ sym (fills n other w) ∙ sym (ap (take imageSize) (unit-saved c rs other))) in
+      let d = distinguishes m n (sound-left b e qs) (sound-left c f rs) apart in
+      subst (λ (l : List Request). (length l ≤ 4) × (repliesOf (map encode l) (unitAfter b qs) ≢ repliesOf (map encode l) (unitAfter c rs))) (sym told-of)
+      (d .1, λ p. d .2 (sym (further-replies b qs _) ∙ p ∙ further-replies c rs _))

@@ -1,0 +1,50 @@
+// A unit in memory that C or Rust owns: opened or started, asked, saved. It is 208 rows of sixteen bytes and passes as one pointer.
+ghost use mathlib.Core.Path.{_≡_};
+ghost use Rattle.model.specs.Decisions.{number};
+ghost use Rattle.model.specs.Runs.{reply};
+ghost use Rattle.model.specs.Reading.{readTable, readImage};
+ghost use Rattle.model.specs.Writing.{writing, written};
+ghost use Rattle.unit.specs.Rows.{stateIn};
+ghost use Rattle.unit.specs.Stored.{unitOf};
+ghost use Rattle.asking.specs.Asked.{asked};
+use asking::ask;
+use keeping::open;
+use keeping::save;
+use keeping::start;
+use labels::number;
+use unit::ROWS;
+
+// Begins from an image; a refused one leaves the empty monitor in the unit.
+#[no_mangle]
+pub extern "C" fn circmon_open(unit: &mut [[u8; 16]; ROWS], image: &[u8]) -> u8
+    ensures { λ r. ⌜ (r ≡ number (readImage (now (image .entry)) .decision)) × (now (unit .exit) ≡ unitOf (readImage (now (image .entry)) .monitor)) ⌝ }
+{
+    let opened = open(unit, image);
+    number(opened)
+}
+
+// Begins from a table; a refused one leaves the empty monitor in the unit.
+#[no_mangle]
+pub extern "C" fn circmon_start(unit: &mut [[u8; 16]; ROWS], table: &[u8]) -> u8
+    ensures { λ r. ⌜ (r ≡ number (readTable (now (table .entry)) .decision)) × (now (unit .exit) ≡ unitOf (readTable (now (table .entry)) .monitor)) ⌝ }
+{
+    let started = start(unit, table);
+    number(started)
+}
+
+// The reply to a request; the unit is the state after it.
+#[no_mangle]
+pub extern "C" fn circmon_ask(unit: &mut [[u8; 16]; ROWS], request: &[u8]) -> u8
+    ensures { λ r. ⌜ (r ≡ reply (now (request .entry)) (stateIn (now (unit .entry)))) × (now (unit .exit) ≡ asked (now (request .entry)) (now (unit .entry))) ⌝ }
+{
+    ask(unit, request)
+}
+
+// The image of the state into the buffer.
+#[no_mangle]
+pub extern "C" fn circmon_save(unit: &[[u8; 16]; ROWS], image: &mut [u8]) -> u8
+    ensures { λ r. ⌜ (r ≡ number (writing (now (image .entry)))) × (now (image .exit) ≡ written (stateIn (now (unit .entry))) (now (image .entry))) ⌝ }
+{
+    let saved = save(unit, image);
+    number(saved)
+}

@@ -1,0 +1,23 @@
+-- `keeping::start` meets its contract.
+-- Assumes nothing.
+use mathlib.Core.Path.{ap, _∙_}
+use Rattle.model.specs.declared.Response.{Response}
+use Rattle.unit.specs.Stored.{unitOf}
+use borrow.Author.Needs.{needs}
+use Rattle.keeping.proofs.start.Statement.{statement}
+use Rattle.keeping.proofs.start.Tie as tie
+
+read-table-requires : tie.Need-read-table-requires
+read-table-requires c κs = search needs
+
+fill-requires : tie.Need-fill-requires
+fill-requires c κs = search needs
+
+same-length : tie.Need-same-length
+same-length c = search needs
+
+returns : tie.Need-returns
+returns c = (ap (λ (r : Response). r .decision) (c .before .before .before .before .read-table .ensures), c .before .fill .ensures ∙ ap (λ (r : Response). unitOf (r .monitor)) (c .before .before .before .before .read-table .ensures))
+
+pub start-spec : {M : Type 1} → statement M
+start-spec = tie.close (tie.spec read-table-requires fill-requires same-length returns)

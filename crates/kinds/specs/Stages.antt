@@ -1,0 +1,35 @@
+-- The checks of get and of change of level in two stages: of the state as it stands, and of the state with the change in it.
+-- Assumes nothing.
+use Prim.Native.Nat.{ℕ}
+use mathlib.Core.Bool.{cond}
+use Rattle.model.specs.declared.Monitor.{Monitor}
+use Rattle.model.specs.declared.Mode.{Mode}
+use Rattle.model.specs.declared.Decision.{Decision}
+use Rattle.model.specs.declared.Decision.the-variants.{Granted, NotEnrolled, NotLive, NoRight, NoLabel, SimpleBroken, StarBroken}
+use Rattle.model.specs.Tests.{implies, unless}
+use Rattle.model.specs.Levels.{dominates, present}
+use Rattle.model.specs.Modes.{has, observes, needsLabel}
+use Rattle.model.specs.State.{clearance, enrolled, object, rightsOf}
+use Rattle.model.specs.Decisions.{refuses}
+use Rattle.model.specs.Rules.{simpleAll, starAll}
+
+-- get: "checks 4, 6 (the actor's right); 7 (not e); 8 (r, w)"
+unfoldable pub beforeStar : ℕ → ℕ → Mode → Monitor → Decision
+beforeStar s o x m =
+    unless (enrolled m s) NotEnrolled
+    (unless (object m o .live) NotLive
+    (unless (has x (rightsOf (object m o) s)) NoRight
+    (unless (implies (needsLabel x) (present (object m o .label))) NoLabel
+    (unless (implies (observes x) (dominates (clearance m s) (object m o .label))) SimpleBroken
+    Granted))))
+
+-- change of level: "8, 9 over all subjects in the state after the change"
+unfoldable pub afterChange : ℕ → Monitor → Decision
+afterChange o m =
+    unless (simpleAll (m .subjects) (object m o)) SimpleBroken
+    (unless (starAll (m .objects)) StarBroken
+    Granted)
+
+-- the first refusal of two stages
+unfoldable pub first : Decision → Decision → Decision
+first d later = cond (refuses d) d later

@@ -1,0 +1,82 @@
+-- A list of what a function has at each number below another, and an array that a loop fills with it.
+-- Assumes nothing.
+use Prim.Native.Nat.{ℕ, zero, suc, _+_, _≤_, _<_}
+use native.Mathlib.Omega.{arith}
+use native.Mathlib.Nat.{eq-or-lt-of-le}
+use mathlib.Core.Path.{_≡_, refl, sym, ap, _∙_}
+use mathlib.Core.Logic.{_⊎_, inl, inr, ⊎-elim, _≢_}
+use mathlib.Core.List.{List}
+use lib.ListN.{length, getD, set, length-set}
+use lib.Seq.{getD-set-same, getD-set-other, ext-getD}
+use Rattle.model.proofs.Tests.{le-or-lt}
+use Rattle.unit.specs.Rows.{tabulate}
+
+pub tabulate-length : {A : Type 0} (n : ℕ) (f : ℕ → A) → length (tabulate n f) ≡ n
+unfolding tabulate
+tabulate-length zero f = refl
+tabulate-length (suc n) f = ap suc (tabulate-length n (λ i. f (suc i)))
+
+pub tabulate-at : {A : Type 0} (n : ℕ) (f : ℕ → A) (i : ℕ) (d : A) → i < n → getD (tabulate n f) i d ≡ f i
+unfolding tabulate
+tabulate-at zero f i d h = absurd (omega arith)
+tabulate-at (suc n) f zero d h = refl
+tabulate-at (suc n) f (suc i) d h = tabulate-at n (λ j. f (suc j)) i d (omega arith)
+
+pub same-or-not : (i j : ℕ) → (i ≡ j) ⊎ (i ≢ j)
+same-or-not i j =
+    ⊎-elim
+    (λ (h : i ≤ j). ⊎-elim (λ (e : i ≡ j). inl e) (λ (l : i < j). inr (λ e. absurd (omega arith))) (eq-or-lt-of-le {n = i} {m = j} h))
+    (λ (h : j < i). inr (λ e. absurd (omega arith)))
+    (le-or-lt i j)
+
+module _ {A : Type 0} (n : ℕ) (f g : ℕ → A) (d : A) where
+  -- another function, that differs at one number
+  pub tabulate-set : (o : ℕ) → o < n → ((p : ℕ) → p < n → p ≢ o → g p ≡ f p) → tabulate n g ≡ set (tabulate n f) o (g o)
+  tabulate-set o h w =
+      ext-getD d (tabulate n g) (set (tabulate n f) o (g o)) (tabulate-length n g ∙ sym (length-set (tabulate n f) o (g o) ∙ tabulate-length n f))
+      (λ i b.
+      let l : i < n = omega (arith, tabulate-length n g) in
+      tabulate-at n g i d l
+      ∙ ⊎-elim
+      (λ (e : i ≡ o). ap g e ∙ sym (ap (λ k. getD (set (tabulate n f) o (g o)) k d) e ∙ getD-set-same (tabulate n f) o (g o) d (omega (arith, tabulate-length n f))))
+      (λ (e : i ≢ o). w i l e ∙ sym (getD-set-other (tabulate n f) o i (g o) d e ∙ tabulate-at n f i d l))
+      (same-or-not i o))
+
+  -- or at none
+  pub tabulate-same : ((p : ℕ) → p < n → g p ≡ f p) → tabulate n g ≡ tabulate n f
+  tabulate-same w =
+      ext-getD d (tabulate n g) (tabulate n f) (tabulate-length n g ∙ sym (tabulate-length n f))
+      (λ i b. let l : i < n = omega (arith, tabulate-length n g) in tabulate-at n g i d l ∙ w i l ∙ sym (tabulate-at n f i d l))
+
+-- a list of that length that has the function's value at each number
+pub tabulated : {A : Type 0} (n : ℕ) (f : ℕ → A) (d : A) (l : List A) → length l ≡ n → ((k : ℕ) → k < n → getD l k d ≡ f k) → l ≡ tabulate n f
+tabulated n f d l e w =
+    ext-getD d l (tabulate n f) (e ∙ sym (tabulate-length n f))
+    (λ k b. let h : k < n = omega (arith, e) in w k h ∙ sym (tabulate-at n f k d h))
+
+-- ---- an array that a loop fills: its first i elements are there
+
+pub record Gathered {A : Type 0} (f : ℕ → A) (n : ℕ) (d : A) (l : List A) (i : ℕ) : Type 0 where
+  pub bound : i ≤ n
+  pub whole : length l ≡ n
+  pub so-far : (k : ℕ) → k < i → getD l k d ≡ f k
+
+module _ {A : Type 0} (f : ℕ → A) (n : ℕ) (d : A) (l : List A) where
+  pub gather-none : length l ≡ n → Gathered f n d l 0
+  gather-none e = record { bound = omega arith; whole = e; so-far = λ k h. absurd (omega arith) }
+
+  module _ (i : ℕ) (G : Gathered f n d l i) where
+    pub gather-more : (v : A) → i < n → v ≡ f i → Gathered f n d (set l i v) (i + 1)
+    gather-more v h e =
+        record {
+          bound = omega arith;
+          whole = length-set l i v ∙ G .whole;
+          so-far = λ k w.
+              ⊎-elim
+              (λ (z : k ≡ i). ap (λ j. getD (set l i v) j d) z ∙ getD-set-same l i v d (omega (arith, G .whole)) ∙ e ∙ ap f (sym z))
+              (λ (z : k < i). getD-set-other l i k v d (λ q. absurd (omega arith)) ∙ G .so-far k z)
+              (eq-or-lt-of-le {n = k} {m = i} (omega arith));
+        }
+
+    pub gather-all : n ≤ i → l ≡ tabulate n f
+    gather-all h = tabulated n f d l (G .whole) (λ k b. G .so-far k (omega arith))

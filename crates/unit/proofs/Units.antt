@@ -1,0 +1,168 @@
+-- The rows of a whole monitor: they say it, and a loop that stores them part by part makes them.
+-- Assumes nothing.
+use Prim.Native.Nat.{ℕ, _+_, _-_, _≤_, _<_}
+use native.Mathlib.Omega.{arith}
+use native.Mathlib.Nat.{eq-or-lt-of-le}
+use mathlib.Core.Path.{_≡_, sym, ap, _∙_, subst}
+use mathlib.Core.Logic.{⊎-elim}
+use mathlib.Core.List.{List, []}
+use lib.ListN.{length, set, length-set}
+use lib.Seq.{getD-set-same, getD-set-other}
+use borrow.Author.Tests.{lt-ltb, le-ltb}
+use Rattle.model.specs.declared.Object.{Object}
+use Rattle.model.specs.declared.Monitor.{Monitor}
+use Rattle.model.specs.State.{nobody, noObject, object, clearance, WellFormed}
+use Rattle.model.proofs.Tests.{le-or-lt}
+use Rattle.unit.specs.Rows.{Rows, rowCount, heldRow, restRow, clearanceRow, rowAt, labelIn, objectIn, subjectIn, subjectsIn, objectsIn, stateIn}
+use Rattle.unit.specs.Stored.{restOf, clearanceOf, setObject, monitorRow, unitOf}
+use Rattle.unit.proofs.Tabulated.{tabulate-length, tabulate-at, tabulated}
+use Rattle.unit.proofs.Stores.{label-back, object-back, object-length, object-others, object-rights, object-held, object-rest}
+
+pub unit-length : (m : Monitor) → length (unitOf m) ≡ rowCount
+unfolding unitOf
+unit-length m = tabulate-length rowCount (monitorRow m)
+
+-- ---- the four parts of a unit
+
+module _ (m : Monitor) where
+  row-rights : (p : ℕ) → p < 64 → monitorRow m p ≡ object m p .rights
+  unfolding monitorRow
+  row-rights p h = rw (lt-ltb p 64 h)
+
+  row-held : (p : ℕ) → p < 64 → monitorRow m (heldRow p) ≡ object m p .held
+  unfolding monitorRow
+  row-held p h =
+      let e : heldRow p - 64 ≡ p = omega arith in
+      rw (le-ltb (heldRow p) 64 (omega arith), lt-ltb (heldRow p) 128 (omega arith)) (ap (λ i. object m i .held) e)
+
+  row-rest : (p : ℕ) → p < 64 → monitorRow m (restRow p) ≡ restOf (object m p)
+  unfolding monitorRow
+  row-rest p h =
+      let e : restRow p - 128 ≡ p = omega arith in
+      rw (le-ltb (restRow p) 64 (omega arith), le-ltb (restRow p) 128 (omega arith), lt-ltb (restRow p) 192 (omega arith)) (ap (λ i. restOf (object m i)) e)
+
+  row-clearance : (s : ℕ) → monitorRow m (clearanceRow s) ≡ clearanceOf (clearance m s)
+  unfolding monitorRow
+  row-clearance s =
+      let e : clearanceRow s - 192 ≡ s = omega arith in
+      rw (le-ltb (clearanceRow s) 64 (omega arith), le-ltb (clearanceRow s) 128 (omega arith), le-ltb (clearanceRow s) 192 (omega arith)) (ap (λ i. clearanceOf (clearance m i)) e)
+
+-- a number below 208 is that of a row of one of the four parts
+in-parts : (P : ℕ → Type 0) → ((p : ℕ) → p < 64 → P p) → ((p : ℕ) → p < 64 → P (heldRow p)) → ((p : ℕ) → p < 64 → P (restRow p))
+    → ((s : ℕ) → s < 16 → P (clearanceRow s)) → (i : ℕ) → i < rowCount → P i
+in-parts P a b c d i h =
+    ⊎-elim
+    (λ (w : 64 ≤ i).
+    ⊎-elim
+    (λ (x : 128 ≤ i).
+    ⊎-elim
+    (λ (y : 192 ≤ i). let e : clearanceRow (i - 192) ≡ i = omega arith in subst P e (d (i - 192) (omega arith)))
+    (λ (y : i < 192). let e : restRow (i - 128) ≡ i = omega arith in subst P e (c (i - 128) (omega arith)))
+    (le-or-lt 192 i))
+    (λ (x : i < 128). let e : heldRow (i - 64) ≡ i = omega arith in subst P e (b (i - 64) (omega arith)))
+    (le-or-lt 128 i))
+    (λ (w : i < 64). a i w)
+    (le-or-lt 64 i)
+
+-- ---- the rows of a monitor say it
+
+module _ (m : Monitor) where
+  unit-at : (i : ℕ) → i < rowCount → rowAt (unitOf m) i ≡ monitorRow m i
+  unfolding unitOf
+  unit-at i h = tabulate-at rowCount (monitorRow m) i [] h
+
+  unit-object : (o : ℕ) → o < 64 → objectIn (unitOf m) o ≡ object m o
+  unit-object o h =
+      rw (unit-at o (omega arith), unit-at (heldRow o) (omega arith), unit-at (restRow o) (omega arith), row-rights m o h, row-held m o h, row-rest m o h) (object-back (object m o))
+
+  unit-clearance : (s : ℕ) → s < 16 → labelIn (rowAt (unitOf m) (clearanceRow s)) ≡ clearance m s
+  unit-clearance s h = ap labelIn (unit-at (clearanceRow s) (omega arith) ∙ row-clearance m s) ∙ label-back 0 0 (clearance m s)
+
+  pub unit-says : length (m .subjects) ≡ 16 → length (m .objects) ≡ 64 → stateIn (unitOf m) ≡ m
+  unit-says a b =
+      let objects : objectsIn (unitOf m) ≡ m .objects = sym (tabulated 64 (objectIn (unitOf m)) noObject (m .objects) b (λ o h. sym (unit-object o h))) in
+      let subjects : subjectsIn (unitOf m) ≡ m .subjects = sym (tabulated 16 (subjectIn (unitOf m)) nobody (m .subjects) a
+      (λ s h. let e = sym (unit-clearance s h) in λ j. record { clearance = e j })) in
+      λ i. record { subjects = subjects i; objects = objects i }
+
+  pub well-formed-says : WellFormed m → stateIn (unitOf m) ≡ m
+  well-formed-says W = unit-says (W .subjects-length) (W .objects-length)
+
+-- ---- rows that a loop stores
+
+-- the rows of the objects below o are stored
+pub record ObjectsStored (m : Monitor) (u : Rows) (o : ℕ) : Type 0 where
+  pub bound : o ≤ 64
+  pub whole : length u ≡ rowCount
+  pub rights : (p : ℕ) → p < o → rowAt u p ≡ object m p .rights
+  pub held : (p : ℕ) → p < o → rowAt u (heldRow p) ≡ object m p .held
+  pub rest : (p : ℕ) → p < o → rowAt u (restRow p) ≡ restOf (object m p)
+
+pub objects-none : (m : Monitor) (u : Rows) → length u ≡ rowCount → ObjectsStored m u 0
+objects-none m u e =
+    record {
+      bound = omega arith;
+      whole = e;
+      rights = λ p h. absurd (omega arith);
+      held = λ p h. absurd (omega arith);
+      rest = λ p h. absurd (omega arith);
+    }
+
+module _ (m : Monitor) (u : Rows) (o : ℕ) (ob : Object) (F : ObjectsStored m u o) (h : o < 64) (e : ob ≡ object m o) where
+  below : (P : ℕ → Type 0) → P o → ((p : ℕ) → p < o → P p) → (p : ℕ) → p < o + 1 → P p
+  below P x f p w = ⊎-elim (λ (q : p ≡ o). subst P (sym q) x) (λ (q : p < o). f p q) (eq-or-lt-of-le {n = p} {m = o} (omega arith))
+
+  pub objects-more : ObjectsStored m (setObject u o ob) (o + 1)
+  objects-more =
+      record {
+        bound = omega arith;
+        whole = object-length u o ob (F .whole) h;
+        rights = below (λ p. rowAt (setObject u o ob) p ≡ object m p .rights) (object-rights u o ob (F .whole) h ∙ ap (λ (x : Object). x .rights) e)
+            (λ p w. object-others u o ob (F .whole) h p (λ z. absurd (omega arith)) (λ z. absurd (omega arith)) (λ z. absurd (omega arith)) ∙ F .rights p w);
+        held = below (λ p. rowAt (setObject u o ob) (heldRow p) ≡ object m p .held) (object-held u o ob (F .whole) h ∙ ap (λ (x : Object). x .held) e)
+            (λ p w. object-others u o ob (F .whole) h (heldRow p) (λ z. absurd (omega arith)) (λ z. absurd (omega arith)) (λ z. absurd (omega arith)) ∙ F .held p w);
+        rest = below (λ p. rowAt (setObject u o ob) (restRow p) ≡ restOf (object m p)) (object-rest u o ob (F .whole) h ∙ ap restOf e)
+            (λ p w. object-others u o ob (F .whole) h (restRow p) (λ z. absurd (omega arith)) (λ z. absurd (omega arith)) (λ z. absurd (omega arith)) ∙ F .rest p w);
+      }
+
+-- these, and the rows of the subjects below s
+pub record SubjectsStored (m : Monitor) (u : Rows) (s : ℕ) : Type 0 where
+  pub bound : s ≤ 16
+  pub objects : ObjectsStored m u 64
+  pub subjects : (k : ℕ) → k < s → rowAt u (clearanceRow k) ≡ clearanceOf (clearance m k)
+
+pub subjects-none : (m : Monitor) (u : Rows) (o : ℕ) → ObjectsStored m u o → 64 ≤ o → SubjectsStored m u 0
+subjects-none m u o F h =
+    let e : o ≡ 64 = omega (arith, F .bound) in
+    record { bound = omega arith; objects = subst (ObjectsStored m u) e F; subjects = λ k w. absurd (omega arith) }
+
+pub subjects-more : (m : Monitor) (u : Rows) (s : ℕ) (r : List ℕ) → SubjectsStored m u s → s < 16 → r ≡ clearanceOf (clearance m s) → SubjectsStored m (set u (clearanceRow s) r) (s + 1)
+subjects-more m u s r E h e =
+    let F = E .objects in
+    let i = clearanceRow s in
+    record {
+      bound = omega arith;
+      objects = record {
+        bound = omega arith;
+        whole = length-set u i r ∙ F .whole;
+        rights = λ p w. getD-set-other u i p r [] (λ z. absurd (omega arith)) ∙ F .rights p w;
+        held = λ p w. getD-set-other u i (heldRow p) r [] (λ z. absurd (omega arith)) ∙ F .held p w;
+        rest = λ p w. getD-set-other u i (restRow p) r [] (λ z. absurd (omega arith)) ∙ F .rest p w;
+      };
+      subjects = λ k w.
+          ⊎-elim
+          (λ (q : k ≡ s). ap (λ j. rowAt (set u i r) (clearanceRow j)) q ∙ getD-set-same u i r [] (omega (arith, F .whole)) ∙ e ∙ ap (λ j. clearanceOf (clearance m j)) (sym q))
+          (λ (q : k < s). getD-set-other u i (clearanceRow k) r [] (λ z. absurd (omega arith)) ∙ E .subjects k q)
+          (eq-or-lt-of-le {n = k} {m = s} (omega arith));
+    }
+
+pub subjects-all : (m : Monitor) (u : Rows) (s : ℕ) → SubjectsStored m u s → 16 ≤ s → u ≡ unitOf m
+unfolding unitOf
+subjects-all m u s E h =
+    let F = E .objects in
+    tabulated rowCount (monitorRow m) [] u (F .whole)
+    (in-parts (λ i. rowAt u i ≡ monitorRow m i)
+    (λ p l. F .rights p l ∙ sym (row-rights m p l))
+    (λ p l. F .held p l ∙ sym (row-held m p l))
+    (λ p l. F .rest p l ∙ sym (row-rest m p l))
+    (λ k l. E .subjects k (omega arith) ∙ sym (row-clearance m k)))

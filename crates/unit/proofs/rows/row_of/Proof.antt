@@ -1,0 +1,16 @@
+-- `unit::rows::row_of` meets its contract.
+-- Assumes nothing.
+use Rattle.unit.specs.Stored.{rowOf}
+use borrow.Author.Needs.{needs}
+use Rattle.unit.proofs.rows.row_of.Statement.{statement}
+use Rattle.unit.proofs.rows.row_of.Tie as tie
+
+label-bytes-requires : tie.Need-label-bytes-requires
+label-bytes-requires c κs = search needs
+
+returns : tie.Need-returns
+unfolding rowOf
+returns c = rw (c .label-bytes .ensures)
+
+pub row-of-spec : {M : Type 1} → statement M
+row-of-spec = tie.close (tie.spec label-bytes-requires returns)

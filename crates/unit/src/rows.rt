@@ -1,0 +1,111 @@
+// Where the rows of a unit stand, and what one row of bytes says: a label in bytes 2 to 5, two numbers before it.
+ghost use mathlib.Core.Path.{_≡_};
+ghost use Prim.Native.Nat.{_+_, _*_, _/_, _%_};
+ghost use Rattle.bits.specs.Bits.{bit};
+ghost use Rattle.unit.specs.Rows.{labelIn};
+ghost use Rattle.unit.specs.Stored.{labelBytes, rowOf};
+use model::Label;
+use model::Level;
+use model::Monitor;
+
+// The rights of object o are row o; here begin the accesses held, the rest of the records, and the clearances.
+pub const HELD: usize = Monitor::OBJECTS;
+
+pub const REST: usize = 2 * Monitor::OBJECTS;
+
+pub const CLEARANCES: usize = 3 * Monitor::OBJECTS;
+
+pub const ROWS: usize = 3 * Monitor::OBJECTS + Monitor::SUBJECTS;
+
+fn word(high: u8, low: u8) -> u16
+    ensures { λ r. ⌜ r ≡ high * 256 + low ⌝ }
+{
+    (high as u16) * 256 + (low as u16)
+}
+
+fn high_byte(n: u16) -> u8
+    ensures { λ r. ⌜ r ≡ n / 256 ⌝ }
+{
+    (n / 256) as u8
+}
+
+fn low_byte(n: u16) -> u8
+    ensures { λ r. ⌜ r ≡ n % 256 ⌝ }
+{
+    (n % 256) as u8
+}
+
+pub fn flag(b: bool) -> u8
+    ensures { λ r. ⌜ r ≡ bit b ⌝ }
+{
+    if b { 1 } else { 0 }
+}
+
+// The label that a row says, or none.
+pub fn label_in(row: [u8; 16]) -> Label
+    ensures { λ r. ⌜ r ≡ labelIn row ⌝ }
+{
+    let class = row[3];
+    let high = row[4];
+    let low = row[5];
+    if row[2] == 1 {
+        Label::Present(Level {
+            class,
+            needs: word(high, low),
+        })
+    } else {
+        Label::Absent
+    }
+}
+
+// The four bytes of a label.
+struct LabelBytes {
+    present: u8,
+    class: u8,
+    high: u8,
+    low: u8,
+}
+
+fn label_bytes(label: Label) -> LabelBytes
+    ensures { λ r. ⌜ r ≡ labelBytes label ⌝ }
+{
+    match label {
+        Label::Absent => LabelBytes {
+            present: 0,
+            class: 0,
+            high: 0,
+            low: 0,
+        },
+        Label::Present(level) => LabelBytes {
+            present: 1,
+            class: level.class,
+            high: high_byte(level.needs),
+            low: low_byte(level.needs),
+        },
+    }
+}
+
+// The row of two numbers and a label.
+pub fn row_of(a: u8, b: u8, label: Label) -> [u8; 16]
+    ensures { λ r. ⌜ r ≡ rowOf a b label ⌝ }
+{
+    let l = label_bytes(label);
+    [
+        a,
+        b,
+        l.present,
+        l.class,
+        l.high,
+        l.low,
+        0,
+        0,
+        0,
+        0,
+        0,
+        0,
+        0,
+        0,
+        0,
+        0,
+    ]
+}
