@@ -5,10 +5,12 @@ use native.Mathlib.Omega.{arith}
 use mathlib.Core.Path.{_≡_, refl, sym, ap, _∙_, subst}
 use mathlib.Core.Logic.{_↔_, _≢_}
 use mathlib.Core.Bool.{Bool, true, false}
-use mathlib.Core.List.{List}
+use mathlib.Core.List.{List, [], _∷_}
 use lib.Dec.{eqb}
 use borrow.Author.Tests.{leb-true}
+use Rattle.model.specs.declared.Level.{Level}
 use Rattle.model.specs.declared.Monitor.{Monitor}
+use Rattle.model.specs.declared.Mode.{Mode}
 use Rattle.model.specs.declared.Request.{Request}
 use Rattle.model.specs.declared.Request.the-variants.{Get, Release, Give, Rescind, Create, Delete, ChangeLevel}
 use Rattle.model.specs.declared.Decoded.{Decoded}
@@ -27,8 +29,8 @@ use Rattle.model.specs.Beginnings.{Reached}
 use Rattle.model.proofs.Tests.{cond-true, distinct, not-stop}
 use Rattle.model.proofs.Decisions.{number-inj}
 use Rattle.model.proofs.Requests.{decode-range}
-use Rattle.security.specs.First.{FirstIn, NoneIn, AnswersFirst}
-use Rattle.security.specs.Causes.{MalformedBytes, requestOrder, RequestCause, tableOrder, TableCause, imageOrder, ImageCause}
+use Rattle.security.specs.First.{Causes, FirstIn, NoneIn, AnswersFirst, orderOf}
+use Rattle.security.specs.Causes.{MalformedBytes, requestCauses, tableCauses, imageCauses}
 use Rattle.security.proofs.Steps.{step-refused, respond-all}
 use Rattle.security.proofs.Replies.{step-cases, reply-granted}
 use Rattle.security.proofs.RequestCauses.{request-answers}
@@ -75,47 +77,47 @@ reply-2-exactly g m = (
 
 -- 3 to 9: the reply is k exactly when cause k holds and no earlier one does
 pub reply-first-cause : (m : Monitor) → Reached m → (g : List ℕ) (q : Request) → decode g ≡ Says q → (d : Decision) → refuses d ≡ true
-    → (reply g m ≡ number d) ↔ FirstIn requestOrder (RequestCause q m) d
+    → (reply g m ≡ number d) ↔ FirstIn (requestCauses q m) d
 reply-first-cause m R g q e d r =
     let A = request-answers m (sound-reached m R) q (decode-range g q e) in
     let a = reply-is q m d r in
-    subst (λ (k : Response). (number (k .decision) ≡ number d) ↔ FirstIn requestOrder (RequestCause q m) d) (sym (respond-says g q m e))
+    subst (λ (k : Response). (number (k .decision) ≡ number d) ↔ FirstIn (requestCauses q m) d) (sym (respond-says g q m e))
     (λ w. A .refused d r .0 (a .0 w), λ w. a .1 (A .refused d r .1 w))
 
 -- 0 or 1: exactly when there is none
 pub reply-no-cause : (m : Monitor) → Reached m → (g : List ℕ) (q : Request) → decode g ≡ Says q
-    → (reply g m < 2) ↔ NoneIn requestOrder (RequestCause q m)
+    → (reply g m < 2) ↔ NoneIn (requestCauses q m)
 reply-no-cause m R g q e =
     let A = request-answers m (sound-reached m R) q (decode-range g q e) in
     let a = reply-granted q m in
-    subst (λ (k : Response). (number (k .decision) < 2) ↔ NoneIn requestOrder (RequestCause q m)) (sym (respond-says g q m e))
+    subst (λ (k : Response). (number (k .decision) < 2) ↔ NoneIn (requestCauses q m)) (sym (respond-says g q m e))
     (λ w. A .granted .0 (a .0 w), λ w. a .1 (A .granted .1 w))
 
 -- ---- tables and images
 
 -- the number of a reading is that of the first cause, 0 exactly when there is none
-module _ (order : List Decision) (cause : Decision → Type 0) (answer : Decision) (A : AnswersFirst order cause answer) where
-  first-number : (d : Decision) → refuses d ≡ true → (number answer ≡ number d) ↔ FirstIn order cause d
+module _ (causes : Causes) (answer : Decision) (A : AnswersFirst causes answer) where
+  first-number : (d : Decision) → refuses d ≡ true → (number answer ≡ number d) ↔ FirstIn causes d
   first-number d r = (λ e. A .refused d r .0 (number-inj answer d e), λ w. ap number (A .refused d r .1 w))
 
-  none-number : (number answer ≡ 0) ↔ NoneIn order cause
+  none-number : (number answer ≡ 0) ↔ NoneIn causes
   none-number = (λ e. A .granted .0 (number-inj answer Granted e), λ w. ap number (A .granted .1 w))
 
-pub table-first-cause : (b : List ℕ) (d : Decision) → refuses d ≡ true → (number (readTable b .decision) ≡ number d) ↔ FirstIn tableOrder (TableCause b) d
+pub table-first-cause : (b : List ℕ) (d : Decision) → refuses d ≡ true → (number (readTable b .decision) ≡ number d) ↔ FirstIn (tableCauses b) d
 unfolding readTable begin
-table-first-cause b = first-number tableOrder (TableCause b) (tableChecks b) (table-answers b)
+table-first-cause b = first-number (tableCauses b) (tableChecks b) (table-answers b)
 
-pub table-no-cause : (b : List ℕ) → (number (readTable b .decision) ≡ 0) ↔ NoneIn tableOrder (TableCause b)
+pub table-no-cause : (b : List ℕ) → (number (readTable b .decision) ≡ 0) ↔ NoneIn (tableCauses b)
 unfolding readTable begin
-table-no-cause b = none-number tableOrder (TableCause b) (tableChecks b) (table-answers b)
+table-no-cause b = none-number (tableCauses b) (tableChecks b) (table-answers b)
 
-pub image-first-cause : (b : List ℕ) (d : Decision) → refuses d ≡ true → (number (readImage b .decision) ≡ number d) ↔ FirstIn imageOrder (ImageCause b) d
+pub image-first-cause : (b : List ℕ) (d : Decision) → refuses d ≡ true → (number (readImage b .decision) ≡ number d) ↔ FirstIn (imageCauses b) d
 unfolding readImage begin
-image-first-cause b = first-number imageOrder (ImageCause b) (imageChecks b) (image-answers b)
+image-first-cause b = first-number (imageCauses b) (imageChecks b) (image-answers b)
 
-pub image-no-cause : (b : List ℕ) → (number (readImage b .decision) ≡ 0) ↔ NoneIn imageOrder (ImageCause b)
+pub image-no-cause : (b : List ℕ) → (number (readImage b .decision) ≡ 0) ↔ NoneIn (imageCauses b)
 unfolding readImage begin
-image-no-cause b = none-number imageOrder (ImageCause b) (imageChecks b) (image-answers b)
+image-no-cause b = none-number (imageCauses b) (imageChecks b) (image-answers b)
 
 -- a refusal returns "the number and the empty monitor, nobody enrolled"
 pub table-refused-empty : (b : List ℕ) → refuses (readTable b .decision) ≡ true → readTable b .monitor ≡ emptyMonitor
@@ -125,3 +127,20 @@ table-refused-empty b e = cond-true (refuses (tableChecks b)) _ _ e
 pub image-refused-empty : (b : List ℕ) → refuses (readImage b .decision) ≡ true → readImage b .monitor ≡ emptyMonitor
 unfolding readImage begin
 image-refused-empty b e = cond-true (refuses (imageChecks b)) _ _ e
+
+-- ---- the orders, by their numbers
+
+-- "Checks run in the order 2, 3, then 4 or 5, then 6, 7, 8, 9", each kind with those of its row in the table of kinds
+pub orders-of-requests : (m : Monitor) (s t o : ℕ) (x : Mode) (e : Bool) (l : Level)
+    → (orderOf (requestCauses (Get s o x) m) ≡ 3 ∷ 4 ∷ 6 ∷ 7 ∷ 8 ∷ 9 ∷ [])
+    × (orderOf (requestCauses (Release s o x) m) ≡ 3 ∷ 4 ∷ [])
+    × (orderOf (requestCauses (Give s t o x) m) ≡ 3 ∷ 4 ∷ 6 ∷ [])
+    × (orderOf (requestCauses (Rescind s t o x) m) ≡ 3 ∷ 4 ∷ 6 ∷ [])
+    × (orderOf (requestCauses (Create s o e) m) ≡ 3 ∷ 5 ∷ [])
+    × (orderOf (requestCauses (Delete s o) m) ≡ 3 ∷ 4 ∷ 6 ∷ [])
+    × (orderOf (requestCauses (ChangeLevel s o l) m) ≡ 3 ∷ 4 ∷ 6 ∷ 8 ∷ 9 ∷ [])
+orders-of-requests m s t o x e l = (refl, refl, refl, refl, refl, refl, refl)
+
+-- "Tables are checked 10, 11; images 10, 11, 12, 6, 7, 8, 9"
+pub orders-of-beginnings : (b : List ℕ) → (orderOf (tableCauses b) ≡ 10 ∷ 11 ∷ []) × (orderOf (imageCauses b) ≡ 10 ∷ 11 ∷ 12 ∷ 6 ∷ 7 ∷ 8 ∷ 9 ∷ [])
+orders-of-beginnings b = (refl, refl)

@@ -17,7 +17,7 @@ use Rattle.model.specs.Layout.{labelWidth, labelOffset, tableSize, imageSize}
 use Rattle.model.specs.Reading.{labelForm, objectForm, tableRecords, objectRecords, tableForm, objectsForm, imageForm, tableFrom, monitorFrom, stateChecks, tableChecks, imageChecks}
 use Rattle.model.proofs.Tests.{split, apart, clash, passed, pass, and-left, and-right, and-false, or-cases, or-false, cond-true, cond-false, all-out, all-false}
 use Rattle.security.specs.First.{AnswersFirst}
-use Rattle.security.specs.Causes.{Stray, StrayLabel, StrayInTable, StrayInObjects, AbsentActs, tableOrder, TableCause, imageOrder, ImageCause}
+use Rattle.security.specs.Causes.{Stray, StrayLabel, StrayInTable, StrayInObjects, StrayInImage, AbsentActs, tableCauses, imageCauses}
 use Rattle.security.proofs.First.{answers-end, answers-check}
 use Rattle.security.specs.Sound.{Sound}
 use Rattle.security.proofs.Steps.{sound-fresh}
@@ -77,13 +77,13 @@ objects-clear : (b : List ℕ) → objectsForm b ≡ true → StrayInObjects b �
 unfolding objectsForm objectForm allZero
 objects-clear b e s = object-clear (getD (objectRecords b) (s .0) []) (all-out objectForm [] (objectRecords b) refl e (s .0)) (s .1)
 
-image-stray : (b : List ℕ) → imageForm b ≡ false → StrayInTable (take tableSize b) ⊎ StrayInObjects (drop tableSize b)
+image-stray : (b : List ℕ) → imageForm b ≡ false → StrayInImage b
 unfolding imageForm
 image-stray b e =
     and-false (tableForm (take tableSize b)) (objectsForm (drop tableSize b)) e
     (λ w. inl (table-stray (take tableSize b) w)) (λ w. inr (objects-stray (drop tableSize b) w))
 
-image-clear : (b : List ℕ) → imageForm b ≡ true → (StrayInTable (take tableSize b) ⊎ StrayInObjects (drop tableSize b)) → ⊥
+image-clear : (b : List ℕ) → imageForm b ≡ true → StrayInImage b → ⊥
 unfolding imageForm
 image-clear b e s =
     ⊎-elim (λ (u : StrayInTable (take tableSize b)). table-clear (take tableSize b) (and-left (tableForm (take tableSize b)) _ e) u)
@@ -98,20 +98,20 @@ length-is-not : (b : List ℕ) (n : ℕ) → eqb (length b) n ≡ false → leng
 length-is-not b n e w = apart (eq-eqb (length b) n w) e
 
 -- "Tables are checked 10, 11"
-pub table-answers : (b : List ℕ) → AnswersFirst tableOrder (TableCause b) (tableChecks b)
-unfolding tableChecks tableOrder
+pub table-answers : (b : List ℕ) → AnswersFirst (tableCauses b) (tableChecks b)
+unfolding tableChecks
 table-answers b =
     answers-check _ WrongLength _ _ _ refl (length-is b tableSize) (length-is-not b tableSize)
     (answers-check _ StrayBits _ _ _ refl (table-clear b) (table-stray b)
-    (answers-end _))
+    answers-end)
 
 -- a property that its test decides
 decided : {P : Type 0} (b : Bool) → (P → b ≡ true) → b ≡ false → P → ⊥
 decided b f e p = apart (f p) e
 
 -- "images 10, 11, 12, 6, 7, 8, 9, each over the whole image before the next"
-pub image-answers : (b : List ℕ) → AnswersFirst imageOrder (ImageCause b) (imageChecks b)
-unfolding imageChecks stateChecks imageOrder
+pub image-answers : (b : List ℕ) → AnswersFirst (imageCauses b) (imageChecks b)
+unfolding imageChecks stateChecks
 image-answers b =
     let m = monitorFrom b in
     let S = image-shape b in
@@ -122,7 +122,7 @@ image-answers b =
     (answers-check _ NoLabel _ _ _ refl (λ e w. w (labelled-out m S e)) (decided _ (labelled-in m S))
     (answers-check _ SimpleBroken _ _ _ refl (λ e w. w (simple-all-out m S e)) (decided _ (simple-all-in m S))
     (answers-check _ StarBroken _ _ _ refl (λ e w. w (stars-out m S e)) (decided _ (stars-in m S))
-    (answers-end _)))))))
+    answers-end))))))
 
 -- ---- acceptance
 
@@ -166,7 +166,7 @@ image-passed b e =
 -- "An image is accepted exactly when it has this form, only enrolled subjects own, have rights or hold, and the state is secure"
 pub image-accepted-exactly : (b : List ℕ)
     → (imageChecks b ≡ Granted)
-    ↔ ((length b ≡ imageSize) × (ImageCause b StrayBits → ⊥) × (AbsentActs (monitorFrom b) → ⊥) × Secure (monitorFrom b))
+    ↔ ((length b ≡ imageSize) × (StrayInImage b → ⊥) × (AbsentActs (monitorFrom b) → ⊥) × Secure (monitorFrom b))
 unfolding imageChecks stateChecks
 image-accepted-exactly b = (
   λ e. let p = image-passed b e in (p .0, image-clear b (p .1), none-acts (monitorFrom b) (p .2 .formed), p .2 .secure),

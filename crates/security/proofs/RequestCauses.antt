@@ -5,7 +5,6 @@ use native.Mathlib.Omega.{arith}
 use mathlib.Core.Path.{_≡_, refl, ap, subst}
 use mathlib.Core.Logic.{_⊎_, inl, inr, ⊎-elim, _≢_}
 use mathlib.Core.Bool.{Bool, true, false, _&&_}
-use mathlib.Core.List.{[], _∷_}
 use lib.ListN.{length}
 use lib.Seq.{getD-set-same}
 use borrow.Author.Tests.{eq-eqb, eqb-true}
@@ -18,7 +17,7 @@ use Rattle.model.specs.declared.Mode.{Mode}
 use Rattle.model.specs.declared.Mode.the-variants.{Read, Write, Append, Execute}
 use Rattle.model.specs.declared.Request.{Request}
 use Rattle.model.specs.declared.Request.the-variants.{Get, Release, Give, Rescind, Create, Delete, ChangeLevel}
-use Rattle.model.specs.declared.Decision.the-variants.{Granted, NotEnrolled, NotLive, AlreadyLive, NoRight, NoLabel, SimpleBroken, StarBroken}
+use Rattle.model.specs.declared.Decision.the-variants.{NotEnrolled, NotLive, AlreadyLive, NoRight, NoLabel, SimpleBroken, StarBroken}
 use Rattle.model.specs.Tests.{implies}
 use Rattle.model.specs.Levels.{present, dominates, Dominates}
 use Rattle.model.specs.Modes.{has, observes, needsLabel}
@@ -27,10 +26,10 @@ use Rattle.model.specs.Properties.{Simple, Star, Permits}
 use Rattle.model.specs.Requests.{InRange}
 use Rattle.model.specs.Rules.{changed, afterwards, checks, owns, simpleAll, starAll}
 use Rattle.model.proofs.Levels.{absent}
-use Rattle.model.proofs.Tests.{set-all, apart, clash, and-left, and-right, and-false, implies-in, not-on, not-off}
+use Rattle.model.proofs.Tests.{set-all, apart, and-left, and-right, and-false, implies-out, implies-in, implies-false, not-on, not-off}
 use Rattle.security.specs.First.{AnswersFirst}
-use Rattle.security.specs.Causes.{NotIn, requestOrder, RequestCause, LabelMissing}
-use Rattle.security.proofs.First.{answers-end, answers-skip, answers-check}
+use Rattle.security.specs.Causes.{NotIn, requestCauses}
+use Rattle.security.proofs.First.{answers-end, answers-check}
 use Rattle.security.proofs.Secure.{simple-in, simple-out, star-in, star-for, star-of, star-get, star-all-in, star-all-out}
 use Rattle.security.specs.Sound.{Sound}
 use Rattle.security.proofs.Gets.{simple-get-in, simple-get-out}
@@ -49,6 +48,13 @@ is-owner s ob e w = w (eqb-true _ _ e)
 -- a fact that fails is not so
 fails : {b : Bool} → b ≡ false → b ≡ true → ⊥
 fails e w = apart w e
+
+-- every mode but e needs a label
+not-execute : (x : Mode) → x ≢ Execute → needsLabel x ≡ true
+not-execute Read h = refl
+not-execute Write h = refl
+not-execute Append h = refl
+not-execute Execute h = absurd (h refl)
 
 module _ (m : Monitor) (S : Sound m) where
   -- the actor, or the other subject
@@ -71,20 +77,14 @@ module _ (m : Monitor) (S : Sound m) where
       → (object m o .owner ≢ s) ⊎ (Permits m s o x → ⊥)
   may-not-give s o x e = and-false (owns s (object m o)) (has x (rightsOf (object m o) s)) e (λ u. inl (not-owner s (object m o) u)) (λ u. inr (fails u))
 
-  -- the label, for the modes that need one
-  label-missing : (s o : ℕ) (x : Mode) → implies (needsLabel x) (present (object m o .label)) ≡ false → LabelMissing (Get s o x) m
-  unfolding implies
-  label-missing s o Read e = absent (object m o .label) e
-  label-missing s o Write e = absent (object m o .label) e
-  label-missing s o Append e = absent (object m o .label) e
-  label-missing s o Execute e = clash e
+  -- the label, for the modes that need one: "7 (not e)"
+  label-missing : (o : ℕ) (x : Mode) → implies (needsLabel x) (present (object m o .label)) ≡ false → (x ≢ Execute) × (object m o .label ≡ Absent)
+  label-missing o x e =
+      let p = implies-false (needsLabel x) (present (object m o .label)) e in
+      (λ w. apart (p .0) (ap needsLabel w), absent (object m o .label) (p .1))
 
-  label-there : (s o : ℕ) (x : Mode) → implies (needsLabel x) (present (object m o .label)) ≡ true → LabelMissing (Get s o x) m → ⊥
-  unfolding implies
-  label-there s o Read e w = not-absent (object m o .label) e w
-  label-there s o Write e w = not-absent (object m o .label) e w
-  label-there s o Append e w = not-absent (object m o .label) e w
-  label-there s o Execute e w = w
+  label-there : (o : ℕ) (x : Mode) → implies (needsLabel x) (present (object m o .label)) ≡ true → ((x ≢ Execute) × (object m o .label ≡ Absent)) → ⊥
+  label-there o x e w = not-absent (object m o .label) (implies-out (needsLabel x) _ e (not-execute x (w .0))) (w .1)
 
   -- a change of level: simple at the object for all subjects, star over all
   module _ (s o : ℕ) (l : Level) (o-below : o < 64) where
@@ -122,62 +122,50 @@ module _ (m : Monitor) (S : Sound m) where
   unfolding changed
   simple-tested s o x r T = simple-get-out m S s o x (r .0) (r .1) T
 
-  -- a kind without checks 7, 8 and 9
-  no-later : (q : Request) → (RequestCause q m NoLabel → ⊥) → (RequestCause q m SimpleBroken → ⊥) → (RequestCause q m StarBroken → ⊥)
-      → AnswersFirst (NoLabel ∷ SimpleBroken ∷ StarBroken ∷ []) (RequestCause q m) Granted
-  no-later q a b c = answers-skip NoLabel _ _ _ a (answers-skip SimpleBroken _ _ _ b (answers-skip StarBroken _ _ _ c (answers-end _)))
-
   -- ---- the theorem, kind by kind
 
-  pub request-answers : (q : Request) → InRange q → AnswersFirst requestOrder (RequestCause q m) (checks q m)
-  unfolding checks requestOrder
+  pub request-answers : (q : Request) → InRange q → AnswersFirst (requestCauses q m) (checks q m)
+  unfolding checks
   request-answers (Get s o x) r =
       answers-check _ NotEnrolled _ _ _ refl (not-absent (clearance m s)) (absent (clearance m s))
       (answers-check _ NotLive _ _ _ refl (λ e w. w e) fails
-      (answers-skip AlreadyLive _ _ _ (λ w. w)
       (answers-check _ NoRight _ _ _ refl (λ e w. w e) fails
-      (answers-check _ NoLabel _ _ _ refl (label-there s o x) (label-missing s o x)
+      (answers-check _ NoLabel _ _ _ refl (label-there o x) (label-missing o x)
       (answers-check _ SimpleBroken _ _ _ refl
       (λ e w. w (simple-after-get s o x r e)) (λ e T. fails e (simple-tested s o x r T))
       (answers-check _ StarBroken _ _ _ refl
       (λ e w. w (star-of (afterwards (Get s o x) m) (star-get s o x m (S .formed) (S .secure .star) e)))
       (λ e T. fails e (implies-in _ _ (λ n. star-in s _ (star-for (afterwards (Get s o x) m) T s))))
-      (answers-end _)))))))
+      answers-end)))))
   request-answers (Release s o x) r =
       answers-check _ NotEnrolled _ _ _ refl (not-absent (clearance m s)) (absent (clearance m s))
       (answers-check _ NotLive _ _ _ refl (λ e w. w e) fails
-      (answers-skip AlreadyLive _ _ _ (λ w. w) (answers-skip NoRight _ _ _ (λ w. w) (no-later (Release s o x) (λ w. w) (λ w. w) (λ w. w)))))
+      answers-end)
   request-answers (Give s t o x) r =
       answers-check _ NotEnrolled _ _ _ refl (two-enrolled s t) (one-absent s t)
       (answers-check _ NotLive _ _ _ refl (λ e w. w e) fails
-      (answers-skip AlreadyLive _ _ _ (λ w. w)
       (answers-check _ NoRight _ _ _ refl (may-give s o x) (may-not-give s o x)
-      (no-later (Give s t o x) (λ w. w) (λ w. w) (λ w. w)))))
+      answers-end))
   request-answers (Rescind s t o x) r =
       answers-check _ NotEnrolled _ _ _ refl (two-enrolled s t) (one-absent s t)
       (answers-check _ NotLive _ _ _ refl (λ e w. w e) fails
-      (answers-skip AlreadyLive _ _ _ (λ w. w)
       (answers-check _ NoRight _ _ _ refl (may-give s o x) (may-not-give s o x)
-      (no-later (Rescind s t o x) (λ w. w) (λ w. w) (λ w. w)))))
+      answers-end))
   request-answers (Create s o e) r =
       answers-check _ NotEnrolled _ _ _ refl (not-absent (clearance m s)) (absent (clearance m s))
-      (answers-skip NotLive _ _ _ (λ w. w)
       (answers-check _ AlreadyLive _ _ _ refl (λ e w. apart w (not-on _ e)) (not-off _)
-      (answers-skip NoRight _ _ _ (λ w. w) (no-later (Create s o e) (λ w. w) (λ w. w) (λ w. w)))))
+      answers-end)
   request-answers (Delete s o) r =
       answers-check _ NotEnrolled _ _ _ refl (not-absent (clearance m s)) (absent (clearance m s))
       (answers-check _ NotLive _ _ _ refl (λ e w. w e) fails
-      (answers-skip AlreadyLive _ _ _ (λ w. w)
       (answers-check _ NoRight _ _ _ refl (is-owner s (object m o)) (not-owner s (object m o))
-      (no-later (Delete s o) (λ w. w) (λ w. w) (λ w. w)))))
+      answers-end))
   request-answers (ChangeLevel s o l) r =
       answers-check _ NotEnrolled _ _ _ refl (not-absent (clearance m s)) (absent (clearance m s))
       (answers-check _ NotLive _ _ _ refl (λ e w. w e) fails
-      (answers-skip AlreadyLive _ _ _ (λ w. w)
       (answers-check _ NoRight _ _ _ refl (is-owner s (object m o)) (not-owner s (object m o))
-      (answers-skip NoLabel _ _ _ (λ w. w)
       (answers-check _ SimpleBroken _ _ _ refl
       (λ e w. w (simple-change-in s o l (r .1) e)) (λ e T. fails e (simple-change-out s o l (r .1) T))
       (answers-check _ StarBroken _ _ _ refl
       (λ e w. w (star-change-in s o l (r .1) e)) (λ e T. fails e (star-all-in _ (star-for (afterwards (ChangeLevel s o l) m) T)))
-      (answers-end _)))))))
+      answers-end))))
