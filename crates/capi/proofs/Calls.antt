@@ -25,7 +25,8 @@ use Rattle.security.specs.Distinguish.{distinguish}
 use Rattle.security.specs.Sound.{Sound}
 use Rattle.security.proofs.Steps.{sound-respond, sound-after}
 use Rattle.security.proofs.Trips.{image-tells}
-use Rattle.security.proofs.Demand3.{sound-begun, same-replies}
+use Rattle.security.proofs.Reached.{sound-begun}
+use Rattle.security.proofs.Demand3.{same-replies}
 use Rattle.security.proofs.RoundTrips.{image-length, write-0-fills, image-reads}
 use Rattle.security.proofs.ToldApart.{written-back, equal-images-told, different-images-told}
 use Rattle.security.proofs.Programs.{cut-whole}

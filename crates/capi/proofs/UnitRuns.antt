@@ -22,8 +22,9 @@ use Rattle.model.specs.Writing.{writing, written}
 use Rattle.model.specs.Beginnings.{Beginning, table, image, begun, Accepted, left, AllBytes}
 use Rattle.model.proofs.Tests.{cond-all}
 use Rattle.security.specs.Distinguish.{distinguish}
+use Rattle.security.proofs.Reached.{reached-left, sound-left, fills}
 use Rattle.security.proofs.Demand2.{always-secure}
-use Rattle.security.proofs.Demand3.{sound-left, fills, distinguishes, distinguishes-not, demand-3}
+use Rattle.security.proofs.Demand3.{distinguishes, distinguishes-not, demand-3}
 use Rattle.security.proofs.RoundTrips.{read-written}
 use Rattle.unit.specs.Rows.{rowCount, stateIn}
 use Rattle.unit.proofs.Units.{unit-length, unit-says}
@@ -75,14 +76,14 @@ module _ (b : Beginning) where
 
     -- begun with 0, the state is well formed and secure
     pub unit-secure : Accepted b → WellFormed (stateIn (unitAfter b bs)) × Secure (stateIn (unitAfter b bs))
-    unit-secure e = subst (λ (m : Monitor). WellFormed m × Secure m) (sym after-says) (always-secure b e bs)
+    unit-secure e = subst (λ (m : Monitor). WellFormed m × Secure m) (sym after-says) (always-secure (left b bs) (reached-left b e bs))
 
     -- what was saved is accepted, and opened it is that state
     pub saved-opens : Accepted b → (buffer : List ℕ) → number (writing buffer) ≡ 0
         → readImage (take imageSize (saved (unitAfter b bs) buffer)) ≡ record { decision = Granted; monitor = stateIn (unitAfter b bs) }
     saved-opens e buffer w =
         ap (λ (l : List ℕ). readImage (take imageSize l)) (unit-saved buffer)
-        ∙ read-written (left b bs) (record { beginning = b; accepted = e; requests = bs; reaches = refl }) buffer w
+        ∙ read-written (left b bs) (reached-left b e bs) buffer w
         ∙ ap (λ (m : Monitor). record { decision = Granted; monitor = m }) (sym after-says)
 
 -- ---- two units

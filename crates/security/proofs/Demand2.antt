@@ -19,53 +19,43 @@ use Rattle.model.specs.Decisions.{number}
 use Rattle.model.specs.Requests.{decode}
 use Rattle.model.specs.Rules.{step}
 use Rattle.model.specs.Runs.{carryOut, respond, reply}
-use Rattle.model.specs.Beginnings.{Beginning, Accepted, left}
+use Rattle.model.specs.Beginnings.{Reached}
 use Rattle.model.proofs.Requests.{decode-range}
 use Rattle.security.specs.Access.{withAccess}
 use Rattle.security.proofs.Steps.{respond-all}
 use Rattle.security.proofs.Replies.{reply-zero, reply-one, reply-granted, refusal-leaves}
 use Rattle.security.proofs.Gets.{get-refused-exactly}
-use Rattle.security.proofs.Demand3.{sound-left}
+use Rattle.security.proofs.Reached.{sound-reached, respond-says}
 
--- "afterwards the discretionary, label, simple and star properties hold"
-pub always-secure : (b : Beginning) → Accepted b → (qs : List (List ℕ)) → WellFormed (left b qs) × Secure (left b qs)
-always-secure b e qs = let S = sound-left b e qs in (S .formed, S .secure)
+module _ (m : Monitor) (R : Reached m) where
+  -- "afterwards the discretionary, label, simple and star properties hold"
+  pub always-secure : WellFormed m × Secure m
+  always-secure = let S = sound-reached m R in (S .formed, S .secure)
 
--- the response to bytes that say a request
-pub respond-says : (g : List ℕ) (q : Request) (m : Monitor) → decode g ≡ Says q → respond g m ≡ step q m
-unfolding respond
-respond-says g q m e = ap (λ (d : Decoded). carryOut d m) e
+  -- "a well-formed get by an enrolled subject on a live object is refused exactly when adding that access would break one of them"
+  pub get-exactly : (g : List ℕ) (s o : ℕ) (x : Mode) → decode g ≡ Says (Get s o x) → enrolled m s ≡ true → object m o .live ≡ true
+      → (2 ≤ reply g m) ↔ (Secure (withAccess m s o x) → ⊥)
+  get-exactly g s o x d there live =
+      subst (λ (r : Response). (2 ≤ number (r .decision)) ↔ (Secure (withAccess m s o x) → ⊥)) (sym (respond-says g (Get s o x) m d))
+      (get-refused-exactly m (sound-reached m R) s o x there live)
 
--- "a well-formed get by an enrolled subject on a live object is refused exactly when adding that access would break one of them"
-pub get-exactly : (b : Beginning) → Accepted b → (qs : List (List ℕ)) (g : List ℕ) (s o : ℕ) (x : Mode)
-    → decode g ≡ Says (Get s o x) → enrolled (left b qs) s ≡ true → object (left b qs) o .live ≡ true
-    → (2 ≤ reply g (left b qs)) ↔ (Secure (withAccess (left b qs) s o x) → ⊥)
-get-exactly b e qs g s o x d there live =
-    let m = left b qs in
-    subst (λ (r : Response). (2 ≤ number (r .decision)) ↔ (Secure (withAccess m s o x) → ⊥)) (sym (respond-says g (Get s o x) m d))
-    (get-refused-exactly m (sound-left b e qs) s o x there live)
+  -- "Reply 0: granted and the state changed"
+  pub reply-0-exactly : (g : List ℕ) → (reply g m ≡ 0) ↔ ((reply g m < 2) × (respond g m .monitor ≢ m))
+  reply-0-exactly g =
+      respond-all (λ (r : Response). (number (r .decision) ≡ 0) ↔ ((number (r .decision) < 2) × (r .monitor ≢ m))) g m
+      (λ w. (λ z. absurd (omega (arith, z)), λ p. absurd (p .1 refl)))
+      (λ q d.
+      let t = reply-zero q m (sound-reached m R .formed) (decode-range g q d) in
+      (λ z. (omega (arith, z), t .0 z .1), λ p. t .1 (reply-granted q m .0 (p .0), p .1)))
 
--- "Reply 0: granted and the state changed"
-pub reply-0-exactly : (b : Beginning) → Accepted b → (qs : List (List ℕ)) (g : List ℕ)
-    → (reply g (left b qs) ≡ 0) ↔ ((reply g (left b qs) < 2) × (respond g (left b qs) .monitor ≢ left b qs))
-reply-0-exactly b e qs g =
-    let m = left b qs in
-    respond-all (λ (r : Response). (number (r .decision) ≡ 0) ↔ ((number (r .decision) < 2) × (r .monitor ≢ m))) g m
-    (λ w. (λ z. absurd (omega (arith, z)), λ p. absurd (p .1 refl)))
-    (λ q d.
-    let t = reply-zero q m (sound-left b e qs .formed) (decode-range g q d) in
-    (λ z. (omega (arith, z), t .0 z .1), λ p. t .1 (reply-granted q m .0 (p .0), p .1)))
-
--- "Reply 1: granted and the state was so already"
-pub reply-1-exactly : (b : Beginning) → Accepted b → (qs : List (List ℕ)) (g : List ℕ)
-    → (reply g (left b qs) ≡ 1) ↔ ((reply g (left b qs) < 2) × (respond g (left b qs) .monitor ≡ left b qs))
-reply-1-exactly b e qs g =
-    let m = left b qs in
-    respond-all (λ (r : Response). (number (r .decision) ≡ 1) ↔ ((number (r .decision) < 2) × (r .monitor ≡ m))) g m
-    (λ w. (λ z. absurd (omega (arith, z)), λ p. absurd (omega (arith, p .0))))
-    (λ q d.
-    let t = reply-one q m (sound-left b e qs .formed) (decode-range g q d) in
-    (λ z. (omega (arith, z), t .0 z .1), λ p. t .1 (reply-granted q m .0 (p .0), p .1)))
+  -- "Reply 1: granted and the state was so already"
+  pub reply-1-exactly : (g : List ℕ) → (reply g m ≡ 1) ↔ ((reply g m < 2) × (respond g m .monitor ≡ m))
+  reply-1-exactly g =
+      respond-all (λ (r : Response). (number (r .decision) ≡ 1) ↔ ((number (r .decision) < 2) × (r .monitor ≡ m))) g m
+      (λ w. (λ z. absurd (omega (arith, z)), λ p. absurd (omega (arith, p .0))))
+      (λ q d.
+      let t = reply-one q m (sound-reached m R .formed) (decode-range g q d) in
+      (λ z. (omega (arith, z), t .0 z .1), λ p. t .1 (reply-granted q m .0 (p .0), p .1)))
 
 -- a refusal, of any bytes on any monitor, leaves "the whole state"
 pub refusal-leaves-state : (g : List ℕ) (m : Monitor) → 2 ≤ reply g m → respond g m .monitor ≡ m

@@ -26,6 +26,7 @@ use Rattle.security.specs.Sound.{Sound}
 use Rattle.security.proofs.Steps.{sound-after}
 use Rattle.security.proofs.Images.{image-passed, table-sound}
 use Rattle.security.proofs.Trips.{image-tells}
+use Rattle.security.proofs.Reached.{sound-reached, fills, reached-left}
 use Rattle.security.specs.Inputs.{AllInRange}
 use Rattle.security.proofs.Probes.{Differs, Probe, alike, apart, probe-map, probe-or, probe-search}
 use Rattle.security.proofs.ObjectProbes.{probe-enrolment, probe-object}
@@ -63,30 +64,6 @@ pub distinguishes-not : (m n : Monitor) → Sound m → Sound n → m ≡ n → 
 unfolding Differs
 distinguishes-not m n S N e = elim (probe-all m n S N) [ alike p k ↦ p | apart r l d ↦ absurd (d (ap (replies (map encode (distinguish m n))) e)) ]
 
--- ---- what a reader accepts
-
--- an accepted beginning is sound
-pub sound-begun : (b : Beginning) → Accepted b → Sound (begun b .monitor)
-unfolding readTable readImage begin
-sound-begun (table b) e = subst Sound (sym (cond-false (refuses (tableChecks b)) _ _ (ap refuses e))) (table-sound b)
-sound-begun (image b) e = subst Sound (sym (cond-false (refuses (imageChecks b)) _ _ (ap refuses e))) (image-passed b e .2)
-
-pub sound-left : (b : Beginning) → Accepted b → (qs : List (List ℕ)) → Sound (left b qs)
-sound-left b e qs = sound-after qs (begun b .monitor) (sound-begun b e)
-
-pub sound-reached : (m : Monitor) → Reached m → Sound m
-sound-reached m r = subst Sound (r .reaches) (sound-left (r .beginning) (r .accepted) (r .requests))
-
--- ---- what a writing with result 0 fills
-
-pub fills : (m : Monitor) (buffer : List ℕ) → number (writing buffer) ≡ 0 → take imageSize (written m buffer) ≡ imageOf m
-unfolding writing written imageOf
-fills m buffer e =
-    split (tooShort buffer)
-    (λ w. absurd (omega (arith, sym e ∙ ap number (cond-true (tooShort buffer) ShortBuffer Granted w))))
-    (λ w. ap (take imageSize) (cond-false (tooShort buffer) buffer (imageOf m ++ drop imageSize buffer) w)
-    ∙ take-at (imageOf m) (drop imageSize buffer) imageSize (length-bitsToBytes imageSize (imageBits m)))
-
 -- ---- the demand
 
 encoded-bytes : (qs : List Request) → AllBytes (map encode qs)
@@ -100,22 +77,25 @@ unfolding Differs
 same-replies m n S N h =
     elim (probe-all m n S N) [ alike p e ↦ e | apart r l d ↦ absurd (d (h (map encode (distinguish m n)) (encoded-bytes (distinguish m n)))) ]
 
--- equal images draw the same replies, to lists of byte strings with any numbers in them
-pub equal-images-reply-alike : (b c : Beginning) → Accepted b → Accepted c → (qs rs : List (List ℕ))
-    → (buffer other : List ℕ) → number (writing buffer) ≡ 0 → number (writing other) ≡ 0
-    → take imageSize (written (left b qs) buffer) ≡ take imageSize (written (left c rs) other)
-    → (further : List (List ℕ)) → replies further (left b qs) ≡ replies further (left c rs)
-equal-images-reply-alike b c e f qs rs buffer other u v p further =
-    ap (replies further)
-    (image-tells (left b qs) (left c rs) (sound-left b e qs) (sound-left c f rs)
-    (sym (fills (left b qs) buffer u) ∙ p ∙ fills (left c rs) other v))
+-- two reached monitors, each written into a buffer with result 0
+module _ (m n : Monitor) (R : Reached m) (Q : Reached n) (buffer other : List ℕ) (u : number (writing buffer) ≡ 0) (v : number (writing other) ≡ 0) where
+  -- equal images draw the same replies, to lists of byte strings with any numbers in them
+  pub equal-images-reply-alike : take imageSize (written m buffer) ≡ take imageSize (written n other)
+      → (further : List (List ℕ)) → replies further m ≡ replies further n
+  equal-images-reply-alike p further =
+      ap (replies further) (image-tells m n (sound-reached m R) (sound-reached n Q) (sym (fills m buffer u) ∙ p ∙ fills n other v))
 
+  -- the images are equal in every byte exactly when every further list draws the same replies from both
+  pub same-image-same-replies : (take imageSize (written m buffer) ≡ take imageSize (written n other))
+      ↔ ((further : List (List ℕ)) → AllBytes further → replies further m ≡ replies further n)
+  same-image-same-replies = (
+    λ p further g. equal-images-reply-alike p further,
+    λ h. fills m buffer u ∙ ap imageOf (same-replies m n (sound-reached m R) (sound-reached n Q) h) ∙ sym (fills n other v),
+  )
+
+-- the same with the beginnings and the lists written out
 pub demand-3 : (b c : Beginning) → Accepted b → Accepted c → (qs rs : List (List ℕ))
     → (buffer other : List ℕ) → number (writing buffer) ≡ 0 → number (writing other) ≡ 0
     → (take imageSize (written (left b qs) buffer) ≡ take imageSize (written (left c rs) other))
     ↔ ((further : List (List ℕ)) → AllBytes further → replies further (left b qs) ≡ replies further (left c rs))
-demand-3 b c e f qs rs buffer other u v = (
-  λ p further g. equal-images-reply-alike b c e f qs rs buffer other u v p further,
-  λ h. fills (left b qs) buffer u ∙ ap imageOf (same-replies (left b qs) (left c rs) (sound-left b e qs) (sound-left c f rs) h)
-      ∙ sym (fills (left c rs) other v),
-)
+demand-3 b c e f qs rs = same-image-same-replies (left b qs) (left c rs) (reached-left b e qs) (reached-left c f rs)

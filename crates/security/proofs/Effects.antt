@@ -29,8 +29,7 @@ use Rattle.security.specs.Effects.{Effect}
 use Rattle.security.proofs.Form.{no-modes}
 use Rattle.security.proofs.Steps.{step-granted}
 use Rattle.security.proofs.Replies.{target-below, reply-granted}
-use Rattle.security.proofs.Demand3.{sound-reached}
-use Rattle.security.proofs.Demand2.{respond-says}
+use Rattle.security.proofs.Reached.{sound-reached, respond-says}
 
 module _ (m : Monitor) (W : WellFormed m) where
   -- a set in a row of an object, after a store there

@@ -36,8 +36,7 @@ use Rattle.security.proofs.Replies.{step-cases, reply-granted}
 use Rattle.security.proofs.RequestCauses.{request-answers}
 use Rattle.security.proofs.Malformed.{malformed-exactly}
 use Rattle.security.proofs.Images.{table-answers, image-answers}
-use Rattle.security.proofs.Demand3.{sound-reached}
-use Rattle.security.proofs.Demand2.{respond-says}
+use Rattle.security.proofs.Reached.{sound-reached, respond-says}
 
 -- the checks of a request answer d exactly when its reply has that number
 reply-is : (q : Request) (m : Monitor) (d : Decision) → refuses d ≡ true → (number (step q m .decision) ≡ number d) ↔ (checks q m ≡ d)

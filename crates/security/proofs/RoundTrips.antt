@@ -25,7 +25,7 @@ use Rattle.security.specs.Tables.{tableOf}
 use Rattle.security.specs.Sound.{Sound}
 use Rattle.security.specs.Tables.{TableFits}
 use Rattle.security.proofs.Trips.{image-read-back, image-accepted, image-bytes-back, table-accepted, table-read-back, table-bytes-back}
-use Rattle.security.proofs.Demand3.{sound-reached, fills}
+use Rattle.security.proofs.Reached.{sound-reached, fills}
 
 -- what a reader returns where nothing refuses
 begin-granted : (d : Decision) (m n : Monitor) → d ≡ Granted → m ≡ n → begin d m ≡ record { decision = Granted; monitor = n }

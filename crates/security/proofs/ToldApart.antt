@@ -25,7 +25,8 @@ use Rattle.model.specs.Beginnings.{image, Accepted}
 use Rattle.model.proofs.Tests.{cond-all, cond-false}
 use Rattle.security.specs.Distinguish.{orElse, search, searchModes, when, byEnrolment, byLife, byOwner, toLabel, byLabel, byRight, byAccess, byObject, readAt, toClearance, byClearance, distinguish}
 use Rattle.security.proofs.Trips.{image-bytes-back}
-use Rattle.security.proofs.Demand3.{sound-begun, distinguishes, distinguishes-not}
+use Rattle.security.proofs.Reached.{sound-begun}
+use Rattle.security.proofs.Demand3.{distinguishes, distinguishes-not}
 
 -- ---- never more than four requests, also for monitor records that no run reaches
 

@@ -36,7 +36,7 @@ use Rattle.security.specs.Inputs.{SixEach}
 use Rattle.security.specs.MarkedRun.{level, subjectsW, tableW, Row, rows}
 use Rattle.security.proofs.Shapes.{table-shape}
 use Rattle.security.proofs.Trips.{image-accepted, image-tells}
-use Rattle.security.proofs.Demand3.{sound-left}
+use Rattle.security.proofs.Reached.{sound-left}
 use Rattle.security.proofs.MarkedRun.{marked-run}
 
 -- the byte strings of the marked run
