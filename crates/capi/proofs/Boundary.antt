@@ -1,12 +1,10 @@
 -- The two answers of each function that reads first: what was read is refused, or it is not.
 -- Assumes nothing.
-use Prim.Native.Nat.{ℕ, _+_, _<_}
-use native.Mathlib.Omega.{arith}
+use Prim.Native.Nat.{ℕ, _+_}
 use mathlib.Core.Path.{_≡_, sym, ap, ap₂, _∙_}
 use mathlib.Core.Bool.{Bool, true, false}
 use mathlib.Core.List.{List}
 use Rattle.model.specs.declared.Decision.{Decision}
-use Rattle.model.specs.declared.Decision.the-variants.{Granted, Already, MalformedRequest, NotEnrolled, NotLive, AlreadyLive, NoRight, NoLabel, SimpleBroken, StarBroken, WrongLength, StrayBits, AbsentSubject, ShortBuffer}
 use Rattle.model.specs.declared.Response.{Response}
 use Rattle.model.specs.Decisions.{number, refuses}
 use Rattle.model.specs.Runs.{respond}
@@ -15,23 +13,6 @@ use Rattle.model.specs.Writing.{writing, written}
 use Rattle.distinguish.specs.Telling.{toldNumber, toldBytes}
 use Rattle.model.proofs.Tests.{cond-true, cond-false}
 use Rattle.capi.specs.Boundary.{beginNumber, beginBytes, requestNumber, requestBytes, distinguishNumber, distinguishBytes}
-
--- every number is below 14
-pub number-small : (d : Decision) → number d < 14
-number-small Granted = omega arith
-number-small Already = omega arith
-number-small MalformedRequest = omega arith
-number-small NotEnrolled = omega arith
-number-small NotLive = omega arith
-number-small AlreadyLive = omega arith
-number-small NoRight = omega arith
-number-small NoLabel = omega arith
-number-small SimpleBroken = omega arith
-number-small StarBroken = omega arith
-number-small WrongLength = omega arith
-number-small StrayBits = omega arith
-number-small AbsentSubject = omega arith
-number-small ShortBuffer = omega arith
 
 -- the refusal of what was read, from the code's value to the definition's
 refusal : (r k : Response) → r ≡ k → (b : Bool) → refuses (r .decision) ≡ b → refuses (k .decision) ≡ b

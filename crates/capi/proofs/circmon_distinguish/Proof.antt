@@ -2,7 +2,8 @@
 -- Assumes nothing.
 use mathlib.Core.Path.{sym, _∙_}
 use native.Mathlib.Omega.{arith}
-use Rattle.capi.proofs.Boundary.{number-small, first-refused, second-refused, told-apart}
+use Rattle.model.proofs.Decisions.{number-small}
+use Rattle.capi.proofs.Boundary.{first-refused, second-refused, told-apart}
 use borrow.Author.Needs.{needs}
 use Rattle.capi.proofs.circmon_distinguish.Statement.{statement}
 use Rattle.capi.proofs.circmon_distinguish.Tie as tie

@@ -2,7 +2,8 @@
 -- Assumes nothing.
 use mathlib.Core.Path.{sym, _∙_}
 use native.Mathlib.Omega.{arith}
-use Rattle.capi.proofs.Boundary.{number-small, request-refused, request-carried}
+use Rattle.model.proofs.Decisions.{number-small}
+use Rattle.capi.proofs.Boundary.{request-refused, request-carried}
 use borrow.Author.Needs.{needs}
 use Rattle.capi.proofs.circmon_request.Statement.{statement}
 use Rattle.capi.proofs.circmon_request.Tie as tie
