@@ -5,7 +5,7 @@ use Prim.Native.Nat.{ℕ, _+_, _*_, _≤_}
 use native.Mathlib.Omega.{arith}
 use mathlib.Core.Path.{_≡_, refl, sym, ap, ap₂, _∙_, subst}
 use mathlib.Core.Logic.{_↔_, _≢_}
-use mathlib.Core.Bool.{true, false}
+use mathlib.Core.Bool.{false}
 use mathlib.Core.List.{List, [], _∷_, _++_, map, append-nil}
 use lib.ListN.{length, drop, length-map}
 use lib.Seq.{drop-length}
@@ -13,25 +13,24 @@ use Rattle.bits.specs.Bits.{Bytes, cut, join}
 use Rattle.model.specs.declared.Monitor.{Monitor}
 use Rattle.model.specs.declared.Request.{Request}
 use Rattle.model.specs.declared.Response.{Response}
-use Rattle.model.specs.Decisions.{number, refuses}
+use Rattle.model.specs.Decisions.{refuses}
 use Rattle.model.specs.Requests.{encode}
 use Rattle.model.specs.Runs.{respond, reply, after, replies}
 use Rattle.model.specs.Layout.{imageOf}
 use Rattle.model.specs.Reading.{readTable, readImage}
-use Rattle.model.specs.Beginnings.{Beginning, table, image, begun, Accepted, AllBytes}
+use Rattle.model.specs.Beginnings.{table, image, Accepted, AllBytes}
 use Rattle.model.proofs.Tests.{cond-false}
 use Rattle.security.specs.Inputs.{SixEach}
 use Rattle.security.specs.Distinguish.{distinguish}
 use Rattle.security.specs.Sound.{Sound}
 use Rattle.security.proofs.Steps.{sound-respond, sound-after}
-use Rattle.security.proofs.Trips.{image-tells}
 use Rattle.security.proofs.Reached.{sound-begun}
 use Rattle.security.proofs.Demand3.{same-replies}
 use Rattle.security.proofs.RoundTrips.{image-length, write-0-fills, image-reads}
 use Rattle.security.proofs.ToldApart.{written-back, equal-images-told, different-images-told}
 use Rattle.security.proofs.Programs.{cut-whole}
 use Rattle.distinguish.proofs.Storing.{length-encode}
-use Rattle.capi.specs.Boundary.{beginNumber, beginBytes, requestNumber, requestBytes, distinguishNumber, distinguishBytes}
+use Rattle.capi.specs.Boundary.{beginBytes, requestNumber, requestBytes, distinguishNumber, distinguishBytes}
 use Rattle.capi.specs.Calls.{numbers, bytesLeft}
 use Rattle.capi.proofs.Numbers.{begin-0, distinguish-requests}
 

@@ -3,24 +3,22 @@
 use Prim.Native.Nat.{ℕ, _+_, _*_, _/_, _<_, _≤_}
 use native.Mathlib.Omega.{arith}
 use mathlib.Core.Path.{_≡_, refl, sym, ap, _∙_}
-use mathlib.Core.Bool.{true, false}
+use mathlib.Core.Bool.{true}
 use mathlib.Core.List.{List, [], _∷_, _++_, map}
 use lib.ListN.{length, drop, length-append}
 use borrow.Author.Tests.{le-leb, lt-ltb, le-ltb}
-use Rattle.bits.specs.Bits.{Bytes, join}
-use Rattle.model.specs.declared.Monitor.{Monitor}
+use Rattle.bits.specs.Bits.{join}
 use Rattle.model.specs.declared.Decision.{Decision}
 use Rattle.model.specs.declared.Decision.the-variants.{Granted, ShortBuffer}
 use Rattle.model.specs.Decisions.{number, refuses}
 use Rattle.model.specs.Requests.{encode}
-use Rattle.model.specs.Runs.{respond, reply, replies}
+use Rattle.model.specs.Runs.{replies}
 use Rattle.model.specs.Layout.{imageOf}
 use Rattle.model.specs.Reading.{readTable, readImage}
-use Rattle.model.specs.Writing.{writing, written}
+use Rattle.model.specs.Writing.{writing}
 use Rattle.model.specs.Program.{pieces}
 use Rattle.model.specs.Beginnings.{table, image, Accepted}
 use Rattle.model.proofs.Tests.{cond-true, cond-false}
-use Rattle.model.proofs.Decisions.{number-inj}
 use Rattle.security.specs.Inputs.{SixEach}
 use Rattle.security.specs.Distinguish.{distinguish}
 use Rattle.security.proofs.RoundTrips.{write-13-exactly, write-0-exactly, write-13-leaves, write-0-fills}

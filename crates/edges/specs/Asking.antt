@@ -2,7 +2,6 @@
 -- Assumes nothing.
 use Prim.Native.Nat.{ℕ}
 use Rattle.model.specs.declared.Monitor.{Monitor}
-use Rattle.model.specs.declared.Response.{Response}
 use Rattle.model.specs.Requests.{pack}
 use Rattle.model.specs.Runs.{respond}
 use Rattle.encoding.specs.Word.{withoutLevel}

@@ -5,18 +5,16 @@ use mathlib.Core.Path.{_≡_, refl}
 use mathlib.Core.Bool.{true, false}
 use mathlib.Core.List.{List, [], _∷_, map}
 use lib.ListN.{take}
-use Rattle.bits.specs.Bits.{odd, toBits, fromBits, bytesToBits, bitsToBytes, field, cut, allZero}
+use Rattle.bits.specs.Bits.{odd, toBits, fromBits, bytesToBits, field, cut}
 use Rattle.model.specs.declared.Level.{Level}
 use Rattle.model.specs.declared.Label.the-variants.{Present}
 use Rattle.model.specs.declared.Object.{Object}
 use Rattle.model.specs.declared.Mode.the-variants.{Read, Write, Append, Execute}
-use Rattle.model.specs.declared.Request.{Request}
 use Rattle.model.specs.declared.Request.the-variants.{Get, Release, Give, Rescind, Create, Delete, ChangeLevel}
-use Rattle.model.specs.declared.Decoded.{Decoded}
-use Rattle.model.specs.declared.Decoded.the-variants.{Malformed, Says}
+use Rattle.model.specs.declared.Decoded.the-variants.{Says}
 use Rattle.model.specs.Levels.{need}
 use Rattle.model.specs.Requests.{fields, modeAllowed, unusedZero, wellFormed, request, decodeFields, decode}
-use Rattle.model.specs.Layout.{objectWidth, labelBits, setsBits, objectBits}
+use Rattle.model.specs.Layout.{labelBits, setsBits, objectBits}
 use Rattle.model.specs.Reading.{labelFrom, labelForm, objectFrom, objectForm}
 
 -- ---- requests

@@ -7,6 +7,7 @@ pub mod Packing
 pub mod Requests
 pub mod Lists
 pub mod Records
+pub mod Equal
 pub mod Examples
 pub mod RuleExamples
 pub mod ByteExamples

@@ -2,23 +2,20 @@
 -- Assumes nothing.
 use Prim.Native.Nat.{ℕ, _<_, _≤_}
 use native.Mathlib.Omega.{arith}
-use mathlib.Core.Path.{_≡_, refl, sym, ap, subst}
+use mathlib.Core.Path.{_≡_, refl, sym, subst}
 use mathlib.Core.Logic.{_↔_, _≢_}
 use mathlib.Core.Bool.{true}
 use mathlib.Core.List.{List}
 use Rattle.model.specs.declared.Monitor.{Monitor}
 use Rattle.model.specs.declared.Mode.{Mode}
-use Rattle.model.specs.declared.Request.{Request}
 use Rattle.model.specs.declared.Request.the-variants.{Get}
-use Rattle.model.specs.declared.Decoded.{Decoded}
 use Rattle.model.specs.declared.Decoded.the-variants.{Says}
 use Rattle.model.specs.declared.Response.{Response}
 use Rattle.model.specs.State.{enrolled, object, WellFormed}
 use Rattle.model.specs.Properties.{Secure}
 use Rattle.model.specs.Decisions.{number}
 use Rattle.model.specs.Requests.{decode}
-use Rattle.model.specs.Rules.{step}
-use Rattle.model.specs.Runs.{carryOut, respond, reply}
+use Rattle.model.specs.Runs.{respond, reply}
 use Rattle.model.specs.Beginnings.{Reached}
 use Rattle.model.proofs.Requests.{decode-range}
 use Rattle.security.specs.Access.{withAccess}

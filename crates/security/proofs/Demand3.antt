@@ -1,30 +1,23 @@
 -- Demand 3: two images are equal in every byte exactly when every further list of requests draws the same replies from both.
 -- Assumes nothing.
-use Prim.Native.Nat.{ℕ, _<_, _≤_}
-use native.Mathlib.Omega.{arith}
-use mathlib.Core.Path.{_≡_, sym, ap, _∙_, subst}
+use Prim.Native.Nat.{ℕ, _≤_}
+use mathlib.Core.Path.{_≡_, sym, ap, _∙_}
 use mathlib.Core.Logic.{_↔_, _≢_}
-use mathlib.Core.List.{List, [], _∷_, _++_, map}
-use lib.ListN.{length, take, drop}
-use lib.Seq.{ext-getD, take-at}
-use Rattle.bits.specs.Laws.{length-bitsToBytes}
+use mathlib.Core.List.{List, [], _∷_, map}
+use lib.ListN.{length, take}
 use Rattle.model.specs.declared.Monitor.{Monitor}
 use Rattle.model.specs.declared.Request.{Request}
-use Rattle.model.specs.declared.Decision.the-variants.{Granted, ShortBuffer}
-use Rattle.model.specs.State.{nobody, noObject, clearance, enrolled, object}
-use Rattle.model.specs.Decisions.{number, refuses}
+use Rattle.model.specs.State.{clearance, enrolled, object}
+use Rattle.model.specs.Decisions.{number}
 use Rattle.model.specs.Requests.{encode}
 use Rattle.model.specs.Runs.{replies}
-use Rattle.model.specs.Layout.{imageSize, imageBits, imageOf}
-use Rattle.model.specs.Reading.{tableChecks, imageChecks, begin, readTable, readImage}
-use Rattle.model.specs.Writing.{tooShort, writing, written}
-use Rattle.model.specs.Beginnings.{Beginning, table, image, begun, Accepted, left, Reached, AllBytes}
-use Rattle.model.proofs.Tests.{split, cond-true, cond-false}
+use Rattle.model.specs.Layout.{imageSize, imageOf}
+use Rattle.model.specs.Writing.{writing, written}
+use Rattle.model.specs.Beginnings.{Beginning, Accepted, left, Reached, AllBytes}
 use Rattle.model.proofs.Packing.{pack-bytes}
+use Rattle.model.proofs.Equal.{state-same}
 use Rattle.security.specs.Distinguish.{search, byEnrolment, byObject, byClearance, distinguish}
 use Rattle.security.specs.Sound.{Sound}
-use Rattle.security.proofs.Steps.{sound-after}
-use Rattle.security.proofs.Images.{image-passed, table-sound}
 use Rattle.security.proofs.Trips.{image-tells}
 use Rattle.security.proofs.Reached.{sound-reached, fills, reached-left}
 use Rattle.security.specs.Inputs.{AllInRange}
@@ -34,20 +27,10 @@ use Rattle.security.proofs.Clearances.{probe-clearance}
 
 -- ---- the list that tells two states apart
 
-same-state : (m n : Monitor) → Sound m → Sound n → ((o : ℕ) → o < 64 → object m o ≡ object n o) → ((s : ℕ) → s < 16 → clearance m s ≡ clearance n s) → m ≡ n
-same-state m n S N objects clearances =
-    let subs : m .subjects ≡ n .subjects =
-    ext-getD nobody (m .subjects) (n .subjects) (S .formed .subjects-length ∙ sym (N .formed .subjects-length))
-    (λ s h. let e = clearances s (omega (arith, S .formed .subjects-length)) in λ i. record { clearance = e i }) in
-    let objs : m .objects ≡ n .objects =
-    ext-getD noObject (m .objects) (n .objects) (S .formed .objects-length ∙ sym (N .formed .objects-length))
-    (λ o h. objects o (omega (arith, S .formed .objects-length))) in
-    λ i. record { subjects = subs i; objects = objs i }
-
 probe-all : (m n : Monitor) → Sound m → Sound n → Probe m n (distinguish m n) (m ≡ n)
 unfolding distinguish
 probe-all m n S N =
-    probe-map m n (distinguish m n) (λ p. same-state m n S N (p .1 .0) (p .1 .1))
+    probe-map m n (distinguish m n) (λ p. state-same m n (S .formed) (N .formed) (p .1 .1) (p .1 .0))
     (probe-or m n (search 16 (byEnrolment m n)) _
     (probe-search m n (λ s. enrolled m s ≡ enrolled n s) 16 (byEnrolment m n) (probe-enrolment m n S N))
     (λ same. probe-or m n (search 64 (byObject m n)) (search 16 (byClearance m n))

@@ -1,11 +1,9 @@
 -- The searches over who is enrolled and over one object: a request that tells two states apart, or the same object.
 -- Assumes nothing.
 use Prim.Native.Nat.{ℕ, _<_}
-use native.Mathlib.Omega.{arith}
 use mathlib.Core.Path.{_≡_, refl, sym, ap, _∙_, subst}
 use mathlib.Core.Logic.{_≢_}
 use mathlib.Core.Bool.{true, false, not, cond}
-use lib.Seq.{ext-getD}
 use lib.Dec.{eqb, lit<}
 use borrow.Author.Tests.{eq-eqb, eqb-true}
 use Rattle.model.specs.declared.Level.{Level}
@@ -24,8 +22,8 @@ use Rattle.model.specs.Decisions.{number}
 use Rattle.model.specs.Requests.{InRange}
 use Rattle.model.specs.Rules.{step}
 use Rattle.model.proofs.Tests.{split, clash, cond-true, cond-false, not-on, not-off}
+use Rattle.model.proofs.Equal.{object-same}
 use Rattle.model.proofs.Tests as tests
-use Rattle.model.proofs.Modes.{modes-ext}
 use Rattle.model.proofs.Levels.{same-label, label-same}
 use Rattle.security.specs.Distinguish.{when, search, searchModes, byEnrolment, byLife, byOwner, toLabel, byLabel, byRight, byAccess, byObject}
 use Rattle.security.specs.Sound.{Sound}
@@ -132,25 +130,10 @@ module _ (m n : Monitor) (S : Sound m) (N : Sound n) where
           (λ a b. let p = tells-access m n S N same o o-below a b s x h e g in (p .0, swap (p .1))) (λ w. tests.apart e (differs w ∙ g)))
           (λ e g. live-or-same (λ a b. tells-access n m N S back o o-below b a s x h g e) (λ w. tests.apart g (sym (differs w) ∙ e)))))
 
-      -- what is then known of the object makes it the same
-      same-object : object m o .owner ≡ object n o .owner → object m o .label ≡ object n o .label
-          → ((s : ℕ) → s < 16 → (x : Mode) → has x (rightsOf (object m o) s) ≡ has x (rightsOf (object n o) s))
-          → ((s : ℕ) → s < 16 → (x : Mode) → has x (heldBy (object m o) s) ≡ has x (heldBy (object n o) s)) → object m o ≡ object n o
-      same-object owner label rights held =
-          let F = S .formed .objects-formed o in
-          let G = N .formed .objects-formed o in
-          let rights-same : object m o .rights ≡ object n o .rights =
-          ext-getD 0 (object m o .rights) (object n o .rights) (F .rights-length ∙ sym (G .rights-length))
-          (λ s h. modes-ext _ _ (F .rights-fit s) (G .rights-fit s) (rights s (omega (arith, F .rights-length)))) in
-          let held-same : object m o .held ≡ object n o .held =
-          ext-getD 0 (object m o .held) (object n o .held) (F .held-length ∙ sym (G .held-length))
-          (λ s h. modes-ext _ _ (F .held-fit s) (G .held-fit s) (held s (omega (arith, F .held-length)))) in
-          λ i. record { live = alive i; owner = owner i; label = label i; rights = rights-same i; held = held-same i }
-
     pub probe-object : Probe m n (byObject m n o) (object m o ≡ object n o)
     unfolding byObject
     probe-object =
-        probe-map m n (byObject m n o) (λ p. same-object (p .0) (p .1 .0) (p .1 .1 .0) (p .1 .1 .1 .0) (p .1 .1 .1 .1))
+        probe-map m n (byObject m n o) (λ p. object-same (object m o) (object n o) (S .formed .objects-formed o) (N .formed .objects-formed o) (p .0) (p .1 .0) (p .1 .1 .0) (p .1 .1 .1 .0) (p .1 .1 .1 .1))
         (probe-or m n (byLife m n o) _ probe-life
         (λ alive. probe-or m n (byOwner m n o) _ (probe-owner alive)
         (λ owned. probe-or m n (byLabel m n o) _ (probe-label alive owned)

@@ -22,11 +22,12 @@ use Rattle.model.specs.declared.Decision.{Decision}
 use Rattle.model.specs.declared.Decision.the-variants.{Granted, NotEnrolled, NotLive, NoRight, NoLabel, SimpleBroken, StarBroken}
 use Rattle.model.specs.Levels.{sameLabel}
 use Rattle.model.specs.Modes.{has}
-use Rattle.model.specs.State.{noObject, enrolled, object, rightsOf, heldBy, withLabel, LabelFits}
+use Rattle.model.specs.State.{noObject, enrolled, object, rightsOf, heldBy, LabelFits}
 use Rattle.model.specs.Decisions.{number, refuses}
 use Rattle.model.specs.Requests.{InRange}
 use Rattle.model.specs.Rules.{target, changed, already, checks, owns, simpleAll, starAll, step}
 use Rattle.model.proofs.Tests.{split, apart, pass, stop, not-stop, distinct}
+use Rattle.model.proofs.Equal.{with-label-same}
 use Rattle.model.proofs.Decisions.{number-inj}
 use Rattle.model.proofs.Modes.{has-none}
 use Rattle.model.proofs.Levels.{label-same}
@@ -73,7 +74,7 @@ change-granted : (m : Monitor) → Sound m → (o : ℕ) (l : Level) → object 
 unfolding checks changed
 change-granted m S o l a e =
     let ob = object m o in
-    let is : withLabel ob (Present l) ≡ ob = let f = sym e in λ i. record { live = ob .live; owner = ob .owner; label = f i; rights = ob .rights; held = ob .held } in
+    let is = with-label-same ob (Present l) (sym e) in
     pass _ NotEnrolled _ (S .formed .objects-formed o .owner-enrolled a) ∙ pass _ NotLive _ a ∙ pass _ NoRight _ (eq-eqb (ob .owner) _ refl)
     ∙ pass _ SimpleBroken _
     (subst (λ (b : Object). simpleAll (m .subjects) b ≡ true) (sym is) (simple-in (m .subjects) ob (object-secure m (S .secure) o .simple)))

@@ -4,24 +4,22 @@
 use Prim.Native.Nat.{ℕ, zero, suc, _+_, _*_, _/_, _<_, _≤_}
 use native.Mathlib.Omega.{arith}
 use mathlib.Core.Path.{_≡_, refl, sym, ap, ap₂, _∙_}
-use mathlib.Core.Bool.{true, false}
+use mathlib.Core.Bool.{true}
 use mathlib.Core.List.{List, [], _∷_, _++_, map, append-assoc, append-nil}
 use lib.ListN.{length, take, drop, replicate, length-append, length-take, length-drop}
 use lib.Seq.{take-at, drop-at, take-all, take-append-le, drop-append-le}
 use borrow.Author.Tests.{eqb-true, ne-eqb}
 use lib.Dec.{eqb}
 use Rattle.bits.specs.Bits.{odd, toBits, fromBits, bytesToBits, field, cut, join, allZero}
-use Rattle.model.specs.declared.Monitor.{Monitor}
 use Rattle.model.specs.declared.Decision.{Decision}
-use Rattle.model.specs.declared.Decision.the-variants.{Granted, WrongLength, StrayBits}
-use Rattle.model.specs.declared.Response.{Response}
+use Rattle.model.specs.declared.Decision.the-variants.{WrongLength}
 use Rattle.model.specs.Tests.{implies, unless}
 use Rattle.model.specs.Levels.{levelDominates, dominates, sameLabel}
 use Rattle.model.specs.Modes.{has, add, remove}
 use Rattle.model.specs.Decisions.{number, refuses}
 use Rattle.model.specs.Requests.{fields, modeAllowed, unusedZero, wellFormed, request, decodeFields, decode}
 use Rattle.model.specs.Rules.{simpleAll, starPair, starFrom, starFor, starAll, changed, already, checks, answer, step}
-use Rattle.model.specs.Runs.{respond, reply, after, replies}
+use Rattle.model.specs.Runs.{respond, after, replies}
 use Rattle.model.specs.Layout.{tableSize}
 use Rattle.model.specs.Reading.{labelFrom, labelForm, tableFrom, tableForm, tableChecks, begin, readTable}
 use Rattle.model.specs.Beginnings.{table, Accepted}

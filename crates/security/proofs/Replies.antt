@@ -5,9 +5,8 @@ use native.Mathlib.Omega.{arith}
 use mathlib.Core.Path.{_≡_, refl, sym, ap, _∙_, subst}
 use mathlib.Core.Logic.{_↔_, _≢_}
 use mathlib.Core.Bool.{Bool, true, false, not, cond}
-use lib.ListN.{set}
 use borrow.Author.Tests.{leb-true}
-use lib.Seq.{set-getD, getD-set-same}
+use lib.Seq.{getD-set-same}
 use Rattle.model.specs.declared.Object.{Object}
 use Rattle.model.specs.declared.Monitor.{Monitor}
 use Rattle.model.specs.declared.Label.the-variants.{Present}
@@ -23,40 +22,27 @@ use Rattle.model.specs.Rules.{target, changed, already, afterwards, checks, ste
 use Rattle.model.proofs.Tests.{passed, split, apart, clash, and-left, and-right, and-both, not-on, not-off}
 use Rattle.model.proofs.Modes.{add-same, remove-same, add-has, remove-has}
 use Rattle.model.proofs.Levels.{same-label, label-same}
+use Rattle.model.proofs.Equal.{with-held-same, with-rights-same, with-label-same, with-object-same}
 use Rattle.security.proofs.Steps.{granted-or-refused, step-granted, step-refused}
 
 -- ---- the state was so already
 
-held-back : (ob : Object) (s n : ℕ) → n ≡ heldBy ob s → withHeld ob s n ≡ ob
-held-back ob s n e =
-    let p : set (ob .held) s n ≡ ob .held = ap (λ (k : ℕ). set (ob .held) s k) e ∙ set-getD (ob .held) s 0 in
-    λ i. record { live = ob .live; owner = ob .owner; label = ob .label; rights = ob .rights; held = p i }
-
-rights-back : (ob : Object) (s n : ℕ) → n ≡ rightsOf ob s → withRights ob s n ≡ ob
-rights-back ob s n e =
-    let p : set (ob .rights) s n ≡ ob .rights = ap (λ (k : ℕ). set (ob .rights) s k) e ∙ set-getD (ob .rights) s 0 in
-    λ i. record { live = ob .live; owner = ob .owner; label = ob .label; rights = p i; held = ob .held }
-
 record-same : (q : Request) (ob : Object) → already q ob ≡ true → changed q ob ≡ ob
 unfolding already changed
-record-same (Get s o x) ob e = held-back ob s _ (add-same x _ e)
-record-same (Release s o x) ob e = held-back ob s _ (remove-same x _ (not-on _ e))
-record-same (Give s t o x) ob e = rights-back ob t _ (add-same x _ e)
+record-same (Get s o x) ob e = with-held-same ob s _ (add-same x _ e)
+record-same (Release s o x) ob e = with-held-same ob s _ (remove-same x _ (not-on _ e))
+record-same (Give s t o x) ob e = with-rights-same ob t _ (add-same x _ e)
 record-same (Rescind s t o x) ob e =
     let p = not-on _ (and-left (not (has x (rightsOf ob t))) _ e) in
     let q = not-on _ (and-right (not (has x (rightsOf ob t))) _ e) in
-    held-back (withRights ob t (remove x (rightsOf ob t))) t _ (remove-same x _ q) ∙ rights-back ob t _ (remove-same x _ p)
+    with-held-same (withRights ob t (remove x (rightsOf ob t))) t _ (remove-same x _ q) ∙ with-rights-same ob t _ (remove-same x _ p)
 record-same (Create s o w) ob e = clash (sym e)
 record-same (Delete s o) ob e = clash (sym e)
 record-same (ChangeLevel s o l) ob e =
-    let p : Present l ≡ ob .label = sym (same-label (ob .label) (Present l) e) in
-    λ i. record { live = ob .live; owner = ob .owner; label = p i; rights = ob .rights; held = ob .held }
+    with-label-same ob (Present l) (sym (same-label (ob .label) (Present l) e))
 
 pub state-same : (q : Request) (m : Monitor) → already q (object m (target q)) ≡ true → afterwards q m ≡ m
-state-same q m e =
-    let p : set (m .objects) (target q) (changed q (object m (target q))) ≡ m .objects =
-    ap (set (m .objects) (target q)) (record-same q _ e) ∙ set-getD (m .objects) (target q) noObject in
-    λ i. record { subjects = m .subjects; objects = p i }
+state-same q m e = with-object-same m (target q) _ (record-same q _ e)
 
 -- ---- and where it was not, it changes
 

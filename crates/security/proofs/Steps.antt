@@ -5,7 +5,7 @@ use mathlib.Core.Path.{_≡_, refl, sym, ap, _∙_, subst}
 use mathlib.Core.Logic.{_⊎_, inl, inr, ⊎-elim}
 use mathlib.Core.Bool.{Bool, true, false, cond}
 use mathlib.Core.List.{List, [], _∷_}
-use lib.ListN.{length, length-set, length-replicate}
+use lib.ListN.{length-set, length-replicate}
 use Rattle.model.specs.declared.Subject.{Subject}
 use Rattle.model.specs.declared.Object.{Object}
 use Rattle.model.specs.declared.Monitor.{Monitor}
@@ -17,7 +17,7 @@ use Rattle.model.specs.declared.Decision.{Decision}
 use Rattle.model.specs.declared.Decision.the-variants.{Granted, Already, NotEnrolled, NotLive, AlreadyLive, NoRight, NoLabel, SimpleBroken, StarBroken}
 use Rattle.model.specs.declared.Response.{Response}
 use Rattle.model.specs.Tests.{unless}
-use Rattle.model.specs.State.{noObject, clearanceAt, objectAt, object, heldBy, fresh, LabelFits, WellFormedObject, WellFormed}
+use Rattle.model.specs.State.{noObject, objectAt, object, heldBy, fresh, WellFormedObject}
 use Rattle.model.specs.Properties.{Secure}
 use Rattle.model.specs.Decisions.{refuses}
 use Rattle.model.specs.Requests.{decode, InRange}

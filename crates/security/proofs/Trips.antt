@@ -19,6 +19,7 @@ use Rattle.model.specs.State.{nobody, noObject, clearanceAt, clearance, object}
 use Rattle.model.specs.Layout.{tableSize, imageSize, subjectBits, objectBits, tableBits, objectsBits, imageBits, imageOf}
 use Rattle.model.specs.Reading.{labelForm, subjectFrom, objectFrom, objectForm, tableFrom, tableForm, objectsFrom, objectsForm, monitorFrom, imageForm, stateChecks, tableChecks, imageChecks}
 use Rattle.model.proofs.Tests.{pass, passed, and-both, and-left, and-right, all-at, all-map-at}
+use Rattle.model.proofs.Equal.{monitor-ext}
 use Rattle.model.proofs.Records.{label-length, label-read, label-form, label-back, object-length, object-read, object-form, object-back}
 use Rattle.security.specs.Tables.{tableOf}
 use Rattle.security.specs.Sound.{Sound}
@@ -106,7 +107,7 @@ module _ (m : Monitor) (S : Sound m) where
       let objs : map objectFrom (cut 64 154 (bytesToBits (drop tableSize (imageOf m)))) ≡ m .objects =
       ap (map objectFrom) object-records
       ∙ map-back objectBits objectFrom noObject (m .objects) (λ i h. object-read (m .subjects) (object m i) (S .formed .objects-formed i)) in
-      λ i. record { subjects = subs i; objects = objs i }
+      monitor-ext (monitorFrom (imageOf m)) m subs objs
 
   image-form : imageForm (imageOf m) ≡ true
   unfolding imageForm objectsForm

@@ -1,8 +1,8 @@
 -- What is stored into the rows, and the rows of a whole monitor.
 -- Assumes nothing.
 use Prim.Native.Nat.{ℕ, _-_, _/_, _%_, _*_}
-use mathlib.Core.Bool.{Bool, cond}
-use mathlib.Core.List.{List, [], _∷_}
+use mathlib.Core.Bool.{cond}
+use mathlib.Core.List.{List, _∷_}
 use lib.ListN.{set, replicate}
 use lib.Dec.{ltb}
 use Rattle.bits.specs.Bits.{bit}

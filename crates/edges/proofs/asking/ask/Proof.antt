@@ -3,7 +3,6 @@
 use mathlib.Core.Path.{ap, _∙_}
 use mathlib.Core.List.{List}
 use Prim.Native.Nat.{ℕ}
-use Rattle.model.specs.declared.Monitor.{Monitor}
 use Rattle.model.specs.declared.Response.{Response}
 use Rattle.model.specs.Runs.{respond}
 use borrow.Author.Needs.{needs}

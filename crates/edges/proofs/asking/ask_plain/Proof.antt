@@ -2,7 +2,6 @@
 -- Assumes nothing.
 use mathlib.Core.Path.{ap, _∙_}
 use Rattle.model.specs.declared.Fields.{Fields}
-use Rattle.model.specs.declared.Response.{Response}
 use Rattle.model.specs.Requests.{pack}
 use Rattle.model.specs.Runs.{respond}
 use Rattle.edges.specs.Asking.{left}

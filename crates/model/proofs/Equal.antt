@@ -1,0 +1,65 @@
+-- When two records, or two states, are the same: field by field, set by set, and after a store of what stood there.
+-- Assumes nothing.
+use Prim.Native.Nat.{ℕ, _<_}
+use native.Mathlib.Omega.{arith}
+use mathlib.Core.Path.{_≡_, refl, sym, ap, _∙_}
+use mathlib.Core.List.{List}
+use lib.ListN.{length, getD, set}
+use lib.Seq.{ext-getD, set-getD}
+use Rattle.model.specs.declared.Label.{Label}
+use Rattle.model.specs.declared.Subject.{Subject}
+use Rattle.model.specs.declared.Object.{Object}
+use Rattle.model.specs.declared.Monitor.{Monitor}
+use Rattle.model.specs.declared.Mode.{Mode}
+use Rattle.model.specs.Modes.{has}
+use Rattle.model.specs.State.{nobody, noObject, clearance, object, rightsOf, heldBy, withRights, withHeld, withLabel, withObject, WellFormedObject, WellFormed}
+use Rattle.model.proofs.Modes.{modes-ext}
+
+-- ---- field by field
+
+pub object-ext : (a b : Object) → a .live ≡ b .live → a .owner ≡ b .owner → a .label ≡ b .label → a .rights ≡ b .rights → a .held ≡ b .held → a ≡ b
+object-ext a b live owner label rights held = λ i. record { live = live i; owner = owner i; label = label i; rights = rights i; held = held i }
+
+pub monitor-ext : (m n : Monitor) → m .subjects ≡ n .subjects → m .objects ≡ n .objects → m ≡ n
+monitor-ext m n subjects objects = λ i. record { subjects = subjects i; objects = objects i }
+
+-- ---- set by set, subject by subject, object by object
+
+-- two rows of sixteen sets that have the same modes
+row-ext : (a b : List ℕ) → length a ≡ 16 → length b ≡ 16 → ((s : ℕ) → getD a s 0 < 16) → ((s : ℕ) → getD b s 0 < 16)
+    → ((s : ℕ) → s < 16 → (x : Mode) → has x (getD a s 0) ≡ has x (getD b s 0)) → a ≡ b
+row-ext a b p q u v h = ext-getD 0 a b (p ∙ sym q) (λ s l. modes-ext _ _ (u s) (v s) (h s (omega (arith, p))))
+
+pub object-same : {k l : List Subject} (a b : Object) → WellFormedObject k a → WellFormedObject l b
+    → a .live ≡ b .live → a .owner ≡ b .owner → a .label ≡ b .label
+    → ((s : ℕ) → s < 16 → (x : Mode) → has x (rightsOf a s) ≡ has x (rightsOf b s))
+    → ((s : ℕ) → s < 16 → (x : Mode) → has x (heldBy a s) ≡ has x (heldBy b s)) → a ≡ b
+object-same a b F G live owner label rights held =
+    object-ext a b live owner label
+    (row-ext (a .rights) (b .rights) (F .rights-length) (G .rights-length) (F .rights-fit) (G .rights-fit) rights)
+    (row-ext (a .held) (b .held) (F .held-length) (G .held-length) (F .held-fit) (G .held-fit) held)
+
+pub state-same : (m n : Monitor) → WellFormed m → WellFormed n
+    → ((s : ℕ) → s < 16 → clearance m s ≡ clearance n s) → ((o : ℕ) → o < 64 → object m o ≡ object n o) → m ≡ n
+state-same m n M N clearances objects =
+    monitor-ext m n
+    (ext-getD nobody (m .subjects) (n .subjects) (M .subjects-length ∙ sym (N .subjects-length))
+    (λ s h. ap (λ (l : Label). record { clearance = l }) (clearances s (omega (arith, M .subjects-length)))))
+    (ext-getD noObject (m .objects) (n .objects) (M .objects-length ∙ sym (N .objects-length)) (λ o h. objects o (omega (arith, M .objects-length))))
+
+-- ---- a store of what stood there
+
+pub with-rights-same : (ob : Object) (s n : ℕ) → n ≡ rightsOf ob s → withRights ob s n ≡ ob
+with-rights-same ob s n e =
+    object-ext (withRights ob s n) ob refl refl refl (ap (λ (k : ℕ). set (ob .rights) s k) e ∙ set-getD (ob .rights) s 0) refl
+
+pub with-held-same : (ob : Object) (s n : ℕ) → n ≡ heldBy ob s → withHeld ob s n ≡ ob
+with-held-same ob s n e =
+    object-ext (withHeld ob s n) ob refl refl refl refl (ap (λ (k : ℕ). set (ob .held) s k) e ∙ set-getD (ob .held) s 0)
+
+pub with-label-same : (ob : Object) (l : Label) → l ≡ ob .label → withLabel ob l ≡ ob
+with-label-same ob l e = object-ext (withLabel ob l) ob refl refl e refl refl
+
+pub with-object-same : (m : Monitor) (o : ℕ) (ob : Object) → ob ≡ object m o → withObject m o ob ≡ m
+with-object-same m o ob e =
+    monitor-ext (withObject m o ob) m refl (ap (λ (k : Object). set (m .objects) o k) e ∙ set-getD (m .objects) o noObject)
