@@ -120,7 +120,8 @@ fn the_benchmark() {
 #[test]
 fn an_output_that_is_not_so_would_be_seen() {
     let folder = with_examples("documents");
-    let text = "```console\n$ circtool --version\ncirctool 0.0.0\n```\n\n    cargo run --release  # why\n    no command\n";
+    let text =
+        "```console\n$ circtool --version\ncirctool 0.0.0\n```\n\n    cargo run --release  # why\n    no command\n";
     let shown = commands(text);
     assert_eq!(shown.len(), 1);
     assert_eq!((shown[0].line, shown[0].output.as_str()), (2, "circtool 0.0.0\n"));

@@ -58,11 +58,7 @@ impl PartialEq for Monitor {
 
 impl Monitor {
     pub fn begin(subjects: [Option<Level>; SUBJECTS]) -> Monitor {
-        Monitor {
-            subjects,
-            objects: std::array::from_fn(|_| None),
-            star: Star::Plain,
-        }
+        Monitor { subjects, objects: std::array::from_fn(|_| None), star: Star::Plain }
     }
 
     pub fn empty() -> Monitor {
@@ -78,11 +74,7 @@ impl Monitor {
     }
 
     pub fn step(&mut self, request: Request) -> u8 {
-        let Request {
-            actor,
-            object,
-            kind,
-        } = request;
+        let Request { actor, object, kind } = request;
         if self.subjects[actor].is_none() {
             return reply::NOT_ENROLLED;
         }
@@ -139,12 +131,7 @@ impl Monitor {
     }
 
     /// Checks 4 and 6 of give and rescind: the actor is owner and has that right itself.
-    fn owned_with_right(
-        &mut self,
-        actor: usize,
-        object: usize,
-        mode: Mode,
-    ) -> Result<&mut Object, u8> {
+    fn owned_with_right(&mut self, actor: usize, object: usize, mode: Mode) -> Result<&mut Object, u8> {
         let it = self.objects[object].as_mut().ok_or(reply::NOT_LIVE)?;
         if it.owner != actor || it.rights[actor] & mode.bit() == 0 {
             return Err(reply::NO_RIGHT);
@@ -181,12 +168,7 @@ impl Monitor {
         }
         let mut rights = [0; SUBJECTS];
         rights[actor] = if execute { 15 } else { 14 };
-        self.objects[object] = Some(Object {
-            owner: actor,
-            label: None,
-            rights,
-            held: [0; SUBJECTS],
-        });
+        self.objects[object] = Some(Object { owner: actor, label: None, rights, held: [0; SUBJECTS] });
         reply::CHANGED
     }
 

@@ -102,11 +102,7 @@ impl Request {
             (7, 0) => Kind::ChangeLevel(Level { class, needs }),
             _ => return None,
         };
-        Some(Request {
-            actor,
-            object,
-            kind,
-        })
+        Some(Request { actor, object, kind })
     }
 
     pub fn encode(&self) -> [u8; REQUEST_BYTES] {

@@ -14,11 +14,7 @@ fn level(class: u8, needs: u16) -> Level {
 }
 
 fn by(actor: usize, object: usize, kind: Kind) -> Request {
-    Request {
-        actor,
-        object,
-        kind,
-    }
+    Request { actor, object, kind }
 }
 
 fn marked_run() -> Vec<(Request, u8)> {
@@ -116,24 +112,8 @@ fn edges_of_subjects_objects_modes_and_lengths() {
 }
 
 #[allow(clippy::too_many_arguments)]
-fn fields(
-    kind: u64,
-    actor: u64,
-    other: u64,
-    object: u64,
-    mode: u64,
-    class: u64,
-    needs: u64,
-    spare: u64,
-) -> [u8; 6] {
-    let word = kind << 44
-        | actor << 39
-        | other << 34
-        | object << 27
-        | mode << 24
-        | class << 20
-        | needs << 4
-        | spare;
+fn fields(kind: u64, actor: u64, other: u64, object: u64, mode: u64, class: u64, needs: u64, spare: u64) -> [u8; 6] {
+    let word = kind << 44 | actor << 39 | other << 34 | object << 27 | mode << 24 | class << 20 | needs << 4 | spare;
     let bytes = word.to_be_bytes();
     bytes[2..].try_into().unwrap()
 }

@@ -9,9 +9,7 @@ use sidebyside::fed;
 use std::path::{Path, PathBuf};
 use std::process::{Command, Output};
 
-pub fn root() -> PathBuf {
-    Path::new(env!("CARGO_MANIFEST_DIR")).join("../..").canonicalize().unwrap()
-}
+pub use sidebyside::root;
 
 /// A folder of its own for one test, empty.
 pub fn folder(name: &str) -> PathBuf {
