@@ -5,7 +5,7 @@ mod shared;
 use shared::{circtool, ended, err, folder, out, root};
 use std::process::{Command, Stdio};
 
-const SCRIPT: &str = "subject 1 class 3 needs 0 1\ns1 create o0\ns1 get r o0\n";
+const SCRIPT: &str = "subject 1 class 3 needs {0,1}\ns1 create o0\ns1 get r o0\n";
 
 fn script_bytes() -> Vec<u8> {
     circtool(&["asm"], SCRIPT.as_bytes()).stdout
@@ -18,7 +18,7 @@ fn asm_and_dis_through_standard_input_and_output() {
     assert_eq!(assembled.stdout.len(), 54);
     let again = circtool(&["dis"], &assembled.stdout);
     ended(&again, 0);
-    assert_eq!(out(&again), "subject 1 class 3 needs 0 1\n\ns1 create o0\ns1 get r o0\n");
+    assert_eq!(out(&again), "subject 1 class 3 needs {0,1}\n\ns1 create o0\ns1 get r o0\n");
     assert_eq!(err(&again), "");
 }
 
@@ -26,7 +26,7 @@ fn asm_and_dis_through_standard_input_and_output() {
 fn script_errors_go_to_standard_error_with_status_2() {
     let folder = folder("errors");
     let file = folder.join("script.circ");
-    std::fs::write(&file, "subject 1 class 3 needs 0 1\n\ns1 create o0\ns1 get x o0\n").unwrap();
+    std::fs::write(&file, "subject 1 class 3 needs {0,1}\n\ns1 create o0\ns1 get x o0\n").unwrap();
     let name = file.to_str().unwrap();
     for words in [["asm", name], ["explain", name], ["run", name]] {
         let output = circtool(&words, b"");
@@ -152,7 +152,7 @@ fn compare_ends_as_cmp_does() {
     let folder = folder("compare");
     let [a, b, bad] = ["a.img", "b.img", "bad.img"].map(|name| folder.join(name).to_str().unwrap().to_string());
     ended(&circtool(&["run", "--image", &a], SCRIPT.as_bytes()), 0);
-    let labelled = format!("{SCRIPT}s1 level o0 class 0 needs none\n");
+    let labelled = format!("{SCRIPT}s1 level o0 class 0 needs {{}}\n");
     ended(&circtool(&["run", "--image", &b], labelled.as_bytes()), 0);
     std::fs::write(&bad, [0; 5]).unwrap();
     let equal = circtool(&["compare", &a, &a], b"");
@@ -160,7 +160,7 @@ fn compare_ends_as_cmp_does() {
     assert!(out(&equal).contains("proved"));
     let different = circtool(&["compare", &a, &b], b"");
     ended(&different, 1);
-    assert!(out(&different).contains("o0: no label in A, label class 0 needs none in B"), "{}", out(&different));
+    assert!(out(&different).contains("o0: no label in A, label class 0 needs {} in B"), "{}", out(&different));
     let from_input = circtool(&["compare", "-", &b], &std::fs::read(&a).unwrap());
     ended(&from_input, 1);
     for (words, start) in [
