@@ -79,10 +79,10 @@ pub const RUN: &str = "\
 Usage: circtool run [--script | --bytes] [--image OUT] [FILE]
 
 Runs the requests and prints one reply for each, as circmon does. With --image the image after the run is written to the
-file OUT, for 'circtool show' and 'circtool compare': whole, or not at all. Where the input is bad, OUT is left as it was.
+file OUT, whole or not at all, for 'circtool show' and 'circtool compare'. Where the input is bad, OUT is as it was.
 
 The input is a script or bytes as circmon reads them. Without a flag the first byte decides: 00, 80 to FF, or no byte at
-all is bytes, any other a script, and so is what begins with a byte-order mark. 1,274 bytes are an image and are not run.
+all is bytes, any other a script, and so is what begins with a byte-order mark. 1,274 bytes are an image and not run.
 circmon stops after 4,096 requests, circtool does not.
 
 Example: circtool run examples/marked-run.circ --image marked.img

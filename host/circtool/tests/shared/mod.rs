@@ -1,6 +1,7 @@
 //! What the tests share: runs from seeds, the folder of the repository, calls of the command, and lists of requests.
 #![allow(dead_code)] // each test program uses a part
 
+pub mod clone;
 pub mod lists;
 
 use load::{Random, Shape};
@@ -52,6 +53,13 @@ pub fn run(seed: u64, shape: Shape, length: usize) -> Run {
 /// The command with these words, with bytes on its standard input.
 pub fn circtool(words: &[&str], input: &[u8]) -> Output {
     fed(Command::new(env!("CARGO_BIN_EXE_circtool")).args(words).current_dir(root()), input)
+}
+
+/// A shell line in the root of the repository, with the command in $CIRCTOOL and nothing on standard input.
+pub fn shell(line: &str) -> Output {
+    let mut command = Command::new("bash");
+    command.args(["-c", line]).env("CIRCTOOL", env!("CARGO_BIN_EXE_circtool")).current_dir(root());
+    fed(&mut command, b"")
 }
 
 pub fn out(output: &Output) -> String {
