@@ -11,7 +11,7 @@ fn hex(text: &str) -> Vec<u8> {
 }
 
 #[test]
-fn the_bytes_that_the_scope_prints() {
+fn the_bytes_of_the_marked_run() {
     let script = "subject 0 class 1 needs {0}\nsubject 1 class 3 needs {0,1}\nsubject 2 class 0 needs {}\n\
                   s1 create o0\ns1 level o0 class 0 needs {}\ns1 level o1 class 2 needs {0}\n";
     let mut expected = hex("88 00 0C C0 00 E0");

@@ -1,5 +1,5 @@
-//! The scope of circmon implemented a second time, in plain mutable Rust, to compare the proved monitor with.
-//! It is written from the scope's text and shares nothing with the Rattle crates.
+//! The rules, checks and formats of circmon implemented a second time, in plain mutable Rust, to compare the proved monitor
+//! with. It is written from the text of the requirements and shares nothing with the Rattle crates.
 
 mod bits;
 mod image;

@@ -1,4 +1,4 @@
-//! The marked run and the edges, from the scope's text.
+//! The marked run and the edges, from the text of the requirements.
 
 use crate::*;
 

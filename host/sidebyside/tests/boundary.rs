@@ -22,6 +22,15 @@ fn a_c_program_over_the_header() {
     assert_eq!(String::from_utf8_lossy(&output.stdout), expected);
 }
 
+#[test]
+fn a_null_pointer_with_length_0_is_an_empty_buffer() {
+    for words in [&["-O0"][..], &["-O2"]] {
+        let output = Command::new(compiled("empty", words)).output().unwrap();
+        let expected = "begin 10 13 0\nread 10\nrequest 138 2\nreplay 10 0 13\ndistinguish 138 202 13\n";
+        assert_eq!(String::from_utf8_lossy(&output.stdout), expected);
+    }
+}
+
 /// What `circmon` itself prints.
 fn circmon(input: &[u8]) -> String {
     let output = fed(&mut Command::new(sidebyside::program()), input);
