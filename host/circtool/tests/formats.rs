@@ -42,7 +42,7 @@ fn read(bytes: &[u8], at: usize, (first, width): (usize, usize)) -> u64 {
 
 /// The fields of a request by their names on the page.
 fn numbers(request: &Request) -> [(&'static str, u64); 8] {
-    let mode = |mode: reference::Mode| reference::Mode::ALL.iter().position(|it| *it == mode).unwrap() as u64 + 1;
+    let mode = |mode: reference::Mode| u64::from(mode.number());
     let (kind, other, mode, level) = match request.kind {
         Kind::Get(it) => (1, 0, mode(it), None),
         Kind::Release(it) => (2, 0, mode(it), None),

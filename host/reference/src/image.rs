@@ -1,7 +1,9 @@
 //! Tables and images.
 
 use crate::bits::{BitReader, BitWriter};
-use crate::monitor::{Level, Monitor, Object, SUBJECTS};
+use crate::level::Level;
+use crate::monitor::Monitor;
+use crate::record::{Object, SUBJECTS};
 use crate::{reply, star};
 
 pub const TABLE_BYTES: usize = 42;

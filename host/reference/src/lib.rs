@@ -3,15 +3,21 @@
 
 mod bits;
 mod image;
+mod level;
+mod mode;
 mod monitor;
 mod program;
+mod record;
 mod request;
 mod star;
 
 pub use image::{IMAGE_BYTES, TABLE_BYTES};
-pub use monitor::{Level, Monitor, Object, OBJECTS, SUBJECTS};
+pub use level::Level;
+pub use mode::Mode;
+pub use monitor::Monitor;
 pub use program::{program, MOST_REQUESTS};
-pub use request::{Kind, Mode, Request, REQUEST_BYTES};
+pub use record::{Object, OBJECTS, SUBJECTS};
+pub use request::{Kind, Request, REQUEST_BYTES};
 pub use star::Star;
 
 /// The numbers that requests, readings and writings return.

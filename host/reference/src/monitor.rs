@@ -1,45 +1,11 @@
 //! The state and the rules.
 
+use crate::level::Level;
+use crate::mode::Mode;
+use crate::record::{Object, OBJECTS, SUBJECTS};
 use crate::reply;
-use crate::request::{Kind, Mode, Request};
+use crate::request::{Kind, Request};
 use crate::star::{self, Star};
-
-pub const SUBJECTS: usize = 16;
-pub const OBJECTS: usize = 64;
-
-const READS: u8 = 8 | 4;
-const WRITES: u8 = 4 | 2;
-
-#[derive(Clone, Copy, Debug, PartialEq, Eq)]
-pub struct Level {
-    pub class: u8,
-    pub needs: u16,
-}
-
-impl Level {
-    /// The class is at least the other's, and every need of the other is here.
-    pub fn dominates(&self, other: &Level) -> bool {
-        self.class >= other.class && other.needs & !self.needs == 0
-    }
-}
-
-#[derive(Clone, Debug, PartialEq, Eq)]
-pub struct Object {
-    pub owner: usize,
-    pub label: Option<Level>,
-    pub rights: [u8; SUBJECTS],
-    pub held: [u8; SUBJECTS],
-}
-
-impl Object {
-    pub fn reads(&self, subject: usize) -> bool {
-        self.held[subject] & READS != 0
-    }
-
-    pub fn writes(&self, subject: usize) -> bool {
-        self.held[subject] & WRITES != 0
-    }
-}
 
 #[derive(Clone, Debug)]
 pub struct Monitor {

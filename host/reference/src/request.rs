@@ -1,45 +1,11 @@
 //! The six bytes of a request.
 
 use crate::bits::{BitReader, BitWriter};
-use crate::monitor::{Level, OBJECTS, SUBJECTS};
+use crate::level::Level;
+use crate::mode::Mode;
+use crate::record::{OBJECTS, SUBJECTS};
 
 pub const REQUEST_BYTES: usize = 6;
-
-#[derive(Clone, Copy, Debug, PartialEq, Eq)]
-pub enum Mode {
-    Read,
-    Write,
-    Append,
-    Execute,
-}
-
-impl Mode {
-    pub const ALL: [Mode; 4] = [Mode::Read, Mode::Write, Mode::Append, Mode::Execute];
-
-    /// The weight of the mode in a set: the four bits of a right or an access are r, w, a, e.
-    pub fn bit(self) -> u8 {
-        match self {
-            Mode::Read => 8,
-            Mode::Write => 4,
-            Mode::Append => 2,
-            Mode::Execute => 1,
-        }
-    }
-
-    /// r, and w, which also reads
-    pub fn reads(self) -> bool {
-        matches!(self, Mode::Read | Mode::Write)
-    }
-
-    fn number(self) -> u32 {
-        match self {
-            Mode::Read => 1,
-            Mode::Write => 2,
-            Mode::Append => 3,
-            Mode::Execute => 4,
-        }
-    }
-}
 
 #[derive(Clone, Copy, Debug, PartialEq, Eq)]
 pub enum Kind {
