@@ -57,7 +57,7 @@ static void hex(const char *words, const uint8_t *bytes, size_t count) {
 
 static void show_object(const uint8_t *image, unsigned object) {
     unsigned at = 336 + 154 * object;
-    printf("o%u: live %u, owner %u, label %u, class %u, needs %04X\n", object, get(image, at, 1), get(image, at + 1, 4),
+    printf("o%u: live %u, owner %u, label %u, class %u, needs 0x%04X\n", object, get(image, at, 1), get(image, at + 1, 4),
            get(image, at + 5, 1), get(image, at + 6, 4), get(image, at + 10, 16));
     for (unsigned subject = 0; subject < 16; subject++) {
         unsigned rights = get(image, at + 26 + 8 * subject, 4), held = get(image, at + 30 + 8 * subject, 4);

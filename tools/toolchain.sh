@@ -3,7 +3,7 @@
 
 # programs_needed: one line for each program that is not on the path, and status 1.
 programs_needed() {
-    local missing=0 program
+    local missing=0 program what
     while read -r program what; do
         if ! command -v "$program" > /dev/null; then
             printf 'circmon: %s is not on the path: %s is needed to build\n' "$program" "$what" >&2

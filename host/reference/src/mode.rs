@@ -35,4 +35,7 @@ impl Mode {
             Mode::Execute => 4,
         }
     }
+    pub fn from_number(number: u32) -> Option<Mode> {
+        Mode::ALL.into_iter().find(|mode| mode.number() == number)
+    }
 }

@@ -50,13 +50,7 @@ impl Request {
         if kind != 7 && (class != 0 || needs != 0) {
             return None;
         }
-        let moded = match mode {
-            1 => Some(Mode::Read),
-            2 => Some(Mode::Write),
-            3 => Some(Mode::Append),
-            4 => Some(Mode::Execute),
-            _ => None,
-        };
+        let moded = Mode::from_number(mode);
         let kind = match (kind, mode) {
             (1, _) => Kind::Get(moded?),
             (2, _) => Kind::Release(moded?),
