@@ -4,7 +4,7 @@ mod shared;
 
 use shared::{circtool, ended, err, folder, out, shell};
 use std::fs;
-use std::os::unix::fs::{symlink, PermissionsExt};
+use std::os::unix::fs::{symlink, FileTypeExt, PermissionsExt};
 use std::path::Path;
 
 const SCRIPT: &str = "subject 1 class 3 needs {0,1}\ns1 create o0\n";
@@ -38,7 +38,7 @@ fn a_full_disk_leaves_the_image_that_was_there() {
 }
 
 #[test]
-fn links_permissions_and_devices_are_kept() {
+fn links_permissions_and_pipes_are_kept() {
     let folder = folder("kept-place");
     let (image, link) = (folder.join("a.img"), folder.join("link.img"));
     fs::write(&image, "old").unwrap();
@@ -47,12 +47,14 @@ fn links_permissions_and_devices_are_kept() {
     ended(&circtool(&["run", "--image", link.to_str().unwrap()], SCRIPT.as_bytes()), 0);
     assert!(link.is_symlink() && fs::read(&image).unwrap().len() == 1274);
     assert_eq!(fs::metadata(&image).unwrap().permissions().mode() & 0o777, 0o640);
-    // a device is written to, and not replaced by a file
-    ended(&circtool(&["run", "--image", "/dev/null"], SCRIPT.as_bytes()), 0);
-    assert!(!fs::metadata("/dev/null").unwrap().is_file());
-    let full = circtool(&["run", "--image", "/dev/full"], SCRIPT.as_bytes());
-    ended(&full, 2);
-    assert_eq!(names(&folder), ["a.img", "link.img"]);
+    // a pipe is written to, and not replaced by a file
+    let at = folder.display();
+    let line =
+        format!("mkfifo {at}/pipe; cat {at}/pipe | wc -c & echo '{SCRIPT}' | $CIRCTOOL run --image {at}/pipe; wait");
+    let output = shell(&line);
+    assert_eq!((out(&output).replace("0\n", "").trim(), err(&output).as_str()), ("1274", ""));
+    assert!(fs::symlink_metadata(folder.join("pipe")).unwrap().file_type().is_fifo());
+    assert_eq!(names(&folder), ["a.img", "link.img", "pipe"]);
 }
 
 #[test]
