@@ -50,7 +50,7 @@ fn links_permissions_and_pipes_are_kept() {
     // a pipe is written to, and not replaced by a file
     let at = folder.display();
     let line =
-        format!("mkfifo {at}/pipe; cat {at}/pipe | wc -c & echo '{SCRIPT}' | $CIRCTOOL run --image {at}/pipe; wait");
+        format!("mkfifo {at}/pipe; timeout 10 cat {at}/pipe | wc -c & echo '{SCRIPT}' | timeout 10 $CIRCTOOL run --image {at}/pipe; wait");
     let output = shell(&line);
     assert_eq!((out(&output).replace("0\n", "").trim(), err(&output).as_str()), ("1274", ""));
     assert!(fs::symlink_metadata(folder.join("pipe")).unwrap().file_type().is_fifo());
