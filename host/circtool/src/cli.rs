@@ -122,7 +122,7 @@ fn dis(arguments: &Arguments, standard_input: &mut dyn Read) -> Step<Outcome> {
     let mut outcome = Outcome::fine(disassemble(&input.bytes));
     if is_text(&input.bytes) {
         outcome.err = format!("{}: it looks like a script; 'circtool asm' turns a script into bytes\n", input.name);
-    } else if input.bytes.len() == IMAGE_BYTES {
+    } else if is_image(&input.bytes) {
         outcome.err = image_message(&input.name);
     }
     Ok(outcome)
@@ -151,7 +151,7 @@ fn begin(arguments: &Arguments, standard_input: &mut dyn Read) -> Step<Begun> {
     let input = read(arguments.file(), standard_input).map_err(trouble)?;
     match asked.unwrap_or_else(|| form(&input.bytes)) {
         Form::Script => begin_script(&input),
-        Form::Bytes if asked.is_none() && input.bytes.len() == IMAGE_BYTES => {
+        Form::Bytes if asked.is_none() && is_image(&input.bytes) => {
             Err(trouble(image_message(&input.name) + "  with --bytes it is run as a table and requests all the same\n"))
         }
         Form::Bytes => begin_bytes(&input, asked.is_some()),
@@ -159,6 +159,10 @@ fn begin(arguments: &Arguments, standard_input: &mut dyn Read) -> Step<Begun> {
 }
 
 /// 1,274 bytes are 42 of a table, 205 requests and two bytes too many: a whole run never has them.
+fn is_image(bytes: &[u8]) -> bool {
+    bytes.len() == IMAGE_BYTES && !is_text(bytes)
+}
+
 fn image_message(name: &str) -> String {
     format!(
         "{name}: {IMAGE_BYTES} bytes are an image, and no table with whole requests behind it\n  \

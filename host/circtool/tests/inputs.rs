@@ -95,6 +95,15 @@ fn an_image_is_not_run_as_requests() {
 }
 
 #[test]
+fn a_text_of_the_length_of_an_image_is_a_text() {
+    let spaced = format!("\u{a0}{SCRIPT}");
+    let text = format!("{spaced}{}", "#".repeat(1274 - spaced.len()));
+    let refused = circtool(&["run"], text.as_bytes());
+    ended(&refused, 1);
+    assert!(err(&refused).contains("  it looks like a script; with --script"), "{}", err(&refused));
+}
+
+#[test]
 fn the_line_of_the_script_stands_beside_the_step() {
     let script = "# why\nsubject 1 class 3 needs {}\n\n\ns1 create o0\n# again\ns1 create o0\nbytes 00 # short\n";
     let explained = out(&circtool(&["explain"], script.as_bytes()));
