@@ -4,7 +4,7 @@
 #include <stdio.h>
 #include <string.h>
 
-/* Table W of the marked run: subject 0 has class 1 and need 0, subject 1 class 3 and needs 0 and 1, subject 2 class 0. */
+/* Subject 0 has class 1 needs {0}, subject 1 class 3 needs {0,1}, subject 2 class 0 needs {}. */
 static const uint8_t table[CIRCMON_TABLE_BYTES] = {0x88, 0x00, 0x0C, 0xC0, 0x00, 0xE0};
 
 static const struct {
@@ -13,7 +13,7 @@ static const struct {
 } requests[] = {
     {"s1 creates o0", {0x50, 0x80, 0x00, 0x00, 0x00, 0x00}},
     {"s1 gets r on o0, which has no label", {0x10, 0x80, 0x01, 0x00, 0x00, 0x00}},
-    {"s1 labels o0 class 0 without needs", {0x70, 0x80, 0x00, 0x00, 0x00, 0x00}},
+    {"s1 labels o0 class 0 needs {}", {0x70, 0x80, 0x00, 0x00, 0x00, 0x00}},
     {"s1 gets r on o0", {0x10, 0x80, 0x01, 0x00, 0x00, 0x00}},
 };
 

@@ -1,13 +1,15 @@
 /* circmon: a Bell-LaPadula reference monitor. Link with libcapi.a, which `rt staticlib capi` writes to target/staticlib.
  *
  * Each function is proved to meet its contract for every pointer that comes with the length of what it points to. A
- * buffer that a call may write must not overlap another one of that call; two that it only reads may be the same. No
- * function keeps a pointer, allocates, or has a state of its own.
+ * buffer that a call may write must not overlap another one of that call; two that it only reads may be the same. An
+ * empty buffer may have any pointer, also NULL, with length 0. No function keeps a pointer, allocates, or has a state of
+ * its own.
  *
  * Numbers: 0 granted and changed, or accepted, or written; 1 granted and so already; 2 malformed; 3 not enrolled;
- * 4 object not live; 5 create on a live object; 6 right or ownership missing; 7 no label; 8 the simple property would
- * break; 9 the star property would break; 10 another length; 11 a stray bit in what is absent; 12 an absent subject owns,
- * has a right or holds; 13 the buffer is too short. */
+ * 4 object not live; 5 create on a live object; 6 right or ownership missing, of an image: an access is held without the
+ * right; 7 no label, of an image: r, w or a is held on an object without one; 8 the simple property would break, of an
+ * image: is broken; 9 the star property would break, of an image: is broken; 10 another length; 11 a stray bit in what is
+ * absent; 12 an absent subject owns, has a right or holds; 13 the buffer is too short. docs/FORMATS.md has the bytes. */
 #ifndef CIRCMON_H
 #define CIRCMON_H
 

@@ -1,23 +1,45 @@
-//! Proves and builds the static library and has it linked: `rt check capi` and `rt staticlib capi` in the root of the repository.
+//! Proves and builds the static library (`tools/library`) and has a copy of it linked. The copy stands in a folder of
+//! cargo's: `rt ci` removes the archive in target/ of the repository, and cargo would not know that it is to be built again.
 
-use std::path::Path;
-use std::process::Command;
+use std::fs;
+use std::io;
+use std::path::{Path, PathBuf};
+use std::process::{exit, Command, Stdio};
+use std::time::SystemTime;
+
+const ARCHIVE: &str = "libcapi.a";
 
 fn main() {
-    let folder = std::env::var("CARGO_MANIFEST_DIR").expect("set by cargo");
-    let root = Path::new(&folder).join("../..").canonicalize().expect("the root of the repository");
-    println!("cargo:rerun-if-changed={}", root.join("crates").display());
-    println!("cargo:rerun-if-changed={}", root.join("crates.txt").display());
-    // the first proves what the library stands on, several crates at a time; the second would prove one after the other
-    for words in [["check", "capi"], ["staticlib", "capi"]] {
-        let status = Command::new("rt")
-            .args(words)
-            .current_dir(&root)
-            .stdout(std::process::Stdio::null())
-            .status()
-            .expect("rt, the Rattle toolchain, on the path");
-        assert!(status.success(), "rt {}: {status}", words.join(" "));
+    let root = folder("CARGO_MANIFEST_DIR").join("../..");
+    let copy = folder("OUT_DIR").join(ARCHIVE);
+    for part in ["crates", "crates.txt", "toolchain.txt", "tools"] {
+        println!("cargo:rerun-if-changed={}", root.join(part).display());
     }
-    println!("cargo:rustc-link-search=native={}", root.join("target/staticlib").display());
+    println!("cargo:rerun-if-changed={}", copy.display());
+    if let Err(error) = built(&root).and_then(|()| copied(&root.join("target/staticlib").join(ARCHIVE), &copy)) {
+        eprintln!("circmon: {error}");
+        exit(1);
+    }
+    println!("cargo:rustc-link-search=native={}", folder("OUT_DIR").display());
     println!("cargo:rustc-link-lib=static=capi");
+}
+
+/// A folder that cargo names to build scripts.
+fn folder(variable: &str) -> PathBuf {
+    PathBuf::from(std::env::var_os(variable).expect("cargo sets it for build scripts"))
+}
+
+fn built(root: &Path) -> io::Result<()> {
+    let status = Command::new(root.join("tools/library")).stdin(Stdio::null()).status()?;
+    if status.success() {
+        Ok(())
+    } else {
+        Err(io::Error::other(format!("tools/library: {status}")))
+    }
+}
+
+/// The copy has an old time, so that cargo takes it for changed only where it is gone or was written by somebody else.
+fn copied(archive: &Path, copy: &Path) -> io::Result<()> {
+    fs::copy(archive, copy)?;
+    fs::File::options().write(true).open(copy)?.set_modified(SystemTime::UNIX_EPOCH)
 }

@@ -3,6 +3,9 @@
 //! The contracts of the five functions are proved of the Rattle code (crates/capi). What stands here is the boundary: the
 //! declarations, which nothing checks against that code, and slices handed on as pointer and length.
 
+/// The proved library that is linked here, for programs in C over include/circmon.h. The build script puts it there.
+pub const ARCHIVE: &str = concat!(env!("OUT_DIR"), "/libcapi.a");
+
 pub const TABLE_BYTES: usize = 42;
 pub const IMAGE_BYTES: usize = 1274;
 pub const REQUEST_BYTES: usize = 6;
@@ -74,9 +77,7 @@ pub fn replay(table: &[u8], requests: &[u8], replies: &mut [u8]) -> u8 {
 /// is refused with n, then 192 + n where the image b is, then 13 where the buffer has under 24 bytes, and every byte left.
 pub fn distinguish(a: &[u8], b: &[u8], requests: &mut [u8]) -> u8 {
     // Safety: each pointer comes with the length of its slice, and no slice overlaps the one that is written.
-    unsafe {
-        raw::circmon_distinguish(a.as_ptr(), a.len(), b.as_ptr(), b.len(), requests.as_mut_ptr(), requests.len())
-    }
+    unsafe { raw::circmon_distinguish(a.as_ptr(), a.len(), b.as_ptr(), b.len(), requests.as_mut_ptr(), requests.len()) }
 }
 
 /// A monitor that holds its state as an image.

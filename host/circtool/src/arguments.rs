@@ -1,6 +1,17 @@
 //! The words of the command line.
 
 use std::ffi::{OsStr, OsString};
+use std::os::unix::ffi::OsStrExt;
+
+/// An option and the value behind `=`: `--image=FILE`.
+fn parted(word: &OsStr) -> (String, Option<&OsStr>) {
+    let bytes = word.as_bytes();
+    let name = |bytes: &[u8]| String::from_utf8_lossy(bytes).into_owned();
+    match bytes.iter().position(|&byte| byte == b'=') {
+        Some(at) => (name(&bytes[..at]), Some(OsStr::from_bytes(&bytes[at + 1..]))),
+        None => (name(bytes), None),
+    }
+}
 
 /// What a subcommand takes.
 pub struct Takes {
@@ -25,12 +36,12 @@ impl Arguments {
         let mut words = words.iter();
         let mut options = true;
         while let Some(word) = words.next() {
-            match word.to_str() {
-                Some("--") if options => options = false,
-                Some(option) if options && option.len() > 1 && option.starts_with('-') => {
-                    arguments.option(option, &mut words, takes)?
-                }
-                _ => arguments.files.push(word.clone()),
+            if options && word == "--" {
+                options = false;
+            } else if options && word.len() > 1 && word.as_bytes().starts_with(b"-") {
+                arguments.option(word, &mut words, takes)?;
+            } else {
+                arguments.files.push(word.clone());
             }
         }
         arguments.count_files(takes)?;
@@ -39,22 +50,24 @@ impl Arguments {
 
     fn option<'a>(
         &mut self,
-        option: &str,
+        word: &OsStr,
         words: &mut impl Iterator<Item = &'a OsString>,
         takes: &Takes,
     ) -> Result<(), String> {
-        if takes.flags.contains(&option) {
-            self.flags.push(option.to_string());
-            return Ok(());
+        let (option, value) = parted(word);
+        if takes.flags.contains(&option.as_str()) {
+            self.flags.push(option.clone());
+            return if value.is_none() { Ok(()) } else { Err(format!("{option} takes no value")) };
         }
-        if !takes.with_file.contains(&option) {
+        if !takes.with_file.contains(&option.as_str()) {
             return Err(format!("unknown option '{option}'"));
         }
-        if self.file_of(option).is_some() {
+        if self.file_of(&option).is_some() {
             return Err(format!("{option} is given twice"));
         }
-        let file = words.next().ok_or(format!("expected a file behind {option}"))?;
-        self.files_of_options.push((option.to_string(), file.clone()));
+        let file = value.or_else(|| words.next().map(OsString::as_os_str)).filter(|file| !file.is_empty());
+        let file = file.ok_or(format!("expected a file behind {option}"))?;
+        self.files_of_options.push((option, file.to_os_string()));
         Ok(())
     }
 

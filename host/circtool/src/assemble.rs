@@ -3,9 +3,19 @@
 use crate::level::Level;
 use crate::mode::Mode;
 use crate::request::{Kind, Request};
-use crate::script::{number, Line, ScriptError};
+use crate::script::{number, Line, ScriptError, MARK};
 use crate::view::{View, OBJECTS, SUBJECTS};
 use circmon::{REQUEST_BYTES, TABLE_BYTES};
+
+/// The bytes of a script, and where in it they stand.
+#[derive(Clone, Debug, PartialEq, Eq)]
+pub struct Assembled {
+    pub bytes: Vec<u8>,
+    /// the line of each request
+    pub lines: Vec<usize>,
+    /// the line that gives the table by its bytes
+    pub table_line: Option<usize>,
+}
 
 /// What the lines up to here have said.
 #[derive(Default)]
@@ -14,17 +24,24 @@ struct Assembly {
     any_subject: bool,
     /// the table by its bytes
     table: Option<Vec<u8>>,
+    table_line: Option<usize>,
     requests: Vec<u8>,
+    lines: Vec<usize>,
     any_request: bool,
     /// where a piece stood that only the last line may have: nothing may follow it
     last: Option<ScriptError>,
 }
 
-/// The bytes of a script, or every error in it, in the order of its lines.
+/// The bytes of a script alone.
 pub fn assemble(script: &str) -> Result<Vec<u8>, Vec<ScriptError>> {
+    assembled(script).map(|it| it.bytes)
+}
+
+/// The bytes of a script, or every error in it, in the order of its lines. A byte-order mark before it is left out.
+pub fn assembled(script: &str) -> Result<Assembled, Vec<ScriptError>> {
     let mut assembly = Assembly::default();
     let mut errors = Vec::new();
-    for (at, text) in script.lines().enumerate() {
+    for (at, text) in script.strip_prefix(MARK).unwrap_or(script).lines().enumerate() {
         let mut line = Line::new(at + 1, text);
         if line.is_empty() {
             continue;
@@ -34,7 +51,7 @@ pub fn assemble(script: &str) -> Result<Vec<u8>, Vec<ScriptError>> {
         errors.extend(assembly.line(&mut line).err());
     }
     if errors.is_empty() {
-        Ok(assembly.bytes())
+        Ok(assembly.whole())
     } else {
         errors.sort_by_key(|error| (error.line, error.column));
         Err(errors)
@@ -42,10 +59,15 @@ pub fn assemble(script: &str) -> Result<Vec<u8>, Vec<ScriptError>> {
 }
 
 impl Assembly {
-    fn bytes(self) -> Vec<u8> {
+    fn whole(self) -> Assembled {
         let mut bytes = self.table.unwrap_or_else(|| View::table(&self.subjects).to_vec());
         bytes.extend(self.requests);
-        bytes
+        Assembled { bytes, lines: self.lines, table_line: self.table_line }
+    }
+
+    fn add(&mut self, line: &Line, bytes: &[u8]) {
+        self.requests.extend(bytes);
+        self.lines.push(line.number);
     }
 
     fn line(&mut self, line: &mut Line) -> Result<(), ScriptError> {
@@ -56,7 +78,8 @@ impl Assembly {
             _ => {
                 // a line with an error further on is a request too: the subjects stand before it
                 self.any_request |= line.peek().is_some_and(|word| numbered(word.text, 's', SUBJECTS).is_some());
-                self.requests.extend(request(line)?.encode());
+                let bytes = request(line)?.encode();
+                self.add(line, &bytes);
                 Ok(())
             }
         }
@@ -85,6 +108,7 @@ impl Assembly {
             return Err(line.error("table-bytes gives the whole table and stands first, once".to_string()));
         }
         self.table = Some(Vec::new());
+        self.table_line = Some(line.number);
         line.keyword("table-bytes")?;
         let table = match line.peek() {
             Some(word) if word.text == "none" => {
@@ -116,7 +140,7 @@ impl Assembly {
                 bytes.len()
             )));
         }
-        self.requests.extend(bytes);
+        self.add(line, &bytes);
         Ok(())
     }
 }
@@ -189,26 +213,51 @@ fn with_execute(line: &mut Line) -> Result<bool, ScriptError> {
     Ok(true)
 }
 
-/// `class 3 needs 0 1` or `class 0 needs none`, up to the end of the line.
+/// `class 3 needs {0,1}` or `class 0 needs {}`, up to the end of the line.
 fn level(line: &mut Line) -> Result<Level, ScriptError> {
     line.keyword("class")?;
     let class = line.take("a class (0 to 15)", |word| number(word, 15))? as u8;
     line.keyword("needs")?;
-    let mut needs = 0;
-    if line.peek().is_some_and(|word| word.text == "none") {
-        line.keyword("none")?;
-        line.finish()?;
-        return Ok(Level { class, needs });
+    let needs = needs(line)?;
+    line.finish()?;
+    Ok(Level { class, needs })
+}
+
+/// A set of needs in braces, with a comma between two.
+fn needs(line: &mut Line) -> Result<u16, ScriptError> {
+    if let Some(set) = without_braces(line) {
+        return Err(line.error(format!("needs are a set in braces: write 'needs {set}'")));
     }
-    let mut expected = "a need (0 to 15) or 'none'";
-    while needs == 0 || line.peek().is_some() {
+    let sign = |sign: &'static str| move |word: &str| (word == sign).then_some(());
+    line.take("a set of needs, as {0,1} or {}", sign("{"))?;
+    let mut needs = 0;
+    if line.peek().is_some_and(|word| word.text == "}") {
+        line.keyword("}")?;
+        return Ok(needs);
+    }
+    loop {
         let twice = line.error("this need stands twice".to_string());
-        let need = line.take(expected, |word| number(word, 15))?;
+        let need = line.take("a need (0 to 15)", |word| number(word, 15))?;
         if needs >> need & 1 == 1 {
             return Err(twice);
         }
         needs |= 1 << need;
-        expected = "a need (0 to 15) or the end of the line";
+        let more =
+            line.take("',' or '}'", |word| [(",", true), ("}", false)].iter().find(|it| it.0 == word).map(|it| it.1))?;
+        if !more {
+            return Ok(needs);
+        }
     }
-    Ok(Level { class, needs })
+}
+
+/// The set that `needs none` and `needs 0 1`, without braces, are meant to say.
+fn without_braces(line: &Line) -> Option<String> {
+    let words: Vec<&str> = line.rest().iter().map(|word| word.text).filter(|&word| word != ",").collect();
+    match words.as_slice() {
+        ["none"] => Some("{}".to_string()),
+        [_, ..] if words.iter().all(|word| number(word, usize::MAX).is_some()) => {
+            Some(format!("{{{}}}", words.join(",")))
+        }
+        _ => None,
+    }
 }

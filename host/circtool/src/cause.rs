@@ -70,7 +70,7 @@ impl Cause {
     }
 }
 
-/// What the scope says of a byte string in a secure state.
+/// What the rules say of a byte string in a secure state.
 pub fn judge(view: &View, bytes: &[u8]) -> Verdict {
     let request = match Request::decode(bytes) {
         Ok(request) => request,

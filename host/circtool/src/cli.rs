@@ -4,15 +4,14 @@ use crate::arguments::{Arguments, Takes};
 use crate::compare::{compare, Comparison, Named};
 use crate::disassemble::disassemble;
 use crate::explain::explain;
-use crate::input::{assembled, form, read, Form};
+use crate::input::{assembled, form, is_text, read, Form, Input};
 use crate::paint::Paint;
 use crate::show::show;
 use crate::view::View;
-use crate::{help, refusal};
+use crate::{help, refusal, save};
 use circmon::{Unit, IMAGE_BYTES, REQUEST_BYTES, TABLE_BYTES};
 use std::ffi::{OsStr, OsString};
 use std::io::{ErrorKind, Read, Write};
-use std::path::Path;
 
 pub const FINE: u8 = 0;
 /// a refused table or image, or two images that differ
@@ -50,13 +49,35 @@ pub fn call(words: &[OsString], standard_input: &mut dyn Read, paint: Paint) -> 
         return trouble(help::GENERAL.to_string());
     };
     match first.to_str() {
-        Some("--help" | "-h") => Outcome::fine(help::GENERAL),
-        Some("--version" | "-V") => Outcome::fine(concat!("circtool ", env!("CARGO_PKG_VERSION"), "\n")),
+        Some("help" | "--help" | "-h") => help_on(rest),
+        Some("--version" | "-V") => version(rest),
         Some(name) if help::of(name).is_some() => subcommand(name, rest, standard_input, paint),
-        _ => {
-            let found = first.to_string_lossy();
-            trouble(format!("circtool: expected a subcommand, found '{found}'; see 'circtool --help'\n"))
-        }
+        _ => no_subcommand(first),
+    }
+}
+
+fn no_subcommand(found: &OsStr) -> Outcome {
+    let found = found.to_string_lossy();
+    trouble(format!("circtool: expected a subcommand, found '{found}'; see 'circtool --help'\n"))
+}
+
+fn unexpected(word: &OsStr) -> Outcome {
+    trouble(format!("circtool: unexpected '{}'; see 'circtool --help'\n", word.to_string_lossy()))
+}
+
+/// The general help, or that of the subcommand behind it.
+fn help_on(words: &[OsString]) -> Outcome {
+    match words {
+        [] => Outcome::fine(help::GENERAL),
+        [name] => name.to_str().and_then(help::of).map_or_else(|| no_subcommand(name), Outcome::fine),
+        [_, word, ..] => unexpected(word),
+    }
+}
+
+fn version(words: &[OsString]) -> Outcome {
+    match words.first() {
+        None => Outcome::fine(concat!("circtool ", env!("CARGO_PKG_VERSION"), "\n")),
+        Some(word) => unexpected(word),
     }
 }
 
@@ -92,12 +113,19 @@ fn takes(name: &str) -> Takes {
 
 fn asm(arguments: &Arguments, standard_input: &mut dyn Read) -> Step<Outcome> {
     let input = read(arguments.file(), standard_input).map_err(trouble)?;
-    assembled(&input).map(Outcome::fine).map_err(trouble)
+    assembled(&input).map(|it| Outcome::fine(it.bytes)).map_err(trouble)
 }
 
+/// The script of any bytes; where they look like something else, that is said beside it.
 fn dis(arguments: &Arguments, standard_input: &mut dyn Read) -> Step<Outcome> {
     let input = read(arguments.file(), standard_input).map_err(trouble)?;
-    Ok(Outcome::fine(disassemble(&input.bytes)))
+    let mut outcome = Outcome::fine(disassemble(&input.bytes));
+    if is_text(&input.bytes) {
+        outcome.err = format!("{}: it looks like a script; 'circtool asm' turns a script into bytes\n", input.name);
+    } else if is_image(&input.bytes) {
+        outcome.err = image_message(&input.name);
+    }
+    Ok(outcome)
 }
 
 /// The form that a flag says; nothing where the input is to tell it.
@@ -110,24 +138,69 @@ fn form_asked(arguments: &Arguments) -> Step<Option<Form>> {
     }
 }
 
-/// The unit begun from the table of a script or of bytes, and the requests behind it.
-fn begin(arguments: &Arguments, standard_input: &mut dyn Read) -> Step<(Unit, Vec<u8>)> {
+/// A unit begun from the table of a script or of bytes, and the requests behind it.
+struct Begun {
+    unit: Unit,
+    requests: Vec<u8>,
+    /// the line of each request in the script; none where the input is bytes
+    lines: Vec<usize>,
+}
+
+fn begin(arguments: &Arguments, standard_input: &mut dyn Read) -> Step<Begun> {
     let asked = form_asked(arguments)?;
     let input = read(arguments.file(), standard_input).map_err(trouble)?;
-    let bytes = match asked.unwrap_or_else(|| form(&input.bytes)) {
-        Form::Script => assembled(&input).map_err(trouble)?,
-        Form::Bytes => input.bytes,
-    };
+    match asked.unwrap_or_else(|| form(&input.bytes)) {
+        Form::Script => begin_script(&input),
+        Form::Bytes if asked.is_none() && is_image(&input.bytes) => {
+            Err(trouble(image_message(&input.name) + "  with --bytes it is run as a table and requests all the same\n"))
+        }
+        Form::Bytes => begin_bytes(&input, asked.is_some()),
+    }
+}
+
+/// 1,274 bytes are 42 of a table, 205 requests and two bytes too many: a whole run never has them.
+fn is_image(bytes: &[u8]) -> bool {
+    bytes.len() == IMAGE_BYTES && !is_text(bytes)
+}
+
+fn image_message(name: &str) -> String {
+    format!(
+        "{name}: {IMAGE_BYTES} bytes are an image, and no table with whole requests behind it\n  \
+         'circtool show' prints the state in an image; a run begins from a table\n"
+    )
+}
+
+/// Only a table given by its bytes can be refused, and then its line is named.
+fn begin_script(input: &Input) -> Step<Begun> {
+    let script = assembled(input).map_err(trouble)?;
+    let name = script.table_line.map_or(input.name.clone(), |line| format!("{}:{line}", input.name));
+    let (unit, requests) = begin_table(&name, &script.bytes)?;
+    Ok(Begun { unit, requests, lines: script.lines })
+}
+
+fn begin_bytes(input: &Input, asked: bool) -> Step<Begun> {
+    let begun = begin_table(&input.name, &input.bytes);
+    let (unit, requests) = begun.map_err(|mut outcome| {
+        if is_text(&input.bytes) {
+            let otherwise = if asked { "without --bytes" } else { "with --script" };
+            outcome.err.push_str(&format!("  it looks like a script; {otherwise} it is read as one\n"));
+        }
+        outcome
+    })?;
+    Ok(Begun { unit, requests, lines: Vec::new() })
+}
+
+fn begin_table(name: &str, bytes: &[u8]) -> Step<(Unit, Vec<u8>)> {
     let (table, requests) = bytes.split_at(bytes.len().min(TABLE_BYTES));
     match Unit::from_table(table) {
         Ok(unit) => Ok((unit, requests.to_vec())),
-        Err(number) => Err(Outcome::failed(REFUSED, refusal::of_table(&input.name, table, number))),
+        Err(number) => Err(Outcome::failed(REFUSED, refusal::of_table(name, table, number))),
     }
 }
 
 fn explain_run(arguments: &Arguments, standard_input: &mut dyn Read, paint: Paint) -> Step<Outcome> {
-    let (mut unit, requests) = begin(arguments, standard_input)?;
-    Ok(Outcome::fine(explain(&mut unit, &requests, paint)))
+    let mut begun = begin(arguments, standard_input)?;
+    Ok(Outcome::fine(explain(&mut begun.unit, &begun.requests, &begun.lines, paint)))
 }
 
 fn run(arguments: &Arguments, standard_input: &mut dyn Read) -> Step<Outcome> {
@@ -135,10 +208,10 @@ fn run(arguments: &Arguments, standard_input: &mut dyn Read) -> Step<Outcome> {
     if let Some(out) = out {
         may_write(out, arguments.file())?;
     }
-    let (mut unit, requests) = begin(arguments, standard_input)?;
+    let Begun { mut unit, requests, .. } = begin(arguments, standard_input)?;
     let replies: String = requests.chunks(REQUEST_BYTES).map(|piece| format!("{}\n", unit.request(piece))).collect();
     if let Some(out) = out {
-        std::fs::write(out, unit.image()).map_err(|error| {
+        save::whole(out, unit.image()).map_err(|error| {
             let name = out.to_string_lossy();
             trouble(format!("circtool: cannot write {name}: {error}\n"))
         })?;
@@ -151,11 +224,8 @@ fn may_write(out: &OsStr, file: Option<&OsStr>) -> Step<()> {
     if out == "-" {
         return Err(trouble("circtool run: --image needs a file, not standard output\n".to_string()));
     }
-    let same = |file: &OsStr| {
-        let full = Path::new(file).canonicalize();
-        full.is_ok_and(|full| Path::new(out).canonicalize().is_ok_and(|out| out == full))
-    };
-    if file.is_some_and(same) {
+    let input = file.filter(|file| *file != "-").unwrap_or(OsStr::new("/dev/stdin"));
+    if save::is_same(out, input) {
         return Err(trouble("circtool run: --image names the input itself\n".to_string()));
     }
     Ok(())

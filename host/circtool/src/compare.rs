@@ -42,7 +42,7 @@ fn equal(a: &Named, b: &Named) -> String {
     format!(
         "equal: {} and {}\n\
          Every further list of requests draws the same replies from both. \
-         This is proved: docs/THEOREMS.md, demand 3.\n",
+         This is proved: docs/THEOREMS.md, equal images.\n",
         a.name, b.name
     )
 }

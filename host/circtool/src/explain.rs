@@ -34,16 +34,19 @@ pub fn steps(unit: &mut Unit, requests: &[u8]) -> Vec<Step> {
     requests.chunks(REQUEST_BYTES).map(|piece| step(unit, piece)).collect()
 }
 
-/// The whole text: the subjects, a row for each step with its reason below, and a count.
-pub fn explain(unit: &mut Unit, requests: &[u8], paint: Paint) -> String {
+/// The whole text: the subjects, a row for each step with its reason below, and a count. Where the requests come from a
+/// script, the line of each stands beside the step; else there are no lines.
+pub fn explain(unit: &mut Unit, requests: &[u8], lines: &[usize], paint: Paint) -> String {
     let subjects = subject_lines(&View::new(unit.image()));
     let steps = steps(unit, requests);
     let width = steps.iter().map(|step| step.request.chars().count()).max().unwrap_or(0).max("request".len());
+    let line_heading = if lines.is_empty() { "" } else { "  line" };
     let mut text = format!("{}\n{subjects}\n", paint.heading("subjects"));
-    text.push_str(&paint.heading(&format!("step  {:<width$}  reply", "request")));
+    text.push_str(&paint.heading(&format!("step{line_heading}  {:<width$}  reply", "request")));
     text.push('\n');
     for (at, step) in steps.iter().enumerate() {
-        text.push_str(&row(at + 1, step, width, paint));
+        let line = lines.get(at).map_or(String::new(), |line| format!("  {line:>4}"));
+        text.push_str(&row(&format!("{:>4}{line}", at + 1), step, width, paint));
     }
     text.push('\n');
     text.push_str(&summary(&steps));
@@ -59,10 +62,10 @@ fn subject_lines(view: &View) -> String {
     }
 }
 
-fn row(number: usize, step: &Step, width: usize, paint: Paint) -> String {
+fn row(start: &str, step: &Step, width: usize, paint: Paint) -> String {
     let reply = reply_words(step.reply);
     let reply = if step.reply > 1 { paint.refusal(&reply) } else { reply };
-    let mut row = format!("{number:>4}  {:<width$}  {reply}\n", step.request);
+    let mut row = format!("{start}  {:<width$}  {reply}\n", step.request);
     if let Some(reason) = &step.reason {
         row.push_str(&wrapped(reason, "        ", 100));
     }

@@ -11,8 +11,9 @@ Usage: circtool SUBCOMMAND [OPTIONS] [FILE]
   run      a run: one reply for each request; can write the image after it
   show     the state in an image
   compare  two images: equal, or where they differ and which requests show it
+  help     this text, or that of a subcommand
 
-'circtool SUBCOMMAND --help' says more. --version prints the version.
+'circtool help SUBCOMMAND' says more. --version prints the version.
 Where no file or '-' is given, standard input is read. Every reply and every acceptance comes from the proved library.
 
 Exit status: 0 fine; 1 a table or image is refused, or two images differ; 2 usage, or input that cannot be read.
@@ -23,12 +24,12 @@ Usage: circtool asm [FILE]
 
 Writes the bytes of a script to standard output: 42 bytes of table, then six bytes for each request.
 
-A script has first the subjects, then the requests, one on a line; '#' begins a comment.
+A script has first the subjects, then the requests, one on a line; '#' begins a comment. Needs are a set in braces.
 
-  subject 1 class 3 needs 0 1      enrols s1; a subject that no line names is absent
-  subject 2 class 0 needs none
+  subject 1 class 3 needs {0,1}    enrols s1; a subject that no line names is absent
+  subject 2 class 0 needs {}
   s1 create o0                     s1 create o1 with e
-  s1 level o0 class 2 needs 0      s1 level o0 class 0 needs none
+  s1 level o0 class 2 needs {0}    s1 level o0 class 0 needs {}
   s1 get r o0                      s1 release r o0
   s1 give s0 r o1                  s1 rescind s0 r o1
   s1 delete o0
@@ -36,9 +37,11 @@ A script has first the subjects, then the requests, one on a line; '#' begins a 
   table-bytes 88 00 ..             the table by its 42 bytes, in place of the subjects; fewer (or 'none') only where
                                    no request follows
 
-Subjects are 0 to 15, objects 0 to 63, classes and needs 0 to 15, modes r, w, a, e.
+Subjects are 0 to 15, objects 0 to 63, classes and needs 0 to 15, modes r, w, a, e. Between words stand spaces and tabs.
+A byte-order mark before the script is left out.
 
 Example: circtool asm examples/marked-run.circ | target/bin/circmon
+('rt check circmon', in the root of the repository, proves and builds the program circmon.)
 
 Exit status: 0 fine; 2 usage, a file that cannot be read, or errors in the script, each with its line and column.
 ";
@@ -62,8 +65,9 @@ the right or ownership that is missing, the absent label, the clearance that doe
 objects that stand in the way of the star property.
 
 The input is a script or bytes as circmon reads them. Without a flag the first byte decides: 00, 80 to FF, or no byte at
-all is bytes, any other a script. An accepted table never begins like a script. circmon stops after 4,096 requests,
-circtool does not.
+all is bytes, any other a script, and so is what begins with a byte-order mark. An accepted table is never taken for a
+script. 1,274 bytes are an image and are not run. circmon stops after 4,096 requests, circtool does not. Where the input
+is a script, the line of each request stands beside its step.
 
 Example: circtool explain examples/lobby-display.circ
 
@@ -75,10 +79,11 @@ pub const RUN: &str = "\
 Usage: circtool run [--script | --bytes] [--image OUT] [FILE]
 
 Runs the requests and prints one reply for each, as circmon does. With --image the image after the run is written to the
-file OUT, for 'circtool show' and 'circtool compare'. Where the input is bad, OUT is neither written nor overwritten.
+file OUT, whole or not at all, for 'circtool show' and 'circtool compare'. Where the input is bad, OUT is as it was.
 
 The input is a script or bytes as circmon reads them. Without a flag the first byte decides: 00, 80 to FF, or no byte at
-all is bytes, any other a script. circmon stops after 4,096 requests, circtool does not.
+all is bytes, any other a script, and so is what begins with a byte-order mark. 1,274 bytes are an image and not run.
+circmon stops after 4,096 requests, circtool does not.
 
 Example: circtool run examples/marked-run.circ --image marked.img
 
@@ -93,7 +98,7 @@ Prints the state in an image: counts, enrolled subjects with clearances, live ob
 and each subject that has rights or holds accesses on them. Of a refused image it prints the number, the check in words
 and where it failed; with --anyway also the fields as they stand, without what is marked absent.
 
-Colour is used only where standard output is a terminal and NO_COLOR is not set.
+Colour is used only where standard output is a terminal and NO_COLOR is not set or empty.
 
 Example: circtool show marked.img
 

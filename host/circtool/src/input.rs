@@ -1,7 +1,8 @@
 //! What is read from files and standard input: scripts, and bytes as the program `circmon` reads them.
 
-use crate::assemble::assemble;
-use crate::script::ScriptError;
+use crate::assemble::{self, Assembled};
+use crate::script::{ScriptError, MARK};
+use circmon::{Unit, TABLE_BYTES};
 use std::ffi::OsStr;
 use std::io::Read;
 
@@ -37,23 +38,34 @@ pub enum Form {
 }
 
 /// What an input is, from its first byte. The table's first record either is absent, then the first byte of an accepted
-/// table is 00, or it is enrolled, then that byte is 80 or above; and no script begins with such a byte. So no input
-/// that has an accepted table is taken for a script, and no script for bytes. An empty input is bytes: a table that is
-/// too short, as `circmon` takes it.
+/// table is 00, or it is enrolled, then that byte is 80 or above; and no script begins with such a byte but one with a
+/// byte-order mark before it, which counts as a script unless an accepted table begins so. So no input that has an
+/// accepted table is taken for a script. An empty input is bytes: a table that is too short, as `circmon` takes it.
 pub fn form(bytes: &[u8]) -> Form {
     match bytes.first() {
+        Some(_) if bytes.starts_with(MARK.as_bytes()) && !has_table(bytes) => Form::Script,
         None | Some(0x00 | 0x80..) => Form::Bytes,
         Some(_) => Form::Script,
     }
 }
 
-/// The bytes that the script stands for, or its errors, a line for each.
-pub fn assembled(input: &Input) -> Result<Vec<u8>, String> {
+fn has_table(bytes: &[u8]) -> bool {
+    bytes.get(..TABLE_BYTES).is_some_and(|table| Unit::from_table(table).is_ok())
+}
+
+/// Whether the bytes are text, as no table that means something is: UTF-8 and no control character but white space.
+pub fn is_text(bytes: &[u8]) -> bool {
+    let plain = |letter: char| !letter.is_control() || letter.is_ascii_whitespace();
+    std::str::from_utf8(bytes).is_ok_and(|text| !text.is_empty() && text.chars().all(plain))
+}
+
+/// What the script stands for, or its errors, a line for each.
+pub fn assembled(input: &Input) -> Result<Assembled, String> {
     let script = std::str::from_utf8(&input.bytes).map_err(|error| {
         let error = not_text(&input.bytes, error.valid_up_to());
         format!("{}:{error}\n", input.name)
     })?;
-    assemble(script).map_err(|errors| error_lines(&input.name, &errors))
+    assemble::assembled(script).map_err(|errors| error_lines(&input.name, &errors))
 }
 
 fn not_text(bytes: &[u8], at: usize) -> ScriptError {

@@ -36,25 +36,24 @@ impl Level {
         if self.class < other.class {
             parts.push(format!("class {} is under class {}", self.class, other.class));
         }
-        let missing = needs_of(other.needs & !self.needs);
-        match missing.as_slice() {
-            [] => {}
-            [one] => parts.push(format!("need {one} is missing")),
-            [first @ .., last] => parts.push(format!("needs {} and {last} are missing", first.join(", "))),
+        let missing = other.needs & !self.needs;
+        if missing != 0 {
+            parts.push(format!("needs {} are missing", set(missing)));
         }
         (!parts.is_empty()).then(|| parts.join(" and "))
     }
 }
 
-fn needs_of(needs: u16) -> Vec<String> {
-    (0..16).filter(|need| needs >> need & 1 == 1).map(|need| need.to_string()).collect()
+/// A set of needs: `{0,1}`, or `{}` where it is empty.
+fn set(needs: u16) -> String {
+    let needs: Vec<String> = (0..16).filter(|need| needs >> need & 1 == 1).map(|need| need.to_string()).collect();
+    format!("{{{}}}", needs.join(","))
 }
 
-/// As scripts write it: `class 3 needs 0 1`, `class 0 needs none`.
+/// As scripts write it: `class 3 needs {0,1}`, `class 0 needs {}`.
 impl fmt::Display for Level {
     fn fmt(&self, out: &mut fmt::Formatter) -> fmt::Result {
-        let needs = if self.needs == 0 { "none".to_string() } else { needs_of(self.needs).join(" ") };
-        write!(out, "class {} needs {needs}", self.class)
+        write!(out, "class {} needs {}", self.class, set(self.needs))
     }
 }
 
@@ -95,13 +94,13 @@ mod tests {
     #[test]
     fn the_shortfall_names_class_and_needs() {
         let (low, high) = (Level { class: 1, needs: 1 }, Level { class: 3, needs: 0b1110 });
-        assert_eq!(low.shortfall(high).unwrap(), "class 1 is under class 3 and needs 1, 2 and 3 are missing");
-        assert_eq!(high.shortfall(low).unwrap(), "need 0 is missing");
+        assert_eq!(low.shortfall(high).unwrap(), "class 1 is under class 3 and needs {1,2,3} are missing");
+        assert_eq!(high.shortfall(low).unwrap(), "needs {0} are missing");
     }
 
     #[test]
     fn an_absent_label_does_not_read_like_class_0() {
-        assert_eq!(label_words(Some(Level { class: 0, needs: 0 })), "class 0 needs none");
+        assert_eq!(label_words(Some(Level { class: 0, needs: 0 })), "class 0 needs {}");
         assert_eq!(label_words(None), "no label");
     }
 }

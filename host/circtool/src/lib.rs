@@ -20,6 +20,7 @@ pub mod paint;
 pub mod properties;
 pub mod refusal;
 pub mod request;
+mod save;
 pub mod script;
 pub mod shortest;
 pub mod show;

@@ -9,10 +9,11 @@ impl Paint {
     pub const PLAIN: Paint = Paint { on: false };
     pub const COLOURED: Paint = Paint { on: true };
 
-    /// Colour exactly where standard output is a terminal and NO_COLOR is not set.
+    /// Colour exactly where standard output is a terminal and NO_COLOR is not set, or is empty.
     pub fn for_standard_output() -> Paint {
         use std::io::IsTerminal;
-        Paint { on: std::io::stdout().is_terminal() && std::env::var_os("NO_COLOR").is_none() }
+        let wanted = std::env::var_os("NO_COLOR").is_none_or(|it| it.is_empty());
+        Paint { on: wanted && std::io::stdout().is_terminal() }
     }
 
     fn paint(self, code: &str, text: &str) -> String {

@@ -124,7 +124,7 @@ impl Pair {
     }
 }
 
-/// `r on o0 (class 3 needs 0 1)`
+/// `r on o0 (class 3 needs {0,1})`
 fn side(modes: Modes, it: &Holding) -> String {
     format!("{modes} on o{} ({})", it.object, label_words(it.label))
 }

@@ -86,7 +86,7 @@ impl Fields {
         }
     }
 
-    /// Every reason against these fields, in the order in which the scope names them.
+    /// Every reason against these fields, in the order in which docs/FORMATS.md names them.
     fn reasons(&self) -> Vec<Malformed> {
         let mut reasons = Vec::new();
         let known = (1..=7).contains(&self.kind);

@@ -181,7 +181,8 @@ impl Pair {
     /// Levels that are granted in both states: for a subject with two clearances the greatest that the one dominates, the
     /// greatest that the other dominates, and the greatest at which it can read the object.
     fn levels(&self, object: usize, it: &Object) -> Vec<Level> {
-        let highest = readers(it).map(|subject| self.highest_to_read(subject, object)).fold(Level::HIGHEST, Level::meet);
+        let highest =
+            readers(it).map(|subject| self.highest_to_read(subject, object)).fold(Level::HIGHEST, Level::meet);
         let lowest = writers(it).map(|subject| self.lowest_to_alter(subject, object)).fold(Level::LOWEST, Level::join);
         let with_right = self.differing().filter(|&(subject, _)| !it.rights[subject].reading().is_empty());
         with_right

@@ -103,7 +103,7 @@ mod tests {
     }
 
     #[test]
-    fn every_number_of_the_scope_has_words() {
+    fn every_number_has_words() {
         assert!((0..=9).all(|reply| !reply_words(reply).contains("a number that")));
         assert!((6..=13).all(|number| !refusal_words(number).contains("a number that")));
     }

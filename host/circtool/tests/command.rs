@@ -2,10 +2,9 @@
 
 mod shared;
 
-use shared::{circtool, ended, err, folder, out, root};
-use std::process::{Command, Stdio};
+use shared::{circtool, ended, err, folder, out, shell};
 
-const SCRIPT: &str = "subject 1 class 3 needs 0 1\ns1 create o0\ns1 get r o0\n";
+const SCRIPT: &str = "subject 1 class 3 needs {0,1}\ns1 create o0\ns1 get r o0\n";
 
 fn script_bytes() -> Vec<u8> {
     circtool(&["asm"], SCRIPT.as_bytes()).stdout
@@ -18,7 +17,7 @@ fn asm_and_dis_through_standard_input_and_output() {
     assert_eq!(assembled.stdout.len(), 54);
     let again = circtool(&["dis"], &assembled.stdout);
     ended(&again, 0);
-    assert_eq!(out(&again), "subject 1 class 3 needs 0 1\n\ns1 create o0\ns1 get r o0\n");
+    assert_eq!(out(&again), "subject 1 class 3 needs {0,1}\n\ns1 create o0\ns1 get r o0\n");
     assert_eq!(err(&again), "");
 }
 
@@ -26,7 +25,7 @@ fn asm_and_dis_through_standard_input_and_output() {
 fn script_errors_go_to_standard_error_with_status_2() {
     let folder = folder("errors");
     let file = folder.join("script.circ");
-    std::fs::write(&file, "subject 1 class 3 needs 0 1\n\ns1 create o0\ns1 get x o0\n").unwrap();
+    std::fs::write(&file, "subject 1 class 3 needs {0,1}\n\ns1 create o0\ns1 get x o0\n").unwrap();
     let name = file.to_str().unwrap();
     for words in [["asm", name], ["explain", name], ["run", name]] {
         let output = circtool(&words, b"");
@@ -91,9 +90,12 @@ fn run_writes_the_image_and_show_reads_it() {
     let folder = folder("image");
     let image = folder.join("a.img");
     let name = image.to_str().unwrap();
-    let output = circtool(&["run", "--image", name], SCRIPT.as_bytes());
-    ended(&output, 0);
-    assert_eq!(out(&output), "0\n7\n");
+    for words in [vec!["run", "--image", name], vec!["run", &format!("--image={name}")]] {
+        let _ = std::fs::remove_file(&image);
+        let output = circtool(&words, SCRIPT.as_bytes());
+        ended(&output, 0);
+        assert_eq!(out(&output), "0\n7\n");
+    }
     let bytes = std::fs::read(&image).unwrap();
     assert_eq!((bytes.len(), circmon::read(&bytes)), (1274, 0));
     for shown in [circtool(&["show", name], b""), circtool(&["show"], &bytes), circtool(&["show", "-"], &bytes)] {
@@ -152,7 +154,7 @@ fn compare_ends_as_cmp_does() {
     let folder = folder("compare");
     let [a, b, bad] = ["a.img", "b.img", "bad.img"].map(|name| folder.join(name).to_str().unwrap().to_string());
     ended(&circtool(&["run", "--image", &a], SCRIPT.as_bytes()), 0);
-    let labelled = format!("{SCRIPT}s1 level o0 class 0 needs none\n");
+    let labelled = format!("{SCRIPT}s1 level o0 class 0 needs {{}}\n");
     ended(&circtool(&["run", "--image", &b], labelled.as_bytes()), 0);
     std::fs::write(&bad, [0; 5]).unwrap();
     let equal = circtool(&["compare", &a, &a], b"");
@@ -160,7 +162,7 @@ fn compare_ends_as_cmp_does() {
     assert!(out(&equal).contains("proved"));
     let different = circtool(&["compare", &a, &b], b"");
     ended(&different, 1);
-    assert!(out(&different).contains("o0: no label in A, label class 0 needs none in B"), "{}", out(&different));
+    assert!(out(&different).contains("o0: no label in A, label class 0 needs {} in B"), "{}", out(&different));
     let from_input = circtool(&["compare", "-", &b], &std::fs::read(&a).unwrap());
     ended(&from_input, 1);
     for (words, start) in [
@@ -188,6 +190,12 @@ fn help_and_version() {
         }
         assert!(out(&help).lines().all(|line| line.chars().count() <= 120), "{name}");
     }
+    for name in ["asm", "dis", "explain", "run", "show", "compare"] {
+        assert_eq!(out(&circtool(&["help", name], b"")), out(&circtool(&[name, "--help"], b"")));
+    }
+    for words in [vec!["help"], vec!["-h"]] {
+        assert_eq!(out(&circtool(&words, b"")), out(&general));
+    }
     let version = circtool(&["--version"], b"");
     ended(&version, 0);
     assert_eq!(out(&version), format!("circtool {}\n", env!("CARGO_PKG_VERSION")));
@@ -206,6 +214,13 @@ fn bad_usage_has_status_2() {
             vec!["run", "--image", "a", "--image", "b"],
             "circtool run: --image is given twice; see 'circtool run --help'\n",
         ),
+        (vec!["run", "--image="], "circtool run: expected a file behind --image; see 'circtool run --help'\n"),
+        (vec!["run", "--image=a", "--image", "b"], "circtool run: --image is given twice; see 'circtool run --help'\n"),
+        (vec!["run", "--script=a"], "circtool run: --script takes no value; see 'circtool run --help'\n"),
+        (vec!["help", "assemble"], "circtool: expected a subcommand, found 'assemble'; see 'circtool --help'\n"),
+        (vec!["help", "asm", "dis"], "circtool: unexpected 'dis'; see 'circtool --help'\n"),
+        (vec!["--help", "asm", "dis"], "circtool: unexpected 'dis'; see 'circtool --help'\n"),
+        (vec!["--version", "asm"], "circtool: unexpected 'asm'; see 'circtool --help'\n"),
         (vec!["show", "--", "--anyway"], "circtool: cannot read --anyway: No such file or directory (os error 2)\n"),
     ] {
         let output = circtool(&words, b"");
@@ -216,13 +231,6 @@ fn bad_usage_has_status_2() {
     let nothing = circtool(&[], b"");
     ended(&nothing, 2);
     assert_eq!(err(&nothing), out(&circtool(&["--help"], b"")));
-}
-
-/// A shell line with the command in $CIRCTOOL.
-fn shell(line: &str) -> std::process::Output {
-    let mut command = Command::new("bash");
-    command.args(["-c", line]).env("CIRCTOOL", env!("CARGO_BIN_EXE_circtool")).current_dir(root());
-    command.stdin(Stdio::null()).output().unwrap()
 }
 
 #[test]
@@ -255,6 +263,7 @@ fn colour_on_a_terminal_only_without_no_color() {
     let on_terminal = |before: &str| out(&shell(&format!("{before} script -qec \"$CIRCTOOL show {name}\" /dev/null")));
     let coloured = on_terminal("env -u NO_COLOR");
     assert!(coloured.contains("\x1b[1;31mno label\x1b[0m"), "{coloured:?}");
+    assert_eq!(on_terminal("NO_COLOR="), coloured, "an empty NO_COLOR counts as none");
     let plain = on_terminal("NO_COLOR=1");
     assert!(plain.contains("no label") && !plain.contains('\x1b'), "{plain:?}");
 }

@@ -1,13 +1,14 @@
 //! The documents show what commands print. In a block that begins with ```console a line that begins with `$ ` is a
 //! command, and the lines up to the next one are what it prints, on standard output and standard error together. The
-//! commands of a document run one after another: those of the page of circtool in a folder of their own that has the
-//! examples, those of the others in the root of the repository. A command outside such a block must be one of `ELSEWHERE`.
+//! commands of a document run one after another in the root of a fresh clone, README's first. A command outside such a
+//! block must be one of `ELSEWHERE`.
 
 mod shared;
 
-use shared::{folder, root};
-use std::path::Path;
-use std::process::Command;
+use shared::clone::Clone;
+use shared::{err, out, root};
+use std::io::{BufRead, BufReader, Read};
+use std::process::{Command, Stdio};
 
 struct Shown {
     line: usize,
@@ -17,7 +18,7 @@ struct Shown {
 
 /// Commands that are run by other tests, or that run the tests.
 const ELSEWHERE: [&str; 3] = [
-    // the first command of the first page is in a block too
+    // `first_command` below
     "./circtool explain examples/lobby-display.circ",
     // the gate, which runs these tests
     ".ci/run",
@@ -54,58 +55,78 @@ fn indented_commands(text: &str) -> Vec<&str> {
     commands.map(|line| line.split(" #").next().unwrap_or(line).trim_end()).collect()
 }
 
-/// What a command prints in the folder, with circtool on the path.
-fn printed(folder: &Path, command: &str) -> String {
-    let binaries = Path::new(env!("CARGO_BIN_EXE_circtool")).parent().unwrap().to_str().unwrap();
-    let path = format!("{binaries}:{}", std::env::var("PATH").unwrap());
-    let line = format!("{{ {command}\n}} 2>&1");
-    let output = Command::new("bash").args(["-c", &line]).env("PATH", path).current_dir(folder).output().unwrap();
+/// What a command prints, on standard output and standard error together.
+fn printed(clone: &Clone, command: &str) -> String {
+    let output = clone.shell(&format!("{{ {command}\n}} 2>&1")).output().unwrap();
     String::from_utf8(output.stdout).unwrap()
 }
 
-fn with_examples(name: &str) -> std::path::PathBuf {
-    let folder = folder(name);
-    std::fs::create_dir(folder.join("examples")).unwrap();
-    for file in shared::examples() {
-        std::fs::copy(&file, folder.join("examples").join(file.file_name().unwrap())).unwrap();
-    }
-    folder
-}
-
-fn check(document: &str, folder: &Path) -> Vec<Shown> {
+/// Runs the commands of a document in the clone, as many as are returned.
+fn check(document: &str, clone: &Clone) -> usize {
     let text = std::fs::read_to_string(root().join(document)).unwrap();
     for command in indented_commands(&text) {
         assert!(ELSEWHERE.contains(&command), "{document}: no test runs '{command}'");
     }
     let shown = commands(&text);
     for it in &shown {
-        let printed = printed(folder, &it.command);
+        let printed = printed(clone, &it.command);
         assert_eq!(printed, it.output, "{document}:{}: {}\nprints\n{printed}", it.line, it.command);
     }
-    shown
+    shown.len()
+}
+
+/// The first command of README in a fresh clone: it says what it proves, and a second one beside it that it waits.
+fn first_command(clone: &Clone) {
+    let text = std::fs::read_to_string(root().join("README.md")).unwrap();
+    let command = indented_commands(&text)[0].to_string();
+    let start = || clone.shell(&command).stdout(Stdio::piped()).stderr(Stdio::piped()).spawn().unwrap();
+    let mut first = start();
+    let mut said = BufReader::new(first.stderr.take().unwrap());
+    let mut lines = String::new();
+    while !lines.contains("circmon: proving the library, ") {
+        assert!(said.read_line(&mut lines).unwrap() > 0, "{lines}");
+    }
+    let second = start().wait_with_output().unwrap();
+    said.read_to_string(&mut lines).unwrap();
+    let first = first.wait_with_output().unwrap();
+    for (output, said) in [(&first, &lines), (&second, &err(&second))] {
+        assert!(output.status.success(), "{said}");
+        assert!(out(output).ends_with(" refused\n"), "{}", out(output));
+    }
+    let waits = "circmon: another call is building; this one waits until it has ended\n";
+    assert_eq!(err(&second).lines().next(), waits.lines().next(), "{}", err(&second));
+    assert!(!lines.contains(waits), "{lines}");
+    let (_, behind) = lines.split_once("circmon: proving the library, ").unwrap();
+    let crates: usize = behind.split(' ').next().unwrap().parse().unwrap();
+    let counted = |at: usize| lines.contains(&format!("circmon: proved {at} of {crates}, {} left: ", crates - at));
+    assert!(crates > 1 && (1..crates).all(counted), "{lines}");
 }
 
 #[test]
-fn the_page_of_circtool() {
-    let shown = check("docs/CIRCTOOL.md", &with_examples("documents-circtool"));
-    for name in ["asm", "dis", "explain", "run", "show", "compare"] {
+fn every_document_in_a_fresh_clone() {
+    let clone = Clone::new("documents");
+    first_command(&clone);
+    let mut shown = check("README.md", &clone);
+    let mut documents: Vec<_> =
+        std::fs::read_dir(root().join("docs")).unwrap().map(|it| it.unwrap().file_name()).collect();
+    documents.sort();
+    for document in documents {
+        // who begins with this page has the command, and nothing else that was built
+        clone.without_target();
+        shown += check(&format!("docs/{}", document.to_str().unwrap()), &clone);
+    }
+    assert!(shown >= 30, "README.md and docs/ show {shown} commands");
+}
+
+#[test]
+fn the_page_of_circtool_shows_each_subcommand() {
+    let shown = commands(&std::fs::read_to_string(root().join("docs/CIRCTOOL.md")).unwrap());
+    for name in ["asm", "dis", "explain", "run", "show", "compare", "help"] {
         let calls = |it: &Shown| {
-            it.command.split([' ', ';', '|']).collect::<Vec<_>>().windows(2).any(|two| two == ["circtool", name])
+            it.command.split([' ', ';', '|']).collect::<Vec<_>>().windows(2).any(|two| two == ["./circtool", name])
         };
         assert!(shown.iter().any(calls), "no example of {name}");
     }
-}
-
-#[test]
-fn the_other_documents() {
-    let mut documents = vec!["README.md".to_string()];
-    for entry in std::fs::read_dir(root().join("docs")).unwrap() {
-        documents.push(format!("docs/{}", entry.unwrap().file_name().to_str().unwrap()));
-    }
-    documents.retain(|name| name != "docs/CIRCTOOL.md");
-    documents.sort();
-    let shown: usize = documents.iter().map(|document| check(document, &root()).len()).sum();
-    assert!(shown >= 9, "README.md and docs/ show {shown} commands");
 }
 
 #[test]
@@ -119,12 +140,13 @@ fn the_benchmark() {
 
 #[test]
 fn an_output_that_is_not_so_would_be_seen() {
-    let folder = with_examples("documents");
-    let text = "```console\n$ circtool --version\ncirctool 0.0.0\n```\n\n    cargo run --release  # why\n    no command\n";
+    let text =
+        "```console\n$ echo 'circtool 0.0.1'\ncirctool 0.0.0\n```\n\n    cargo run --release  # why\n    no command\n";
     let shown = commands(text);
     assert_eq!(shown.len(), 1);
     assert_eq!((shown[0].line, shown[0].output.as_str()), (2, "circtool 0.0.0\n"));
-    assert_ne!(printed(&folder, &shown[0].command), shown[0].output);
+    let clone = Clone::new("documents-not-so");
+    assert_eq!(printed(&clone, &shown[0].command), "circtool 0.0.1\n");
     assert_eq!(indented_commands(text), ["cargo run --release"]);
-    assert_eq!(printed(&folder, "circtool asm examples/none.circ > /dev/null; echo $?").lines().count(), 2);
+    assert_eq!(printed(&clone, "echo out; echo err >&2; cat target/none").lines().count(), 3);
 }

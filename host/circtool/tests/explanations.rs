@@ -147,7 +147,7 @@ fn steps(script: &str) -> Vec<(u8, String)> {
     steps.into_iter().map(|step| (step.reply, step.reason.unwrap_or_default())).collect()
 }
 
-const SUBJECTS: &str = "subject 0 class 1 needs 0\nsubject 1 class 3 needs 0 1\nsubject 2 class 3 needs none\n";
+const SUBJECTS: &str = "subject 0 class 1 needs {0}\nsubject 1 class 3 needs {0,1}\nsubject 2 class 3 needs {}\n";
 
 fn last(requests: &str) -> (u8, String) {
     steps(&format!("{SUBJECTS}{requests}")).pop().unwrap()
@@ -161,7 +161,7 @@ fn rights_and_ownership_are_named() {
         ("s0 give s2 a o0", "s0 does not own o0; the owner is s1; the rights of s0: a"),
         ("s0 give s2 r o0", "s0 does not own o0 and has no right r on it; the owner is s1; the rights of s0: a"),
         ("s1 give s0 e o0", "s1 has no right e on o0; the owner is s1; the rights of s1: r, w, a"),
-        ("s2 level o0 class 0 needs none", "s2 does not own o0; the owner is s1; the rights of s2: none"),
+        ("s2 level o0 class 0 needs {}", "s2 does not own o0; the owner is s1; the rights of s2: none"),
     ] {
         let script = format!("s1 create o0\ns1 give s0 a o0\n{requests}");
         assert_eq!(last(&script), (6, reason.to_string()), "{requests}");
@@ -175,19 +175,19 @@ fn rights_and_ownership_are_named() {
 
 #[test]
 fn levels_and_what_fails_in_them_are_named() {
-    let labelled = "s1 create o0\ns1 give s0 r o0\ns1 give s2 w o0\ns1 level o0 class 2 needs 0\n";
+    let labelled = "s1 create o0\ns1 give s0 r o0\ns1 give s2 w o0\ns1 level o0 class 2 needs {0}\n";
     let (reply, reason) = last(&format!("{labelled}s0 get r o0"));
-    let clearance = "the clearance of s0 (class 1 needs 0) does not dominate the label of o0 (class 2 needs 0)";
+    let clearance = "the clearance of s0 (class 1 needs {0}) does not dominate the label of o0 (class 2 needs {0})";
     assert_eq!((reply, reason), (8, format!("{clearance}: class 1 is under class 2")));
     let (reply, reason) = last(&format!("{labelled}s2 get w o0"));
-    assert!(reply == 8 && reason.ends_with("(class 2 needs 0): need 0 is missing"), "{reason}");
+    assert!(reply == 8 && reason.ends_with("(class 2 needs {0}): needs {0} are missing"), "{reason}");
     // change of level looks at everyone who holds, not at the owner alone
     let (reply, reason) = last(
-        "s1 create o0\ns1 level o0 class 0 needs none\ns1 give s2 r o0\ns2 get r o0\n\
-                                s1 level o0 class 1 needs 1 15",
+        "s1 create o0\ns1 level o0 class 0 needs {}\ns1 give s2 r o0\ns2 get r o0\n\
+                                s1 level o0 class 1 needs {1,15}",
     );
-    let holder = "s2 holds r on o0, and with the new level the clearance of s2 (class 3 needs none) does not dominate \
-                  the label of o0 (class 1 needs 1 15): needs 1 and 15 are missing";
+    let holder = "s2 holds r on o0, and with the new level the clearance of s2 (class 3 needs {}) does not dominate \
+                  the label of o0 (class 1 needs {1,15}): needs {1,15} are missing";
     assert_eq!((reply, reason.as_str()), (8, holder));
     let (reply, reason) = last("s1 create o0\ns1 get a o0");
     assert!(reply == 7 && reason.starts_with("o0 has no label; that is not class 0"), "{reason}");
@@ -195,18 +195,19 @@ fn levels_and_what_fails_in_them_are_named() {
 
 #[test]
 fn star_names_the_subject_and_both_objects() {
-    let two = "s1 create o4\ns1 level o4 class 2 needs 0\ns1 create o5\ns1 level o5 class 1 needs 0 1\n\
+    let two = "s1 create o4\ns1 level o4 class 2 needs {0}\ns1 create o5\ns1 level o5 class 1 needs {0,1}\n\
                s1 give s2 r o4\ns1 give s2 a o5\n";
     let (reply, reason) = last(&format!("{two}s1 get r o4\ns1 get a o5"));
-    let expected = "s1 would hold r on o4 (class 2 needs 0) and a on o5 (class 1 needs 0 1), and the label of o5 does \
+    let expected =
+        "s1 would hold r on o4 (class 2 needs {0}) and a on o5 (class 1 needs {0,1}), and the label of o5 does \
                     not dominate that of o4: class 1 is under class 2";
     assert_eq!((reply, reason.as_str()), (9, expected));
     // the pair is another subject's, and the label is that after the change
     let (reply, reason) = last(&format!(
-        "{two}s1 level o4 class 0 needs none\ns2 get r o4\ns2 get a o5\ns1 level o5 class 0 needs 3\n\
-         s1 level o4 class 1 needs none"
+        "{two}s1 level o4 class 0 needs {{}}\ns2 get r o4\ns2 get a o5\ns1 level o5 class 0 needs {{3}}\n\
+         s1 level o4 class 1 needs {{}}"
     ));
-    let expected = "with the new level s2 holds r on o4 (class 1 needs none) and a on o5 (class 0 needs 3), and the \
+    let expected = "with the new level s2 holds r on o4 (class 1 needs {}) and a on o5 (class 0 needs {3}), and the \
                     label of o5 does not dominate that of o4: class 0 is under class 1";
     assert_eq!((reply, reason.as_str()), (9, expected));
 }
@@ -252,7 +253,7 @@ fn every_example_replies_as_the_library_and_the_second_implementation() {
 fn colour_adds_no_word() {
     let script = std::fs::read_to_string(shared::root().join("examples/lobby-display.circ")).unwrap();
     let bytes = circtool::assemble::assemble(&script).unwrap();
-    let text = |paint| explain(&mut Unit::from_table(&bytes[..42]).unwrap(), &bytes[42..], paint);
+    let text = |paint| explain(&mut Unit::from_table(&bytes[..42]).unwrap(), &bytes[42..], &[], paint);
     let coloured = text(Paint::COLOURED);
     assert!(coloured.contains("\x1b[31m7 refused: no label\x1b[0m"), "{coloured}");
     assert_eq!(shared::without_colour(&coloured), text(Paint::PLAIN));

@@ -74,18 +74,18 @@ fn object(monitor: &mut Monitor) -> &mut Object {
 #[test]
 fn each_kind_of_difference_has_its_words() {
     for (other, requests, words) in [
-        (changed(|m| m.subjects[7] = Some(LOW)), 1, "s7: not enrolled in A, clearance class 0 needs none in B"),
+        (changed(|m| m.subjects[7] = Some(LOW)), 1, "s7: not enrolled in A, clearance class 0 needs {} in B"),
         (
             changed(|m| m.subjects[0] = Some(HIGH)),
             3,
-            "s0: clearance class 0 needs none in A, clearance class 3 needs 0 1 in B",
+            "s0: clearance class 0 needs {} in A, clearance class 3 needs {0,1} in B",
         ),
-        (changed(|m| m.objects[2] = None), 1, "o2: live in A (owner s1, label class 0 needs none), not live in B"),
+        (changed(|m| m.objects[2] = None), 1, "o2: live in A (owner s1, label class 0 needs {}), not live in B"),
         (changed(|m| object(m).owner = 0), 1, "o2: owner s1 in A, s0 in B"),
         (
             changed(|m| object(m).label = Some(Level { class: 1, needs: 0 })),
             1,
-            "o2: label class 0 needs none in A, label class 1 needs none in B",
+            "o2: label class 0 needs {} in A, label class 1 needs {} in B",
         ),
         (changed(|m| object(m).rights[0] = 0b0101), 1, "o2: rights of s0: none in A, w, e in B"),
         (changed(|m| object(m).held[1] = 0b1010), 1, "o2: accesses of s1: r in A, r, a in B"),
@@ -102,7 +102,7 @@ fn an_absent_label_differs_from_class_0_with_no_needs() {
     let mut unlabelled = open.clone();
     object(&mut unlabelled).label = None;
     let (number, words) = told_apart(&unlabelled, &open, "label");
-    assert_eq!((number, words), (1, vec!["o2: no label in A, label class 0 needs none in B".to_string()]));
+    assert_eq!((number, words), (1, vec!["o2: no label in A, label class 0 needs {} in B".to_string()]));
     let mut none = changed(|m| m.objects[2] = None);
     none.objects[3] = unlabelled.objects[2].clone();
     let (_, words) = told_apart(&none, &unlabelled, "slot");

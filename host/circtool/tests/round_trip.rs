@@ -41,8 +41,7 @@ fn expected_line(request: &reference::Request) -> String {
         Kind::ChangeLevel(level) => {
             let needs: Vec<String> =
                 (0..16).filter(|k| level.needs & 1 << k != 0).map(|k: u32| k.to_string()).collect();
-            let needs = if needs.is_empty() { "none".to_string() } else { needs.join(" ") };
-            format!("s{s} level o{o} class {} needs {needs}", level.class)
+            format!("s{s} level o{o} class {} needs {{{}}}", level.class, needs.join(","))
         }
     }
 }

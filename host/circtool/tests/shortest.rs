@@ -116,10 +116,7 @@ fn two_requests() {
     // unlabelled, so that the level comes first
     classes().object(0, None, &[(0, 4)], &[]).gives(3, "level get");
     // star refuses every other level: subject 2 reads o0 and alters o1
-    classes()
-        .object(0, Some(LOW), &[(0, R)], &[(2, R)])
-        .object(1, Some(LOW), &[], &[(2, A)])
-        .gives(3, "get level");
+    classes().object(0, Some(LOW), &[(0, R)], &[(2, R)]).object(1, Some(LOW), &[], &[(2, A)]).gives(3, "get level");
     // the clearance of subject 5 hides that of subject 0
     let mut hidden = classes();
     hidden.monitor.subjects[5] = Some(LOW);

@@ -41,7 +41,7 @@ fn lines_of(text: &str, slot: usize) -> Vec<String> {
 fn an_unlabelled_object_is_visibly_no_object_of_class_0() {
     let unlabelled = lines_of(&text(&with_object(5, object(3, None))), 5);
     let open = lines_of(&text(&with_object(5, object(3, OPEN))), 5);
-    assert_eq!(open, ["  o5   owner s3   label class 0 needs none"]);
+    assert_eq!(open, ["  o5   owner s3   label class 0 needs {}"]);
     assert_eq!(unlabelled, ["  o5   owner s3   no label (not class 0: nobody reads, writes or appends)"]);
     assert!(
         text(&with_object(5, object(3, None))).starts_with("3 subjects enrolled, 1 object live (1 without a label)")
@@ -57,7 +57,7 @@ fn an_unlabelled_object_is_visibly_no_object_of_class_0() {
 #[test]
 fn every_object_state() {
     let labelled = Some(Level { class: 15, needs: 0x8005 });
-    let label = "label class 15 needs 0 2 15";
+    let label = "label class 15 needs {0,2,15}";
     let mut with_rights = object(15, labelled);
     with_rights.rights[0] = 0b0001;
     with_rights.rights[15] = 0b1110;
@@ -86,7 +86,8 @@ fn subjects_and_the_empty_state() {
     let counts = "0 subjects enrolled, 0 objects live (0 without a label), 0 rights, 0 accesses held";
     assert_eq!(nobody, format!("{counts}\n\nsubjects\n  nobody is enrolled\n\nobjects\n  none is live\n"));
     let some = text(&with_object(1, object(3, OPEN)));
-    let subjects = "subjects\n  s0   class 2 needs 0\n  s3   class 2 needs 0\n  s15  class 2 needs 0\n\nobjects\n";
+    let subjects =
+        "subjects\n  s0   class 2 needs {0}\n  s3   class 2 needs {0}\n  s15  class 2 needs {0}\n\nobjects\n";
     assert!(some.contains(subjects), "{some}");
 }
 

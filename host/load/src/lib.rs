@@ -52,10 +52,7 @@ pub struct Shape {
 }
 
 pub fn level(random: &mut Random, shape: Shape) -> Level {
-    Level {
-        class: random.below(shape.classes) as u8,
-        needs: random.below(1 << shape.needs) as u16,
-    }
+    Level { class: random.below(shape.classes) as u8, needs: random.below(1 << shape.needs) as u16 }
 }
 
 /// A table with most subjects enrolled.

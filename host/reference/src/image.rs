@@ -1,7 +1,9 @@
 //! Tables and images.
 
 use crate::bits::{BitReader, BitWriter};
-use crate::monitor::{Level, Monitor, Object, SUBJECTS};
+use crate::level::Level;
+use crate::monitor::Monitor;
+use crate::record::{Object, SUBJECTS};
 use crate::{reply, star};
 
 pub const TABLE_BYTES: usize = 42;
@@ -49,10 +51,7 @@ impl Monitor {
     /// The first of checks 12, 6, 7, 8, 9 that the state fails.
     pub fn fault(&self) -> Option<u8> {
         let any = |bad: &dyn Fn(&Object, usize) -> bool| {
-            self.objects
-                .iter()
-                .flatten()
-                .any(|object| (0..SUBJECTS).any(|s| bad(object, s)))
+            self.objects.iter().flatten().any(|object| (0..SUBJECTS).any(|s| bad(object, s)))
         };
         let absent = |s: usize| self.subjects[s].is_none();
         if any(&|o, s| absent(s) && (o.owner == s || o.rights[s] != 0 || o.held[s] != 0)) {
@@ -132,12 +131,7 @@ fn read_object(bits: &mut BitReader, form: &mut bool) -> Option<Object> {
     }
     let owner = bits.number(4) as usize;
     let label = read_label(bits, form);
-    let mut object = Object {
-        owner,
-        label,
-        rights: [0; SUBJECTS],
-        held: [0; SUBJECTS],
-    };
+    let mut object = Object { owner, label, rights: [0; SUBJECTS], held: [0; SUBJECTS] };
     for s in 0..SUBJECTS {
         object.rights[s] = bits.number(4) as u8;
         object.held[s] = bits.number(4) as u8;

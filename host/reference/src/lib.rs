@@ -1,17 +1,23 @@
-//! The scope of circmon implemented a second time, in plain mutable Rust, to compare the proved monitor with.
-//! It is written from the scope's text and shares nothing with the Rattle crates.
+//! The rules, checks and formats of circmon implemented a second time, in plain mutable Rust, to compare the proved monitor
+//! with. It is written from the text of the requirements and shares nothing with the Rattle crates.
 
 mod bits;
 mod image;
+mod level;
+mod mode;
 mod monitor;
 mod program;
+mod record;
 mod request;
 mod star;
 
 pub use image::{IMAGE_BYTES, TABLE_BYTES};
-pub use monitor::{Level, Monitor, Object, OBJECTS, SUBJECTS};
+pub use level::Level;
+pub use mode::Mode;
+pub use monitor::Monitor;
 pub use program::{program, MOST_REQUESTS};
-pub use request::{Kind, Mode, Request, REQUEST_BYTES};
+pub use record::{Object, OBJECTS, SUBJECTS};
+pub use request::{Kind, Request, REQUEST_BYTES};
 pub use star::Star;
 
 /// The numbers that requests, readings and writings return.

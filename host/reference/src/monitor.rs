@@ -1,45 +1,11 @@
 //! The state and the rules.
 
+use crate::level::Level;
+use crate::mode::Mode;
+use crate::record::{Object, OBJECTS, SUBJECTS};
 use crate::reply;
-use crate::request::{Kind, Mode, Request};
+use crate::request::{Kind, Request};
 use crate::star::{self, Star};
-
-pub const SUBJECTS: usize = 16;
-pub const OBJECTS: usize = 64;
-
-const READS: u8 = 8 | 4;
-const WRITES: u8 = 4 | 2;
-
-#[derive(Clone, Copy, Debug, PartialEq, Eq)]
-pub struct Level {
-    pub class: u8,
-    pub needs: u16,
-}
-
-impl Level {
-    /// The class is at least the other's, and every need of the other is here.
-    pub fn dominates(&self, other: &Level) -> bool {
-        self.class >= other.class && other.needs & !self.needs == 0
-    }
-}
-
-#[derive(Clone, Debug, PartialEq, Eq)]
-pub struct Object {
-    pub owner: usize,
-    pub label: Option<Level>,
-    pub rights: [u8; SUBJECTS],
-    pub held: [u8; SUBJECTS],
-}
-
-impl Object {
-    pub fn reads(&self, subject: usize) -> bool {
-        self.held[subject] & READS != 0
-    }
-
-    pub fn writes(&self, subject: usize) -> bool {
-        self.held[subject] & WRITES != 0
-    }
-}
 
 #[derive(Clone, Debug)]
 pub struct Monitor {
@@ -58,11 +24,7 @@ impl PartialEq for Monitor {
 
 impl Monitor {
     pub fn begin(subjects: [Option<Level>; SUBJECTS]) -> Monitor {
-        Monitor {
-            subjects,
-            objects: std::array::from_fn(|_| None),
-            star: Star::Plain,
-        }
+        Monitor { subjects, objects: std::array::from_fn(|_| None), star: Star::Plain }
     }
 
     pub fn empty() -> Monitor {
@@ -78,11 +40,7 @@ impl Monitor {
     }
 
     pub fn step(&mut self, request: Request) -> u8 {
-        let Request {
-            actor,
-            object,
-            kind,
-        } = request;
+        let Request { actor, object, kind } = request;
         if self.subjects[actor].is_none() {
             return reply::NOT_ENROLLED;
         }
@@ -139,12 +97,7 @@ impl Monitor {
     }
 
     /// Checks 4 and 6 of give and rescind: the actor is owner and has that right itself.
-    fn owned_with_right(
-        &mut self,
-        actor: usize,
-        object: usize,
-        mode: Mode,
-    ) -> Result<&mut Object, u8> {
+    fn owned_with_right(&mut self, actor: usize, object: usize, mode: Mode) -> Result<&mut Object, u8> {
         let it = self.objects[object].as_mut().ok_or(reply::NOT_LIVE)?;
         if it.owner != actor || it.rights[actor] & mode.bit() == 0 {
             return Err(reply::NO_RIGHT);
@@ -181,12 +134,7 @@ impl Monitor {
         }
         let mut rights = [0; SUBJECTS];
         rights[actor] = if execute { 15 } else { 14 };
-        self.objects[object] = Some(Object {
-            owner: actor,
-            label: None,
-            rights,
-            held: [0; SUBJECTS],
-        });
+        self.objects[object] = Some(Object { owner: actor, label: None, rights, held: [0; SUBJECTS] });
         reply::CHANGED
     }
 

@@ -14,8 +14,5 @@ pub fn program(input: &[u8]) -> String {
         Ok(monitor) => monitor,
     };
     let requests = &rest[..rest.len().min(MOST_REQUESTS * REQUEST_BYTES)];
-    requests
-        .chunks(REQUEST_BYTES)
-        .map(|request| format!("{}\n", monitor.request(request)))
-        .collect()
+    requests.chunks(REQUEST_BYTES).map(|request| format!("{}\n", monitor.request(request))).collect()
 }

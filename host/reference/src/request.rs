@@ -1,45 +1,11 @@
 //! The six bytes of a request.
 
 use crate::bits::{BitReader, BitWriter};
-use crate::monitor::{Level, OBJECTS, SUBJECTS};
+use crate::level::Level;
+use crate::mode::Mode;
+use crate::record::{OBJECTS, SUBJECTS};
 
 pub const REQUEST_BYTES: usize = 6;
-
-#[derive(Clone, Copy, Debug, PartialEq, Eq)]
-pub enum Mode {
-    Read,
-    Write,
-    Append,
-    Execute,
-}
-
-impl Mode {
-    pub const ALL: [Mode; 4] = [Mode::Read, Mode::Write, Mode::Append, Mode::Execute];
-
-    /// The weight of the mode in a set: the four bits of a right or an access are r, w, a, e.
-    pub fn bit(self) -> u8 {
-        match self {
-            Mode::Read => 8,
-            Mode::Write => 4,
-            Mode::Append => 2,
-            Mode::Execute => 1,
-        }
-    }
-
-    /// r, and w, which also reads
-    pub fn reads(self) -> bool {
-        matches!(self, Mode::Read | Mode::Write)
-    }
-
-    fn number(self) -> u32 {
-        match self {
-            Mode::Read => 1,
-            Mode::Write => 2,
-            Mode::Append => 3,
-            Mode::Execute => 4,
-        }
-    }
-}
 
 #[derive(Clone, Copy, Debug, PartialEq, Eq)]
 pub enum Kind {
@@ -84,13 +50,7 @@ impl Request {
         if kind != 7 && (class != 0 || needs != 0) {
             return None;
         }
-        let moded = match mode {
-            1 => Some(Mode::Read),
-            2 => Some(Mode::Write),
-            3 => Some(Mode::Append),
-            4 => Some(Mode::Execute),
-            _ => None,
-        };
+        let moded = Mode::from_number(mode);
         let kind = match (kind, mode) {
             (1, _) => Kind::Get(moded?),
             (2, _) => Kind::Release(moded?),
@@ -102,11 +62,7 @@ impl Request {
             (7, 0) => Kind::ChangeLevel(Level { class, needs }),
             _ => return None,
         };
-        Some(Request {
-            actor,
-            object,
-            kind,
-        })
+        Some(Request { actor, object, kind })
     }
 
     pub fn encode(&self) -> [u8; REQUEST_BYTES] {

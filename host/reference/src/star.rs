@@ -1,6 +1,6 @@
 //! The star property of one subject, in two ways that answer alike.
 
-use crate::monitor::{Object, OBJECTS};
+use crate::record::{Object, OBJECTS};
 
 /// How the star check goes over the objects.
 #[derive(Clone, Copy, Debug, PartialEq, Eq)]

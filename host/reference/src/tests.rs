@@ -1,4 +1,4 @@
-//! The marked run and the edges, from the scope's text.
+//! The marked run, from the text of the requirements. The edges are in `sidebyside`, for both implementations.
 
 use crate::*;
 
@@ -14,11 +14,7 @@ fn level(class: u8, needs: u16) -> Level {
 }
 
 fn by(actor: usize, object: usize, kind: Kind) -> Request {
-    Request {
-        actor,
-        object,
-        kind,
-    }
+    Request { actor, object, kind }
 }
 
 fn marked_run() -> Vec<(Request, u8)> {
@@ -85,55 +81,4 @@ fn the_program_prints_one_line_for_each_request() {
     // a bit in the absent record of subject 3
     input[10] = 1;
     assert_eq!(program(&input), "11\n");
-}
-
-#[test]
-fn edges_of_subjects_objects_modes_and_lengths() {
-    let mut monitor = Monitor::begin([Some(level(0, 0)); SUBJECTS]);
-    // subject 15 and 16, object 63 and 64, by their fields
-    assert_eq!(monitor.request(&fields(5, 15, 0, 63, 0, 0, 0, 0)), 0);
-    assert_eq!(monitor.request(&fields(5, 16, 0, 62, 0, 0, 0, 0)), 2);
-    assert_eq!(monitor.request(&fields(5, 15, 0, 64, 0, 0, 0, 0)), 2);
-    assert_eq!(monitor.request(&fields(3, 15, 16, 63, 1, 0, 0, 0)), 2);
-    // mode 4 and 5
-    assert_eq!(monitor.request(&fields(2, 15, 0, 63, 4, 0, 0, 0)), 1);
-    assert_eq!(monitor.request(&fields(2, 15, 0, 63, 5, 0, 0, 0)), 2);
-    // 5, 6 and 7 bytes
-    let get = fields(2, 15, 0, 63, 4, 0, 0, 0);
-    assert_eq!(monitor.request(&get[..5]), 2);
-    assert_eq!(monitor.request(&[&get[..], &[0]].concat()), 2);
-    // 1,273 and 1,274 bytes
-    assert_eq!(monitor.write_image(&mut [0; IMAGE_BYTES - 1]), 13);
-    let mut image = [0xFF; IMAGE_BYTES + 1];
-    assert_eq!(monitor.write_image(&mut image), 0);
-    assert_eq!(image[IMAGE_BYTES], 0xFF);
-    assert_eq!(Monitor::from_image(&image[..IMAGE_BYTES]), Ok(monitor));
-    assert_eq!(Monitor::from_image(&image), Err(10));
-    // 41, 42 and 43 bytes
-    assert_eq!(Monitor::from_table(&[0; 41]), Err(10));
-    assert_eq!(Monitor::from_table(&[0; 42]), Ok(Monitor::empty()));
-    assert_eq!(Monitor::from_table(&[0; 43]), Err(10));
-}
-
-#[allow(clippy::too_many_arguments)]
-fn fields(
-    kind: u64,
-    actor: u64,
-    other: u64,
-    object: u64,
-    mode: u64,
-    class: u64,
-    needs: u64,
-    spare: u64,
-) -> [u8; 6] {
-    let word = kind << 44
-        | actor << 39
-        | other << 34
-        | object << 27
-        | mode << 24
-        | class << 20
-        | needs << 4
-        | spare;
-    let bytes = word.to_be_bytes();
-    bytes[2..].try_into().unwrap()
 }

@@ -1,10 +1,18 @@
-//! What the tests share: both monitors on one run, and a program with bytes on its standard input.
+//! What the tests share: both monitors on one run, the program `circmon`, C programs over the header, and a program with
+//! bytes on its standard input.
 
 use circmon::Unit;
 use load::{Random, Shape};
 use reference::{Monitor, IMAGE_BYTES, TABLE_BYTES};
 use std::io::Write;
+use std::path::{Path, PathBuf};
 use std::process::{Command, Output, Stdio};
+use std::sync::OnceLock;
+
+/// The root of the repository.
+pub fn root() -> PathBuf {
+    Path::new(env!("CARGO_MANIFEST_DIR")).join("../..").canonicalize().expect("host/ stands in the repository")
+}
 
 /// The image of a state of the second implementation.
 pub fn image(monitor: &Monitor) -> Vec<u8> {
@@ -64,6 +72,34 @@ pub fn compare_run(seed: u64, shape: Shape, requests: usize, every: usize, count
     round_trip(seed, &monitor, &unit);
 }
 
+/// The program `circmon`, proved and linked, whatever stands in target/.
+pub fn program() -> &'static Path {
+    static PROGRAM: OnceLock<PathBuf> = OnceLock::new();
+    PROGRAM.get_or_init(|| {
+        let target = root().join("target");
+        let binary = target.join("bin/circmon");
+        if !binary.exists() {
+            // rt takes a program that it has proved for up to date, and does not look whether it is still there
+            let _ = std::fs::remove_file(target.join("stamp/circmon"));
+        }
+        let output =
+            Command::new("rt").args(["check", "circmon"]).current_dir(root()).output().expect("rt is on the path");
+        assert!(output.status.success(), "rt check circmon: {}", String::from_utf8_lossy(&output.stdout));
+        binary
+    })
+}
+
+/// A C program over the header and the proved library: compiled with these words into the folder.
+pub fn compiled(source: &Path, folder: &Path, words: &[&str]) -> PathBuf {
+    let binary = folder.join(source.file_stem().expect("a file"));
+    let mut cc = Command::new("cc");
+    cc.args(["-std=gnu11", "-Wall", "-Wextra", "-Werror"]).args(words).arg("-I").arg(root().join("include"));
+    cc.args([source, Path::new(circmon::ARCHIVE), Path::new("-o"), &binary]);
+    let output = cc.output().expect("a C compiler is on the path");
+    assert!(output.status.success(), "{cc:?}: {}", String::from_utf8_lossy(&output.stderr));
+    binary
+}
+
 /// What a program prints with these bytes on its standard input.
 pub fn fed(program: &mut Command, input: &[u8]) -> Output {
     let piped = program.stdin(Stdio::piped()).stdout(Stdio::piped()).stderr(Stdio::piped());
@@ -82,6 +118,10 @@ pub fn fed(program: &mut Command, input: &[u8]) -> Output {
 /// The image of a run is read by both and written back byte for byte.
 pub fn round_trip(seed: u64, monitor: &Monitor, unit: &Unit) {
     let bytes = image(monitor);
-    assert_eq!(Monitor::from_image(&bytes).as_ref(), Ok(monitor), "seed {seed}: read back by the second implementation");
+    assert_eq!(
+        Monitor::from_image(&bytes).as_ref(),
+        Ok(monitor),
+        "seed {seed}: read back by the second implementation"
+    );
     assert_eq!(Unit::from_image(&bytes).as_ref(), Ok(unit), "seed {seed}: read back by the proved monitor");
 }

@@ -2,31 +2,14 @@
 
 use load::Random;
 use reference::{program, MOST_REQUESTS};
-use sidebyside::{fed, SHAPES};
+use sidebyside::{fed, root, SHAPES};
 use std::path::{Path, PathBuf};
 use std::process::Command;
 
-fn root() -> PathBuf {
-    Path::new(env!("CARGO_MANIFEST_DIR")).join("../..").canonicalize().unwrap()
-}
-
 /// A C program of c/ over the header and the library.
 fn compiled(name: &str, words: &[&str]) -> PathBuf {
-    let root = root();
-    let binary = Path::new(env!("CARGO_TARGET_TMPDIR")).join(name);
-    let status = Command::new("cc")
-        .args(["-std=gnu11", "-Wall", "-Wextra", "-Werror"])
-        .args(words)
-        .arg("-I")
-        .arg(root.join("include"))
-        .arg(root.join(format!("host/sidebyside/c/{name}.c")))
-        .arg(root.join("target/staticlib/libcapi.a"))
-        .arg("-o")
-        .arg(&binary)
-        .status()
-        .expect("a C compiler");
-    assert!(status.success());
-    binary
+    let source = root().join(format!("host/sidebyside/c/{name}.c"));
+    sidebyside::compiled(&source, Path::new(env!("CARGO_TARGET_TMPDIR")), words)
 }
 
 #[test]
@@ -39,10 +22,18 @@ fn a_c_program_over_the_header() {
     assert_eq!(String::from_utf8_lossy(&output.stdout), expected);
 }
 
+#[test]
+fn a_null_pointer_with_length_0_is_an_empty_buffer() {
+    for words in [&["-O0"][..], &["-O2"]] {
+        let output = Command::new(compiled("empty", words)).output().unwrap();
+        let expected = "begin 10 13 0\nread 10\nrequest 138 2\nreplay 10 0 13\ndistinguish 138 202 13\n";
+        assert_eq!(String::from_utf8_lossy(&output.stdout), expected);
+    }
+}
+
 /// What `circmon` itself prints.
 fn circmon(input: &[u8]) -> String {
-    // `rt check` builds it
-    let output = fed(&mut Command::new(root().join("target/bin/circmon")), input);
+    let output = fed(&mut Command::new(sidebyside::program()), input);
     String::from_utf8(output.stdout).unwrap()
 }
 

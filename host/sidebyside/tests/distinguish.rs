@@ -235,7 +235,11 @@ fn equal_images_and_short_buffers() {
             let mut buffer = random.bytes(length);
             let kept = buffer.clone();
             for (one, two) in [(&a, &b), (&a, &a)] {
-                assert_eq!(distinguish(one, two, &mut buffer), reference::reply::SHORT_BUFFER, "seed {seed}, {length} bytes");
+                assert_eq!(
+                    distinguish(one, two, &mut buffer),
+                    reference::reply::SHORT_BUFFER,
+                    "seed {seed}, {length} bytes"
+                );
                 assert_eq!(buffer, kept, "seed {seed}, {length} bytes: every byte is left");
             }
         }

@@ -1,6 +1,7 @@
 //! What the tests share: runs from seeds, the folder of the repository, calls of the command, and lists of requests.
 #![allow(dead_code)] // each test program uses a part
 
+pub mod clone;
 pub mod lists;
 
 use load::{Random, Shape};
@@ -9,9 +10,7 @@ use sidebyside::fed;
 use std::path::{Path, PathBuf};
 use std::process::{Command, Output};
 
-pub fn root() -> PathBuf {
-    Path::new(env!("CARGO_MANIFEST_DIR")).join("../..").canonicalize().unwrap()
-}
+pub use sidebyside::root;
 
 /// A folder of its own for one test, empty.
 pub fn folder(name: &str) -> PathBuf {
@@ -54,6 +53,13 @@ pub fn run(seed: u64, shape: Shape, length: usize) -> Run {
 /// The command with these words, with bytes on its standard input.
 pub fn circtool(words: &[&str], input: &[u8]) -> Output {
     fed(Command::new(env!("CARGO_BIN_EXE_circtool")).args(words).current_dir(root()), input)
+}
+
+/// A shell line in the root of the repository, with the command in $CIRCTOOL and nothing on standard input.
+pub fn shell(line: &str) -> Output {
+    let mut command = Command::new("bash");
+    command.args(["-c", line]).env("CIRCTOOL", env!("CARGO_BIN_EXE_circtool")).current_dir(root());
+    fed(&mut command, b"")
 }
 
 pub fn out(output: &Output) -> String {

@@ -1,0 +1,99 @@
+/* Tables, requests and images by their bits, written from docs/FORMATS.md alone: a table with three subjects, each of the
+ * seven kinds of request, and the record of an object read out of the image. docs/FORMATS.md builds and runs it. */
+#include "circmon.h"
+#include <stdio.h>
+
+/* The fields are packed most significant bit first: bit 0 is the bit of weight 128 in byte 0. */
+static void put(uint8_t *bytes, unsigned at, unsigned width, unsigned number) {
+    for (unsigned i = 0; i < width; i++) {
+        unsigned place = at + i, mask = 0x80u >> place % 8;
+        unsigned bit = number >> (width - 1 - i) & 1;
+        bytes[place / 8] = (uint8_t)(bit ? bytes[place / 8] | mask : bytes[place / 8] & ~mask);
+    }
+}
+
+static unsigned get(const uint8_t *bytes, unsigned at, unsigned width) {
+    unsigned number = 0;
+    for (unsigned place = at; place < at + width; place++) {
+        number = number << 1 | (bytes[place / 8] >> (7 - place % 8) & 1u);
+    }
+    return number;
+}
+
+enum kind { GET = 1, RELEASE, GIVE, RESCIND, CREATE, DELETE, CHANGE_LEVEL };
+enum mode { NONE, R, W, A, E };
+
+struct request {
+    const char *words;
+    enum kind kind;
+    unsigned actor, other, object;
+    enum mode mode;
+    unsigned class, needs;
+};
+
+static void pack(uint8_t bytes[CIRCMON_REQUEST_BYTES], const struct request *it) {
+    put(bytes, 0, 4, it->kind);
+    put(bytes, 4, 5, it->actor);
+    put(bytes, 9, 5, it->other);
+    put(bytes, 14, 7, it->object);
+    put(bytes, 21, 3, it->mode);
+    put(bytes, 24, 4, it->class);
+    put(bytes, 28, 16, it->needs);
+    put(bytes, 44, 4, 0);
+}
+
+static void enrol(uint8_t *table, unsigned subject, unsigned class, unsigned needs) {
+    put(table, 21 * subject, 1, 1);
+    put(table, 21 * subject + 1, 4, class);
+    put(table, 21 * subject + 5, 16, needs);
+}
+
+static void hex(const char *words, const uint8_t *bytes, size_t count) {
+    for (size_t i = 0; i < count; i++) {
+        printf("%02X ", bytes[i]);
+    }
+    printf(" %s", words);
+}
+
+static void show_object(const uint8_t *image, unsigned object) {
+    unsigned at = 336 + 154 * object;
+    printf("o%u: live %u, owner %u, label %u, class %u, needs 0x%04X\n", object, get(image, at, 1), get(image, at + 1, 4),
+           get(image, at + 5, 1), get(image, at + 6, 4), get(image, at + 10, 16));
+    for (unsigned subject = 0; subject < 16; subject++) {
+        unsigned rights = get(image, at + 26 + 8 * subject, 4), held = get(image, at + 30 + 8 * subject, 4);
+        if (rights | held) {
+            printf("    s%u: rights %X, accesses %X\n", subject, rights, held);
+        }
+    }
+}
+
+static const struct request requests[] = {
+    {"s1 creates o1 with e", CREATE, 1, 0, 1, E, 0, 0},
+    {"s1 changes the level of o1 to class 2 needs {0}", CHANGE_LEVEL, 1, 0, 1, NONE, 2, 0x0001},
+    {"s1 gives s2 r on o1", GIVE, 1, 2, 1, R, 0, 0},
+    {"s2 gets r on o1", GET, 2, 0, 1, R, 0, 0},
+    {"s1 gets w on o1", GET, 1, 0, 1, W, 0, 0},
+    {"s1 gets e on o1", GET, 1, 0, 1, E, 0, 0},
+    {"s1 releases e on o1", RELEASE, 1, 0, 1, E, 0, 0},
+    {"s1 rescinds r on o1 from s2", RESCIND, 1, 2, 1, R, 0, 0},
+    {"s1 creates o63", CREATE, 1, 0, 63, NONE, 0, 0},
+    {"s1 deletes o63", DELETE, 1, 0, 63, NONE, 0, 0},
+};
+
+int main(void) {
+    uint8_t table[CIRCMON_TABLE_BYTES] = {0}, image[CIRCMON_IMAGE_BYTES];
+    enrol(table, 0, 1, 0x0001);
+    enrol(table, 1, 3, 0x0003);
+    enrol(table, 2, 0, 0x0000);
+    hex("and 36 bytes 00: the table", table, 6);
+    printf(": %d\n", circmon_begin(table, sizeof table, image, sizeof image));
+    for (size_t i = 0; i < sizeof requests / sizeof *requests; i++) {
+        uint8_t bytes[CIRCMON_REQUEST_BYTES];
+        pack(bytes, &requests[i]);
+        hex(requests[i].words, bytes, sizeof bytes);
+        printf(": %d\n", circmon_request(image, sizeof image, bytes, sizeof bytes));
+    }
+    hex("bytes 61 to 66 of the image\n", image + 61, 6);
+    show_object(image, 1);
+    return 0;
+}

@@ -1,0 +1,75 @@
+//! The repository as a fresh clone has it: without what was built in it, and with a toolchain that need not prove again
+//! what the repository has proved.
+
+use super::{folder, root};
+use std::fs;
+use std::os::unix::fs::PermissionsExt;
+use std::path::{Path, PathBuf};
+use std::process::{Command, Stdio};
+
+pub struct Clone {
+    pub root: PathBuf,
+    /// what commands are looked for in
+    path: String,
+}
+
+impl Clone {
+    pub fn new(name: &str) -> Clone {
+        let folder = folder(name);
+        let (root, programs) = (folder.join("clone"), folder.join("programs"));
+        copy(&super::root(), &root);
+        fs::create_dir(&programs).unwrap();
+        script(&programs.join("rt"), &toolchain());
+        let path = format!("{}:{}", programs.display(), std::env::var("PATH").unwrap());
+        Clone { root, path }
+    }
+
+    /// A shell line in the root of the clone.
+    pub fn shell(&self, line: &str) -> Command {
+        let mut command = Command::new("bash");
+        command.args(["-c", line]).env("PATH", &self.path).current_dir(&self.root).stdin(Stdio::null());
+        command
+    }
+
+    /// Takes away what rt has built.
+    pub fn without_target(&self) {
+        let _ = fs::remove_dir_all(self.root.join("target"));
+    }
+}
+
+/// The files of a folder, without what is built and without the history.
+fn copy(from: &Path, to: &Path) {
+    fs::create_dir(to).unwrap();
+    for entry in fs::read_dir(from).unwrap().map(Result::unwrap) {
+        let (name, place) = (entry.file_name(), to.join(entry.file_name()));
+        if name == "target" || name == ".git" {
+            continue;
+        }
+        if entry.file_type().unwrap().is_dir() {
+            copy(&entry.path(), &place);
+        } else {
+            fs::copy(entry.path(), &place).unwrap();
+        }
+    }
+}
+
+/// A program that is a script of the shell.
+pub fn script(place: &Path, text: &str) {
+    fs::write(place, text).unwrap();
+    fs::set_permissions(place, fs::Permissions::from_mode(0o755)).unwrap();
+}
+
+/// `rt`, which first copies the proofs of the repository where it finds none. The program `circmon` is not among them.
+fn toolchain() -> String {
+    let target = root().join("target");
+    format!(
+        "#!/usr/bin/env bash\n\
+         PATH=${{PATH#*:}}\n\
+         if [ ! -d target/stamp ]; then\n    \
+             mkdir -p target && cp -r {0}/rlib {0}/stamp {0}/log target 2> /dev/null\n    \
+             rm -f target/stamp/circmon\n\
+         fi\n\
+         exec rt \"$@\"\n",
+        target.display()
+    )
+}

@@ -1,0 +1,21 @@
+/* Empty buffers with a null pointer: prints what each function returns. */
+#include "circmon.h"
+#include <stdio.h>
+
+int main(void) {
+    const uint8_t table[CIRCMON_TABLE_BYTES] = {0x88, 0x00, 0x0C, 0xC0, 0x00, 0xE0};
+    uint8_t image[CIRCMON_IMAGE_BYTES];
+    printf("begin %d", circmon_begin(NULL, 0, image, sizeof image));
+    printf(" %d", circmon_begin(table, sizeof table, NULL, 0));
+    printf(" %d\n", circmon_begin(table, sizeof table, image, sizeof image));
+    printf("read %d\n", circmon_read(NULL, 0));
+    printf("request %d", circmon_request(NULL, 0, table, CIRCMON_REQUEST_BYTES));
+    printf(" %d\n", circmon_request(image, sizeof image, NULL, 0));
+    printf("replay %d", circmon_replay(NULL, 0, NULL, 0, NULL, 0));
+    printf(" %d", circmon_replay(table, sizeof table, NULL, 0, NULL, 0));
+    printf(" %d\n", circmon_replay(table, sizeof table, table, 1, NULL, 0));
+    printf("distinguish %d", circmon_distinguish(NULL, 0, image, sizeof image, NULL, 0));
+    printf(" %d", circmon_distinguish(image, sizeof image, NULL, 0, NULL, 0));
+    printf(" %d\n", circmon_distinguish(image, sizeof image, image, sizeof image, NULL, 0));
+    return 0;
+}

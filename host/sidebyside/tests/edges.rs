@@ -1,0 +1,112 @@
+//! The edges of every range and length, the last that is allowed and the first that is not, given to both implementations:
+//! subject 15 and 16, object 63 and 64, mode 4 and 5, requests of 5, 6 and 7 bytes, tables of 41, 42 and 43, and buffers of
+//! 1,273 and 1,274.
+
+use circmon::{Unit, REQUEST_BYTES};
+use reference::{reply, Level, Monitor, IMAGE_BYTES, OBJECTS, SUBJECTS, TABLE_BYTES};
+use sidebyside::image;
+
+const CREATE: u64 = 5;
+const GET: u64 = 1;
+const GIVE: u64 = 3;
+
+/// What a byte must still have where nothing is written.
+const LEFT: u8 = 0xEE;
+
+/// A state in both implementations.
+struct Both {
+    monitor: Monitor,
+    unit: Unit,
+}
+
+impl Both {
+    /// Everyone is enrolled.
+    fn new() -> Both {
+        let monitor = Monitor::begin([Some(Level { class: 1, needs: 1 }); SUBJECTS]);
+        let unit = Unit::from_table(&monitor.table()).unwrap();
+        Both { monitor, unit }
+    }
+
+    /// The reply of both, which leave the same state.
+    fn request(&mut self, bytes: &[u8]) -> u8 {
+        let reply = self.monitor.request(bytes);
+        assert_eq!(self.unit.request(bytes), reply, "{bytes:02x?}");
+        assert_eq!(self.unit.image()[..], image(&self.monitor)[..], "{bytes:02x?}");
+        reply
+    }
+}
+
+/// Six bytes with these fields; class, needs and spare are 0.
+fn fields(kind: u64, actor: u64, other: u64, object: u64, mode: u64) -> [u8; REQUEST_BYTES] {
+    let word = kind << 44 | actor << 39 | other << 34 | object << 27 | mode << 24;
+    word.to_be_bytes()[2..].try_into().unwrap()
+}
+
+#[test]
+fn subject_15_and_16() {
+    let mut both = Both::new();
+    assert_eq!(both.request(&fields(CREATE, 15, 0, 0, 0)), reply::CHANGED);
+    assert_eq!(both.request(&fields(CREATE, 16, 0, 1, 0)), reply::MALFORMED);
+    assert_eq!(both.request(&fields(GIVE, 15, 15, 0, 1)), reply::ALREADY);
+    assert_eq!(both.request(&fields(GIVE, 15, 14, 0, 1)), reply::CHANGED);
+    assert_eq!(both.request(&fields(GIVE, 15, 16, 0, 1)), reply::MALFORMED);
+    assert_eq!(both.request(&fields(CREATE, 31, 0, 1, 0)), reply::MALFORMED);
+}
+
+#[test]
+fn object_63_and_64() {
+    let mut both = Both::new();
+    assert_eq!(both.request(&fields(CREATE, 0, 0, 63, 0)), reply::CHANGED);
+    assert_eq!(both.request(&fields(CREATE, 0, 0, 64, 0)), reply::MALFORMED);
+    assert_eq!(both.request(&fields(CREATE, 0, 0, 127, 0)), reply::MALFORMED);
+    assert!(both.monitor.objects[OBJECTS - 1].is_some());
+}
+
+#[test]
+fn mode_4_and_5() {
+    let mut both = Both::new();
+    assert_eq!(both.request(&fields(CREATE, 0, 0, 0, 5)), reply::MALFORMED);
+    assert_eq!(both.request(&fields(CREATE, 0, 0, 0, 4)), reply::CHANGED);
+    assert_eq!(both.request(&fields(GET, 0, 0, 0, 4)), reply::CHANGED);
+    for mode in [0, 5, 6, 7] {
+        assert_eq!(both.request(&fields(GET, 0, 0, 0, mode)), reply::MALFORMED, "mode {mode}");
+    }
+}
+
+#[test]
+fn requests_of_5_6_and_7_bytes() {
+    let mut both = Both::new();
+    let long = [&fields(CREATE, 0, 0, 0, 0)[..], &[0]].concat();
+    assert_eq!(both.request(&long[..5]), reply::MALFORMED);
+    assert_eq!(both.request(&long[..7]), reply::MALFORMED);
+    assert_eq!(both.request(&long[..6]), reply::CHANGED);
+}
+
+#[test]
+fn tables_of_41_42_and_43_bytes() {
+    let bytes = [&Both::new().monitor.table()[..], &[0]].concat();
+    for (length, number) in [(41, reply::LENGTH), (42, 0), (43, reply::LENGTH)] {
+        assert_eq!(Monitor::from_table(&bytes[..length]).err().unwrap_or(0), number, "{length} bytes");
+        let mut buffer = [LEFT; IMAGE_BYTES];
+        assert_eq!(circmon::begin(&bytes[..length], &mut buffer), number, "{length} bytes");
+        assert_eq!(buffer.iter().all(|&byte| byte == LEFT), number != 0, "{length} bytes: what is left");
+    }
+    assert_eq!(TABLE_BYTES, 42);
+}
+
+#[test]
+fn buffers_of_1273_and_1274_bytes() {
+    let both = Both::new();
+    let table = both.monitor.table();
+    for (length, number) in [(1273, reply::SHORT_BUFFER), (1274, 0), (1275, 0)] {
+        let (mut proved, mut second) = (vec![LEFT; length], vec![LEFT; length]);
+        assert_eq!(circmon::begin(&table, &mut proved), number, "{length} bytes");
+        assert_eq!(both.monitor.write_image(&mut second), number, "{length} bytes");
+        assert_eq!(proved, second, "{length} bytes");
+        let kept = if number == 0 { IMAGE_BYTES } else { 0 };
+        assert!(proved[kept..].iter().all(|&byte| byte == LEFT), "{length} bytes: what is left");
+        let read = if length == 1274 { 0 } else { reply::LENGTH };
+        assert_eq!(circmon::read(&proved), read, "{length} bytes");
+        assert_eq!(Monitor::from_image(&second).err().unwrap_or(0), read, "{length} bytes");
+    }
+}
