@@ -30,7 +30,8 @@ use Rattle.model.proofs.Tests as tests
 use Rattle.model.proofs.Levels.{level-refl, level-antisym}
 use Rattle.security.specs.Distinguish.{freeBelow, readAt, toClearance, byClearance}
 use Rattle.security.proofs.Form.{no-modes}
-use Rattle.security.proofs.Secure.{none-held, simple-in, star-all-in, star-less, less-idle, star-for}
+use Rattle.security.proofs.Pairs.{none-held}
+use Rattle.security.proofs.Secure.{simple-in, star-all-in, star-free, star-for}
 use Rattle.security.specs.Sound.{Sound}
 use Rattle.security.proofs.Steps.{step-granted, sound-afterwards}
 use Rattle.security.proofs.Objects.{tells-refusal, delete-granted}
@@ -82,7 +83,7 @@ module _ (s o : ℕ) (l : Level) (s-below : s < 16) (o-below : o < 64) (fits : L
         ∙ pass _ NotLive _ (ap (λ (k : Object). k .live) object-made)
         ∙ pass _ NoRight _ (eq-eqb (object (made m) o .owner) s (ap (λ (k : Object). k .owner) object-made))
         ∙ pass _ SimpleBroken _ (simple-in (made m .subjects) _ (λ t x w u. none-held x _ (nobody-holds t) w))
-        ∙ pass _ StarBroken _ (star-all-in _ (λ t. star-less t (made m .objects) o _ (star-for (made m) (sound-made .secure .star) t) (less-idle t _ _ (nobody-holds t))))
+        ∙ pass _ StarBroken _ (star-all-in _ (λ t. star-free t (made m .objects) o _ (star-for (made m) (sound-made .secure .star) t) (nobody-holds t)))
 
     object-ready : object (ready m) o ≡ withLabel (created s false) (Present l)
     unfolding ready changed

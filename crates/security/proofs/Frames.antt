@@ -26,7 +26,7 @@ use Rattle.model.proofs.Modes.{has-add, has-remove, sameMode, same-mode, held-a
 use Rattle.security.specs.Effects.{GivesRight, TakesRight, GetsAccess, EndsAccess, ChangesLabel}
 use Rattle.security.proofs.Steps.{step-all, step-granted, respond-all}
 use Rattle.security.proofs.Form.{no-modes}
-use Rattle.security.proofs.Secure.{none-held}
+use Rattle.security.proofs.Pairs.{none-held}
 
 -- no request changes a subject
 pub subjects-kept : (q : Request) (m : Monitor) → step q m .monitor .subjects ≡ m .subjects

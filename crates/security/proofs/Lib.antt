@@ -1,5 +1,6 @@
 -- The theorems, in the order in which they stand on each other.
 pub mod Form
+pub mod Pairs
 pub mod Secure
 pub mod Steps
 pub mod Replies

@@ -2,17 +2,16 @@
 -- Assumes nothing.
 use Prim.Native.Nat.{ℕ, _<_, _≤_}
 use native.Mathlib.Omega.{arith}
-use native.Mathlib.Decide.{ℕ-discrete}
-use mathlib.Core.Path.{_≡_, refl, sym, ap, _∙_, subst}
-use mathlib.Core.Logic.{_≢_, ⊎-elim}
+use mathlib.Core.Path.{_≡_, refl, sym, ap, _∙_}
+use mathlib.Core.Logic.{⊎-elim}
 use mathlib.Core.Bool.{true, not, _&&_}
 use mathlib.Core.List.{List}
 use lib.ListN.{length, set}
-use lib.Seq.{getD-set-other}
 use Rattle.model.specs.declared.Subject.{Subject}
 use Rattle.model.specs.declared.Object.{Object}
 use Rattle.model.specs.declared.Monitor.{Monitor}
 use Rattle.model.specs.declared.Mode.{Mode}
+use Rattle.model.specs.declared.Label.{Label}
 use Rattle.model.specs.declared.Label.the-variants.{Present}
 use Rattle.model.specs.declared.Request.{Request}
 use Rattle.model.specs.declared.Request.the-variants.{Get, Release, Give, Rescind, Create, Delete, ChangeLevel}
@@ -23,10 +22,11 @@ use Rattle.model.specs.Modes.{has, remove, observes, alters, needsLabel, anyObs
 use Rattle.model.specs.State.{noObject, clearanceAt, objectAt, object, rightsOf, heldBy, withHeld, withLabel, WellFormed}
 use Rattle.model.specs.Properties.{Secure, Star}
 use Rattle.model.specs.Rules.{target, changed, afterwards, checks, created, simpleAll, starPair, starFrom, starFor, starAll}
-use Rattle.model.proofs.Tests.{set-all, set-two, row-all, apart, split, passed, and-left, and-right, and-both, or-left, or-right, implies-out, implies-in, below-out, below-in, all-out, all-in, beyond, le-or-lt}
-use Rattle.model.proofs.Modes.{has-add, has-remove, sameMode, held-add, held-remove, has-none, any-observes, any-alters, observes-some, alters-some}
+use Rattle.model.proofs.Tests.{set-all, set-two, row-all, passed, and-left, and-right, and-both, or-left, or-right, implies-out, implies-in, below-out, below-in, all-out, all-in, beyond, le-or-lt}
+use Rattle.model.proofs.Modes.{has-add, has-remove, sameMode, held-add, held-remove, any-observes, any-alters, observes-some, alters-some}
 use Rattle.model.proofs.Levels.{dominates-decides}
 use Rattle.security.proofs.Form.{no-modes}
+use Rattle.security.proofs.Pairs.{none-held, PairsFor, Fewer, pairs-idle, pairs-free, pairs-get, pairs-fewer}
 
 -- ---- the discretionary, the label and the simple property at one object
 
@@ -38,9 +38,6 @@ pub record SecureObject (l : List Subject) (ob : Object) : Type 0 where
 pub object-secure : (m : Monitor) → Secure m → (o : ℕ) → SecureObject (m .subjects) (object m o)
 object-secure m S o =
     record { discretionary = λ s x. S .discretionary s o x; labelled = λ s x. S .labelled s o x; simple = λ s x. S .simple s o x }
-
-pub none-held : {P : Type 0} (x : Mode) (n : ℕ) → n ≡ 0 → has x n ≡ true → P
-none-held x n z e = apart e (ap (has x) z ∙ has-none x)
 
 -- the test at one object decides the simple property there
 pub simple-out : (l : List Subject) (ob : Object) → length (ob .held) ≡ 16 → simpleAll l ob ≡ true
@@ -150,18 +147,30 @@ module _ (m : Monitor) (W : WellFormed m) (S : Secure m) where
         simple = simple-out (m .subjects) (withLabel (object m o) (Present v)) (W .objects-formed o .held-length) (d .0);
       }
 
--- ---- star
+-- ---- star: a property of pairs
+
+-- what the star property asks of x on p and y on q
+abbrev pub Flows : Mode → Object → Mode → Object → Type 0
+Flows x p y q = observes x ≡ true → alters y ≡ true → Dominates (q .label) (p .label)
+
+-- it asks nothing of modes that need no label, and looks at the labels alone
+flows-only : (x y : Mode) (p q : Object) → (needsLabel x ≡ true → needsLabel y ≡ true → Flows x p y q) → Flows x p y q
+flows-only x y p q h u a = h (or-left (observes x) (alters x) u) (or-right (observes y) (alters y) a) u a
+
+flows-seen : (x y : Mode) (p q r s : Object) → r .label ≡ p .label → s .label ≡ q .label → Flows x p y q → Flows x r y s
+flows-seen x y p q r s e f h u a = rw (e, f) (h u a)
+
+abbrev labelOf : Object → Label
+labelOf ob = ob .label
 
 -- the star property of one subject
 pub StarFor : ℕ → List Object → Type 0
-StarFor s l =
-    (p q : ℕ) (x y : Mode) → has x (heldBy (objectAt l p) s) ≡ true → observes x ≡ true → has y (heldBy (objectAt l q) s) ≡ true → alters y ≡ true
-    → Dominates (objectAt l q .label) (objectAt l p .label)
+StarFor s l = PairsFor Flows s l
 
 -- the test decides it
 pub star-out : (s : ℕ) (l : List Object) → starFor s l ≡ true → StarFor s l
 unfolding StarFor starFor starFrom starPair
-star-out s l e p q x y r o w a =
+star-out s l e p q x y r w o a =
     dominates-decides _ _ .0
     (implies-out _ _
     (all-out (starPair s (objectAt l p)) noObject l (implies-in _ _ (λ v. alters-some _ v (λ z g u. none-held z _ (no-modes s) g)))
@@ -173,37 +182,17 @@ unfolding StarFor starFor starFrom starPair
 star-in s l h =
     all-in (starFrom s l) noObject l
     (λ p. implies-in _ _ (λ r. all-in (starPair s (objectAt l p)) noObject l
-    (λ q. implies-in _ _ (λ w. observes-some _ r (λ x g o. alters-some _ w (λ y k a. dominates-decides _ _ .1 (h p q x y g o k a)))))))
-
--- an object on which s holds no more modes that flow than on another with the same label
-pub record Less (s : ℕ) (new old : Object) : Type 0 where
-  pub keeps : (x : Mode) → needsLabel x ≡ true → has x (heldBy new s) ≡ true → (has x (heldBy old s) ≡ true) × (new .label ≡ old .label)
-
-pub star-less : (s : ℕ) (l : List Object) (o : ℕ) (ob : Object) → StarFor s l → Less s ob (objectAt l o) → StarFor s (set l o ob)
-unfolding StarFor
-star-less s l o ob h less p q x y r u w a =
-    let go : (j : ℕ) → Less s (objectAt (set l o ob) j) (objectAt l j) =
-    set-all (λ j w. Less s w (objectAt l j)) l o ob noObject (λ j. record { keeps = λ x n e. (e, refl) }) less in
-    let f = go p .keeps x (or-left (observes x) (alters x) u) r in
-    let g = go q .keeps y (or-right (observes y) (alters y) a) w in
-    rw (f .1, g .1) (h p q x y (f .0) u (g .0) a)
+    (λ q. implies-in _ _ (λ w. observes-some _ r (λ x g o. alters-some _ w (λ y k a. dominates-decides _ _ .1 (h p q x y g k o a)))))))
 
 -- a subject that holds nothing
 pub star-idle : (s : ℕ) (l : List Object) → ((o : ℕ) → heldBy (objectAt l o) s ≡ 0) → StarFor s l
 unfolding StarFor
-star-idle s l z p q x y r u w a = none-held x _ (z p) r
+star-idle s l z = pairs-idle Flows s l z
 
-pub less-idle : (s : ℕ) (new old : Object) → heldBy new s ≡ 0 → Less s new old
-less-idle s new old z = record { keeps = λ x n e. none-held x _ z e }
-
--- the held set of s becomes n, which has no more modes that flow
-less-held : (ob : Object) (s n : ℕ) → ((x : Mode) → needsLabel x ≡ true → has x n ≡ true → has x (heldBy ob s) ≡ true) → (j : ℕ) → Less j (withHeld ob s n) ob
-less-held ob s n h j =
-    record { keeps = λ x f e. (set-all (λ j k. has x k ≡ true → has x (heldBy ob j) ≡ true) (ob .held) s n 0 (λ j e. e) (h x f) j e, refl) }
-
--- another subject than s sees no change
-less-other : (ob : Object) (s n j : ℕ) → j ≢ s → Less j (withHeld ob s n) ob
-less-other ob s n j h = record { keeps = λ x f e. (sym (ap (has x) (getD-set-other (ob .held) s j n 0 h)) ∙ e, refl) }
+-- an object on which it holds nothing, in the place of any other
+pub star-free : (s : ℕ) (l : List Object) (o : ℕ) (ob : Object) → StarFor s l → heldBy ob s ≡ 0 → StarFor s (set l o ob)
+unfolding StarFor
+star-free s l o ob = pairs-free needsLabel labelOf Flows flows-only flows-seen (λ ob s n. refl) (λ ob s n. refl) s l o ob
 
 -- beyond the sixteen subjects nobody holds anything
 pub star-all-out : (l : List Object) → ((o : ℕ) → length (objectAt l o .held) ≡ 16) → starAll l ≡ true → (s : ℕ) → StarFor s l
@@ -219,50 +208,45 @@ star-all-in l h = below-in 16 (λ (s : ℕ). starFor s l) (λ s b. star-in s l (
 -- the star property of a state is that of each subject
 pub star-for : (m : Monitor) → Star m → (s : ℕ) → StarFor s (m .objects)
 unfolding StarFor
-star-for m h s = h s
+star-for m h s p q x y r w u a = h s p q x y r u w a
 
 pub star-of : (m : Monitor) → ((s : ℕ) → StarFor s (m .objects)) → Star m
 unfolding StarFor
-star-of m h s = h s
+star-of m h s p q x y r u w a = h s p q x y r w u a
 
 -- after a get: the actor's star is tested where the mode flows, and nobody else's changes
 pub star-get : (s o : ℕ) (x : Mode) (m : Monitor) → WellFormed m → Star m → implies (needsLabel x) (starFor s (afterwards (Get s o x) m .objects)) ≡ true
     → (j : ℕ) → StarFor j (afterwards (Get s o x) m .objects)
-unfolding changed
-star-get s o x m W T e j =
-    let before = star-for m T j in
-    elim (ℕ-discrete j s) [
-      | yes q ↦ split (needsLabel x)
-          (λ w. subst (λ (i : ℕ). StarFor i (afterwards (Get s o x) m .objects)) (sym q) (star-out s _ (implies-out _ _ e w)))
-          (λ w. star-less j (m .objects) o _ before
-          (less-held (object m o) s _ (λ y f r. held-add x y _ (W .objects-formed o .held-fit s) r (λ p. apart (sym (ap needsLabel p) ∙ f) w) (λ p. p)) j))
-      | no h ↦ star-less j (m .objects) o _ before (less-other (object m o) s _ j h)
-    ]
+unfolding StarFor
+star-get s o x m W T e =
+    pairs-get needsLabel labelOf Flows flows-only flows-seen (λ ob s n. refl) (λ ob s n. refl) s o x m W (star-for m T)
+    (λ w. star-out s _ (implies-out _ _ e w))
+
+-- a kind by which nobody gains an access and no label changes
+star-fewer : (q : Request) (m : Monitor) → WellFormed m → Star m → Fewer q → (j : ℕ) → StarFor j (afterwards q m .objects)
+unfolding StarFor
+star-fewer q m W T f = pairs-fewer needsLabel labelOf Flows flows-only flows-seen (λ ob s n. refl) (λ ob s n. refl) q m W (star-for m T) f
 
 pub changed-star : (q : Request) (m : Monitor) → WellFormed m → Secure m → ((o : ℕ) → length (objectAt (afterwards q m .objects) o .held) ≡ 16)
     → checks q m ≡ Granted → (j : ℕ) → StarFor j (afterwards q m .objects)
-unfolding checks changed
-changed-star (Get s o x) m W S n e j =
+unfolding checks StarFor
+changed-star (Get s o x) m W S n e =
     let a = passed _ NotEnrolled _ refl e in
     let b = passed _ NotLive _ refl (a .1) in
     let c = passed _ NoRight _ refl (b .1) in
     let d = passed _ NoLabel _ refl (c .1) in
     let g = passed _ SimpleBroken _ refl (d .1) in
     let k = passed _ StarBroken _ refl (g .1) in
-    star-get s o x m W (S .star) (k .0) j
-changed-star (Release s o x) m W S n e j =
-    star-less j (m .objects) o _ (star-for m (S .star) j)
-    (less-held (object m o) s _ (λ y f r. held-remove x y _ (W .objects-formed o .held-fit s) r) j)
-changed-star (Give s t o x) m W S n e j = star-less j (m .objects) o _ (star-for m (S .star) j) (record { keeps = λ y f r. (r, refl) })
-changed-star (Rescind s t o x) m W S n e j =
-    star-less j (m .objects) o _ (star-for m (S .star) j)
-    (record { keeps = less-held (object m o) t _ (λ y f r. held-remove x y _ (W .objects-formed o .held-fit t) r) j .keeps })
-changed-star (Create s o w) m W S n e j = star-less j (m .objects) o _ (star-for m (S .star) j) (less-idle j _ _ (no-modes j))
-changed-star (Delete s o) m W S n e j = star-less j (m .objects) o _ (star-for m (S .star) j) (less-idle j _ _ (no-modes j))
-changed-star (ChangeLevel s o v) m W S n e j =
+    star-get s o x m W (S .star) (k .0)
+changed-star (Release s o x) m W S n e = star-fewer (Release s o x) m W (S .star) tt
+changed-star (Give s t o x) m W S n e = star-fewer (Give s t o x) m W (S .star) tt
+changed-star (Rescind s t o x) m W S n e = star-fewer (Rescind s t o x) m W (S .star) tt
+changed-star (Create s o w) m W S n e = star-fewer (Create s o w) m W (S .star) tt
+changed-star (Delete s o) m W S n e = star-fewer (Delete s o) m W (S .star) tt
+changed-star (ChangeLevel s o v) m W S n e =
     let a = passed _ NotEnrolled _ refl e in
     let b = passed _ NotLive _ refl (a .1) in
     let c = passed _ NoRight _ refl (b .1) in
     let d = passed _ SimpleBroken _ refl (c .1) in
     let g = passed _ StarBroken _ refl (d .1) in
-    star-all-out _ n (g .0) j
+    star-all-out _ n (g .0)

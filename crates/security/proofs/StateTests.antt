@@ -23,7 +23,8 @@ use Rattle.model.proofs.Tests.{split, apart, and-left, and-right, and-both, and
 use Rattle.model.proofs.Modes.{subset-in, subset-out, any-needs-label, needs-label-some}
 use Rattle.security.specs.Causes.{AbsentActs}
 use Rattle.security.proofs.Form.{no-modes, no-object-formed}
-use Rattle.security.proofs.Secure.{none-held, simple-in, simple-out, star-all-in, star-all-out, star-for, star-of}
+use Rattle.security.proofs.Pairs.{none-held}
+use Rattle.security.proofs.Secure.{simple-in, simple-out, star-all-in, star-all-out, star-for, star-of}
 use Rattle.security.proofs.Shapes.{ObjectShape, Shape}
 
 -- ---- only enrolled subjects own, have rights or hold
