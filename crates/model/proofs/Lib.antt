@@ -8,6 +8,7 @@ pub mod Requests
 pub mod Lists
 pub mod Records
 pub mod Equal
+pub mod After
 pub mod Examples
 pub mod RuleExamples
 pub mod ByteExamples

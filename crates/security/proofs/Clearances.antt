@@ -22,12 +22,13 @@ use Rattle.model.specs.declared.Response.{Response}
 use Rattle.model.specs.Tests.{implies, unless}
 use Rattle.model.specs.Levels.{dominates, levelDominates, present}
 use Rattle.model.specs.Modes.{has}
-use Rattle.model.specs.State.{noModes, noObject, clearance, enrolled, object, rightsOf, heldBy, withLabel, LevelFits, LabelFits}
+use Rattle.model.specs.State.{noModes, clearance, enrolled, object, rightsOf, heldBy, withLabel, LevelFits, LabelFits}
 use Rattle.model.specs.Requests.{InRange}
 use Rattle.model.specs.Rules.{changed, afterwards, checks, created, starFor, step}
 use Rattle.model.proofs.Tests.{pass, stop, not-stop, distinct, cond-all}
 use Rattle.model.proofs.Tests as tests
 use Rattle.model.proofs.Levels.{level-refl, level-antisym}
+use Rattle.model.proofs.After.{object-there}
 use Rattle.security.specs.Distinguish.{freeBelow, readAt, toClearance, byClearance}
 use Rattle.security.proofs.Form.{no-modes}
 use Rattle.security.proofs.Pairs.{none-held}
@@ -67,7 +68,7 @@ module _ (s o : ℕ) (l : Level) (s-below : s < 16) (o-below : o < 64) (fits : L
 
     object-made : object (made m) o ≡ created s false
     unfolding made changed
-    object-made = getD-set-same (m .objects) o (created s false) noObject (omega (arith, o-below, S .formed .objects-length))
+    object-made = object-there (Create s o false) m (S .formed) o-below
 
     nobody-holds : (t : ℕ) → heldBy (object (made m) o) t ≡ 0
     nobody-holds t = ap (λ (k : Object). heldBy k t) object-made ∙ no-modes t
@@ -88,7 +89,7 @@ module _ (s o : ℕ) (l : Level) (s-below : s < 16) (o-below : o < 64) (fits : L
     object-ready : object (ready m) o ≡ withLabel (created s false) (Present l)
     unfolding ready changed
     object-ready =
-        getD-set-same (made m .objects) o _ noObject (omega (arith, o-below, sound-made .formed .objects-length))
+        object-there (ChangeLevel s o l) (made m) (sound-made .formed) o-below
         ∙ ap (λ (k : Object). withLabel k (Present l)) object-made
 
     clearance-ready : clearance (ready m) s ≡ clearance m s
@@ -124,7 +125,7 @@ module _ (s o : ℕ) (l : Level) (s-below : s < 16) (o-below : o < 64) (fits : L
 
 gone : (m : Monitor) → Sound m → (o : ℕ) → o < 64 → (w : ℕ) → object (afterwards (Delete w o) m) o .live ≡ false
 unfolding changed
-gone m S o h w = ap (λ (k : Object). k .live) (getD-set-same (m .objects) o noObject noObject (omega (arith, h, S .formed .objects-length)))
+gone m S o h w = ap (λ (k : Object). k .live) (object-there (Delete w o) m (S .formed) h)
 
 -- the owner that both have
 module _ (s o : ℕ) (l : Level) (s-below : s < 16) (o-below : o < 64) (fits : LevelFits l) where

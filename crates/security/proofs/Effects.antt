@@ -1,11 +1,9 @@
 -- A granted request has the effect that the scope's table states, in every reached state.
 -- Assumes nothing.
 use Prim.Native.Nat.{ℕ, _<_}
-use native.Mathlib.Omega.{arith}
 use mathlib.Core.Path.{_≡_, refl, sym, ap, _∙_, subst}
 use mathlib.Core.Bool.{Bool, true, false, cond}
 use mathlib.Core.List.{List}
-use lib.ListN.{getD, set}
 use lib.Seq.{getD-set-same, getD-set-other}
 use Rattle.model.specs.declared.Object.{Object}
 use Rattle.model.specs.declared.Monitor.{Monitor}
@@ -16,7 +14,7 @@ use Rattle.model.specs.declared.Decoded.the-variants.{Says}
 use Rattle.model.specs.declared.Decision.the-variants.{Granted}
 use Rattle.model.specs.declared.Response.{Response}
 use Rattle.model.specs.Modes.{has}
-use Rattle.model.specs.State.{noModes, noObject, object, rightsOf, heldBy, WellFormed}
+use Rattle.model.specs.State.{noModes, object, rightsOf, heldBy, WellFormed}
 use Rattle.model.specs.Decisions.{number}
 use Rattle.model.specs.Requests.{decode, InRange}
 use Rattle.model.specs.Rules.{target, changed, checks, step}
@@ -25,6 +23,7 @@ use Rattle.model.specs.Beginnings.{Reached}
 use Rattle.model.proofs.Tests.{apart}
 use Rattle.model.proofs.Modes.{add-has, remove-has}
 use Rattle.model.proofs.Requests.{decode-range}
+use Rattle.model.proofs.After.{object-there, rights-stored, held-stored}
 use Rattle.security.specs.Effects.{Effect}
 use Rattle.security.proofs.Form.{no-modes}
 use Rattle.security.proofs.Steps.{step-granted}
@@ -32,24 +31,17 @@ use Rattle.security.proofs.Replies.{target-below, reply-granted}
 use Rattle.security.proofs.Reached.{sound-reached, respond-says}
 
 module _ (m : Monitor) (W : WellFormed m) where
-  -- a set in a row of an object, after a store there
-  held-there : (o s n : ℕ) → s < 16 → getD (set (object m o .held) s n) s 0 ≡ n
-  held-there o s n h = getD-set-same (object m o .held) s n 0 (omega (arith, h, W .objects-formed o .held-length))
-
-  rights-there : (o s n : ℕ) → s < 16 → getD (set (object m o .rights) s n) s 0 ≡ n
-  rights-there o s n h = getD-set-same (object m o .rights) s n 0 (omega (arith, h, W .objects-formed o .rights-length))
-
   effect-of : (q : Request) → InRange q → (n : Monitor) → object n (target q) ≡ changed q (object m (target q)) → Effect q n
   unfolding changed has
   effect-of (Get s o x) r n e =
-      ap (λ (k : Object). has x (heldBy k s)) e ∙ ap (has x) (held-there o s _ (r .0)) ∙ add-has x _ (W .objects-formed o .held-fit s)
+      ap (λ (k : Object). has x (heldBy k s)) e ∙ ap (has x) (held-stored (object m o) (W .objects-formed o) s _ (r .0)) ∙ add-has x _ (W .objects-formed o .held-fit s)
   effect-of (Release s o x) r n e =
-      λ w. apart w (ap (λ (k : Object). has x (heldBy k s)) e ∙ ap (has x) (held-there o s _ (r .0)) ∙ remove-has x _ (W .objects-formed o .held-fit s))
+      λ w. apart w (ap (λ (k : Object). has x (heldBy k s)) e ∙ ap (has x) (held-stored (object m o) (W .objects-formed o) s _ (r .0)) ∙ remove-has x _ (W .objects-formed o .held-fit s))
   effect-of (Give s t o x) r n e =
-      ap (λ (k : Object). has x (rightsOf k t)) e ∙ ap (has x) (rights-there o t _ (r .1)) ∙ add-has x _ (W .objects-formed o .rights-fit t)
+      ap (λ (k : Object). has x (rightsOf k t)) e ∙ ap (has x) (rights-stored (object m o) (W .objects-formed o) t _ (r .1)) ∙ add-has x _ (W .objects-formed o .rights-fit t)
   effect-of (Rescind s t o x) r n e = (
-    λ w. apart w (ap (λ (k : Object). has x (rightsOf k t)) e ∙ ap (has x) (rights-there o t _ (r .1)) ∙ remove-has x _ (W .objects-formed o .rights-fit t)),
-    λ w. apart w (ap (λ (k : Object). has x (heldBy k t)) e ∙ ap (has x) (held-there o t _ (r .1)) ∙ remove-has x _ (W .objects-formed o .held-fit t)),
+    λ w. apart w (ap (λ (k : Object). has x (rightsOf k t)) e ∙ ap (has x) (rights-stored (object m o) (W .objects-formed o) t _ (r .1)) ∙ remove-has x _ (W .objects-formed o .rights-fit t)),
+    λ w. apart w (ap (λ (k : Object). has x (heldBy k t)) e ∙ ap (has x) (held-stored (object m o) (W .objects-formed o) t _ (r .1)) ∙ remove-has x _ (W .objects-formed o .held-fit t)),
   )
   effect-of (Create s o v) r n e =
       let mine : rightsOf (object n o) s ≡ cond v 15 14 = ap (λ (k : Object). rightsOf k s) e ∙ getD-set-same noModes s (cond v 15 14) 0 (r .0) in
@@ -79,7 +71,7 @@ module _ (m : Monitor) (W : WellFormed m) where
   granted-effect q r g =
       effect-of q r (step q m .monitor)
       (ap (λ (k : Response). object (k .monitor) (target q)) (step-granted q m g)
-      ∙ getD-set-same (m .objects) (target q) _ noObject (omega (arith, target-below q r, W .objects-length)))
+      ∙ object-there q m W (target-below q r))
 
 -- reply 0 or 1 to any bytes that say a request, on any reached monitor: the state left has its effect
 pub reply-effect : (m : Monitor) → Reached m → (g : List ℕ) (q : Request) → decode g ≡ Says q → reply g m < 2 → Effect q (respond g m .monitor)

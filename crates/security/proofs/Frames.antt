@@ -1,13 +1,11 @@
 -- Frame laws: what one request leaves as it was, and what alone changes it.
 -- Assumes nothing.
 use Prim.Native.Nat.{ℕ, _<_}
-use native.Mathlib.Omega.{arith}
 use mathlib.Core.Path.{_≡_, refl, sym, ap, _∙_, subst}
 use mathlib.Core.Logic.{_≢_, _⊎_, inl, inr}
 use mathlib.Core.Bool.{Bool, true, false, not}
 use mathlib.Core.List.{List, [], _∷_}
 use lib.ListN.{getD, set}
-use lib.Seq.{getD-set-same}
 use Rattle.model.specs.declared.Object.{Object}
 use Rattle.model.specs.declared.Monitor.{Monitor}
 use Rattle.model.specs.declared.Mode.{Mode}
@@ -17,12 +15,13 @@ use Rattle.model.specs.declared.Decoded.the-variants.{Says}
 use Rattle.model.specs.declared.Decision.the-variants.{Granted, NotEnrolled, AlreadyLive}
 use Rattle.model.specs.declared.Response.{Response}
 use Rattle.model.specs.Modes.{has, add, remove}
-use Rattle.model.specs.State.{noObject, object, rightsOf, heldBy, WellFormed}
+use Rattle.model.specs.State.{object, rightsOf, heldBy, WellFormed}
 use Rattle.model.specs.Requests.{decode}
 use Rattle.model.specs.Rules.{target, changed, checks, created, step}
 use Rattle.model.specs.Runs.{respond, after}
 use Rattle.model.proofs.Tests.{set-all, split, apart, clash, passed, not-on, and-both, or-right}
 use Rattle.model.proofs.Modes.{has-add, has-remove, sameMode, same-mode, held-add, held-remove}
+use Rattle.model.proofs.After.{object-there, objects-after}
 use Rattle.security.specs.Effects.{GivesRight, TakesRight, GetsAccess, EndsAccess, ChangesLabel}
 use Rattle.security.proofs.Steps.{step-all, step-granted, respond-all}
 use Rattle.security.proofs.Form.{no-modes}
@@ -45,7 +44,7 @@ frame : (P : Object → Type 0) (q : Request) (m : Monitor) (o : ℕ) → P (obj
     → (checks q m ≡ Granted → target q ≡ o → P (changed q (object m (target q)))) → P (object (step q m .monitor) o)
 frame P q m o p f =
     step-all (λ n. P (object n o)) q m p
-    (λ g. set-all (λ j ob. j ≡ o → P ob) (m .objects) (target q) _ noObject (λ j e. subst (λ (k : ℕ). P (object m k)) (sym e) p) (f g) o refl)
+    (λ g. objects-after (λ j ob. j ≡ o → P ob) q m (λ j e. subst (λ (k : ℕ). P (object m k)) (sym e) p) (f g) o refl)
 
 -- no record but that of the request's object changes
 pub others-kept : (q : Request) (m : Monitor) (o : ℕ) → o ≢ target q → object (step q m .monitor) o ≡ object m o
@@ -212,7 +211,7 @@ pub create-fresh : (s o : ℕ) (w : Bool) (m : Monitor) → WellFormed m → o <
     → object (step (Create s o w) m .monitor) o ≡ created s w
 unfolding changed
 create-fresh s o w m W h g =
-    ap (λ (r : Response). object (r .monitor) o) (step-granted (Create s o w) m g) ∙ getD-set-same (m .objects) o _ noObject (omega (arith, W .objects-length, h))
+    ap (λ (r : Response). object (r .monitor) o) (step-granted (Create s o w) m g) ∙ object-there (Create s o w) m W h
 
 -- ---- the life of an object
 

@@ -7,7 +7,6 @@ use mathlib.Core.Logic.{_↔_}
 use mathlib.Core.Bool.{true}
 use mathlib.Core.List.{List, [], _∷_}
 use lib.ListN.{length}
-use lib.Seq.{getD-set-same}
 use Rattle.model.specs.declared.Object.{Object}
 use Rattle.model.specs.declared.Monitor.{Monitor}
 use Rattle.model.specs.declared.Mode.{Mode}
@@ -23,6 +22,7 @@ use Rattle.model.specs.Rules.{changed, checks, step}
 use Rattle.model.proofs.Tests.{set-all, pass, implies-in, implies-out, clash}
 use Rattle.model.proofs.Modes.{add-has, held-add}
 use Rattle.model.proofs.Levels.{dominates-decides}
+use Rattle.model.proofs.After.{object-there, held-stored}
 use Rattle.security.specs.Access.{withAccess}
 use Rattle.security.proofs.Form.{enrolled-below}
 use Rattle.security.proofs.Secure.{star-in, star-for}
@@ -39,12 +39,13 @@ live-below (x ∷ xs) (suc o) e = let h : o < length xs = live-below xs o e in o
 module _ (m : Monitor) (S : Sound m) (s o : ℕ) (x : Mode) (s-below : s < 16) (o-below : o < 64) where
   -- the object in the state with the access added
   there-now : object (withAccess m s o x) o ≡ withHeld (object m o) s (add x (heldBy (object m o) s))
-  there-now = getD-set-same (m .objects) o _ noObject (omega (arith, o-below, S .formed .objects-length))
+  unfolding changed
+  there-now = object-there (Get s o x) m (S .formed) o-below
 
   holds-now : Holds (withAccess m s o x) s o x
   holds-now =
       ap (λ (b : Object). has x (heldBy b s)) there-now
-      ∙ ap (has x) (getD-set-same (object m o .held) s _ 0 (omega (arith, s-below, S .formed .objects-formed o .held-length)))
+      ∙ ap (has x) (held-stored (object m o) (S .formed .objects-formed o) s _ s-below)
       ∙ add-has x _ (S .formed .objects-formed o .held-fit s)
 
   -- the simple property of that state, tested at the actor and the object

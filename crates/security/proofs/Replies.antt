@@ -6,7 +6,6 @@ use mathlib.Core.Path.{_≡_, refl, sym, ap, _∙_, subst}
 use mathlib.Core.Logic.{_↔_, _≢_}
 use mathlib.Core.Bool.{Bool, true, false, not, cond}
 use borrow.Author.Tests.{leb-true}
-use lib.Seq.{getD-set-same}
 use Rattle.model.specs.declared.Object.{Object}
 use Rattle.model.specs.declared.Monitor.{Monitor}
 use Rattle.model.specs.declared.Label.the-variants.{Present}
@@ -15,7 +14,7 @@ use Rattle.model.specs.declared.Request.the-variants.{Get, Release, Give, Resci
 use Rattle.model.specs.declared.Decision.the-variants.{Granted, Already, NotEnrolled, NotLive, AlreadyLive}
 use Rattle.model.specs.declared.Response.{Response}
 use Rattle.model.specs.Modes.{has, remove}
-use Rattle.model.specs.State.{noObject, object, heldBy, rightsOf, withHeld, withRights, WellFormed}
+use Rattle.model.specs.State.{object, heldBy, rightsOf, withHeld, withRights, WellFormed}
 use Rattle.model.specs.Decisions.{number}
 use Rattle.model.specs.Requests.{InRange}
 use Rattle.model.specs.Rules.{target, changed, already, afterwards, checks, step}
@@ -23,6 +22,7 @@ use Rattle.model.proofs.Tests.{passed, split, apart, clash, and-left, and-right
 use Rattle.model.proofs.Modes.{add-same, remove-same, add-has, remove-has}
 use Rattle.model.proofs.Levels.{same-label, label-same}
 use Rattle.model.proofs.Equal.{with-held-same, with-rights-same, with-label-same, with-object-same}
+use Rattle.model.proofs.After.{object-there, rights-stored, held-stored}
 use Rattle.security.proofs.Steps.{granted-or-refused, step-granted, step-refused}
 
 -- ---- the state was so already
@@ -50,11 +50,11 @@ module _ (m : Monitor) (W : WellFormed m) where
   -- what a row has at s after a store there, where the store made no difference
   held-now : (o s n : ℕ) → s < 16 → withHeld (object m o) s n ≡ object m o → n ≡ heldBy (object m o) s
   held-now o s n h w =
-      sym (getD-set-same (object m o .held) s n 0 (omega (arith, W .objects-formed o .held-length, h))) ∙ ap (λ (b : Object). heldBy b s) w
+      sym (held-stored (object m o) (W .objects-formed o) s n h) ∙ ap (λ (b : Object). heldBy b s) w
 
   rights-now : (o s n : ℕ) → s < 16 → withRights (object m o) s n ≡ object m o → n ≡ rightsOf (object m o) s
   rights-now o s n h w =
-      sym (getD-set-same (object m o .rights) s n 0 (omega (arith, W .objects-formed o .rights-length, h))) ∙ ap (λ (b : Object). rightsOf b s) w
+      sym (rights-stored (object m o) (W .objects-formed o) s n h) ∙ ap (λ (b : Object). rightsOf b s) w
 
   record-differs : (q : Request) → InRange q → checks q m ≡ Granted → already q (object m (target q)) ≡ false
       → changed q (object m (target q)) ≡ object m (target q) → ⊥
@@ -68,9 +68,9 @@ module _ (m : Monitor) (W : WellFormed m) where
   record-differs (Rescind s t o x) r g e w =
       let F = W .objects-formed o in
       let rights : remove x (rightsOf (object m o) t) ≡ rightsOf (object m o) t =
-      sym (getD-set-same (object m o .rights) t _ 0 (omega (arith, F .rights-length, r .1))) ∙ ap (λ (b : Object). rightsOf b t) w in
+      sym (rights-stored (object m o) F t _ (r .1)) ∙ ap (λ (b : Object). rightsOf b t) w in
       let held : remove x (heldBy (object m o) t) ≡ heldBy (object m o) t =
-      sym (getD-set-same (object m o .held) t _ 0 (omega (arith, F .held-length, r .1))) ∙ ap (λ (b : Object). heldBy b t) w in
+      sym (held-stored (object m o) F t _ (r .1)) ∙ ap (λ (b : Object). heldBy b t) w in
       apart
       (and-both (ap not (sym (ap (has x) rights) ∙ remove-has x _ (F .rights-fit t))) (ap not (sym (ap (has x) held) ∙ remove-has x _ (F .held-fit t))))
       e
@@ -96,7 +96,7 @@ target-below (ChangeLevel s o l) r = r .1
 pub state-differs : (q : Request) (m : Monitor) → WellFormed m → InRange q → checks q m ≡ Granted → already q (object m (target q)) ≡ false → afterwards q m ≢ m
 state-differs q m W r g e w =
     record-differs m W q r g e
-    (sym (getD-set-same (m .objects) (target q) (changed q (object m (target q))) noObject (omega (arith, W .objects-length, target-below q r)))
+    (sym (object-there q m W (target-below q r))
     ∙ ap (λ (n : Monitor). object n (target q)) w)
 
 -- ---- the replies

@@ -1,12 +1,10 @@
 -- The checks of a request answer the first of its causes, in the scope's order; 2 is exactly its first row.
 -- Assumes nothing.
 use Prim.Native.Nat.{ℕ, _<_}
-use native.Mathlib.Omega.{arith}
 use mathlib.Core.Path.{_≡_, refl, ap, subst}
 use mathlib.Core.Logic.{_⊎_, inl, inr, ⊎-elim, _≢_}
 use mathlib.Core.Bool.{Bool, true, false, _&&_}
 use lib.ListN.{length}
-use lib.Seq.{getD-set-same}
 use borrow.Author.Tests.{eq-eqb, eqb-true}
 use Rattle.model.specs.declared.Level.{Level}
 use Rattle.model.specs.declared.Label.{Label}
@@ -21,12 +19,13 @@ use Rattle.model.specs.declared.Decision.the-variants.{NotEnrolled, NotLive, Al
 use Rattle.model.specs.Tests.{implies}
 use Rattle.model.specs.Levels.{present, dominates, Dominates}
 use Rattle.model.specs.Modes.{has, observes, needsLabel}
-use Rattle.model.specs.State.{noObject, clearance, enrolled, object, rightsOf, heldBy, withLabel}
+use Rattle.model.specs.State.{clearance, enrolled, object, rightsOf, heldBy, withLabel}
 use Rattle.model.specs.Properties.{Simple, Star, Permits}
 use Rattle.model.specs.Requests.{InRange}
 use Rattle.model.specs.Rules.{changed, afterwards, checks, owns, simpleAll, starAll}
 use Rattle.model.proofs.Levels.{absent}
-use Rattle.model.proofs.Tests.{set-all, apart, and-left, and-right, and-false, implies-out, implies-in, implies-false, not-on, not-off}
+use Rattle.model.proofs.Tests.{apart, and-left, and-right, and-false, implies-out, implies-in, implies-false, not-on, not-off}
+use Rattle.model.proofs.After.{object-there, objects-after}
 use Rattle.security.specs.First.{AnswersFirst}
 use Rattle.security.specs.Causes.{NotIn, requestCauses}
 use Rattle.security.proofs.First.{answers-end, answers-check}
@@ -90,12 +89,12 @@ module _ (m : Monitor) (S : Sound m) where
   module _ (s o : ℕ) (l : Level) (o-below : o < 64) where
     labelled-now : object (afterwards (ChangeLevel s o l) m) o ≡ withLabel (object m o) (Present l)
     unfolding changed
-    labelled-now = getD-set-same (m .objects) o _ noObject (omega (arith, o-below, S .formed .objects-length))
+    labelled-now = object-there (ChangeLevel s o l) m (S .formed) o-below
 
     simple-change-in : simpleAll (m .subjects) (changed (ChangeLevel s o l) (object m o)) ≡ true → Simple (afterwards (ChangeLevel s o l) m)
     unfolding changed
     simple-change-in e t p y =
-        set-all (λ j ob. has y (heldBy ob t) ≡ true → observes y ≡ true → Dominates (clearance m t) (ob .label)) (m .objects) o _ noObject
+        objects-after (λ j ob. has y (heldBy ob t) ≡ true → observes y ≡ true → Dominates (clearance m t) (ob .label)) (ChangeLevel s o l) m
         (λ j. S .secure .simple t j y)
         (simple-out (m .subjects) (withLabel (object m o) (Present l)) (S .formed .objects-formed o .held-length) e t y) p
 
@@ -109,7 +108,7 @@ module _ (m : Monitor) (S : Sound m) where
     unfolding changed
     star-change-in e =
         star-of (afterwards (ChangeLevel s o l) m)
-        (star-all-out _ (set-all (λ j ob. length (ob .held) ≡ 16) (m .objects) o _ noObject (λ j. S .formed .objects-formed j .held-length) (S .formed .objects-formed o .held-length)) e)
+        (star-all-out _ (objects-after (λ j ob. length (ob .held) ≡ 16) (ChangeLevel s o l) m (λ j. S .formed .objects-formed j .held-length) (S .formed .objects-formed o .held-length)) e)
 
   -- a get: simple at the actor and the object
   simple-after-get : (s o : ℕ) (x : Mode) → InRange (Get s o x) → implies (observes x) (dominates (clearance m s) (object m o .label)) ≡ true

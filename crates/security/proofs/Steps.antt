@@ -23,8 +23,9 @@ use Rattle.model.specs.Decisions.{refuses}
 use Rattle.model.specs.Requests.{decode, InRange}
 use Rattle.model.specs.Rules.{target, already, afterwards, checks, answer, step}
 use Rattle.model.specs.Runs.{carryOut, respond, after}
-use Rattle.model.proofs.Tests.{set-all, replicate-at, cond-true, cond-false}
+use Rattle.model.proofs.Tests.{replicate-at, cond-true, cond-false}
 use Rattle.model.proofs.Requests.{decode-range}
+use Rattle.model.proofs.After.{objects-after}
 use Rattle.security.specs.Sound.{Sound}
 use Rattle.security.specs.Tables.{TableFits}
 use Rattle.security.proofs.Form.{no-modes, no-object-formed, changed-formed}
@@ -92,7 +93,7 @@ pub sound-afterwards : (q : Request) (m : Monitor) → InRange q → Sound m →
 sound-afterwards q m r S e =
     let W = S .formed in
     let F : (o : ℕ) → WellFormedObject (m .subjects) (objectAt (afterwards q m .objects) o) =
-    set-all (λ j ob. WellFormedObject (m .subjects) ob) (m .objects) (target q) _ noObject (W .objects-formed) (changed-formed m q r W e) in
+    objects-after (λ j ob. WellFormedObject (m .subjects) ob) q m (W .objects-formed) (changed-formed m q r W e) in
     record {
       formed = record {
         subjects-length = W .subjects-length;
@@ -101,7 +102,7 @@ sound-afterwards q m r S e =
         objects-formed = F;
       };
       secure = secure-of (afterwards q m)
-          (set-all (λ j ob. SecureObject (m .subjects) ob) (m .objects) (target q) _ noObject (object-secure m (S .secure)) (changed-secure m W (S .secure) q e))
+          (objects-after (λ j ob. SecureObject (m .subjects) ob) q m (object-secure m (S .secure)) (changed-secure m W (S .secure) q e))
           (changed-star q m W (S .secure) (λ o. F o .held-length) e);
     }
 
