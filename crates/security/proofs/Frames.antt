@@ -95,10 +95,10 @@ row-remove-keeps row u y x fits t =
     (λ w. split (sameMode x y) (λ p. inr (refl, sym (same-mode x y p)))
     (λ p. inl (has-remove x y _ (fits u) ∙ and-both (ap not p) w))) t
 
--- the same at an object: the third part says that it is this one
-at-object : {A B C : Type 0} (o : ℕ) → A ⊎ (B × C) → A ⊎ (B × (o ≡ o) × C)
-at-object o (inl a) = inl a
-at-object o (inr p) = inr (p .0, refl, p .1)
+-- the second of two cases, said otherwise
+or-else : {A B C : Type 0} → (B → C) → A ⊎ B → A ⊎ C
+or-else f (inl a) = inl a
+or-else f (inr b) = inr (f b)
 
 changed-rights : (q : Request) (m : Monitor) → WellFormed m → object m (target q) .live ≡ true → checks q m ≡ Granted
     → (t : ℕ) (x : Mode) → has x (rightsOf (changed q (object m (target q))) t) ≡ true
@@ -106,7 +106,7 @@ changed-rights : (q : Request) (m : Monitor) → WellFormed m → object m (targ
 unfolding changed
 changed-rights (Get s o y) m W live g t x e = inl e
 changed-rights (Release s o y) m W live g t x e = inl e
-changed-rights (Give s u o y) m W live g t x e = at-object o (row-add (object m o .rights) u y x (W .objects-formed o .rights-fit) t e)
+changed-rights (Give s u o y) m W live g t x e = or-else (λ p. (s, λ i. Give s (p .0 i) o (p .1 i))) (row-add (object m o .rights) u y x (W .objects-formed o .rights-fit) t e)
 changed-rights (Rescind s u o y) m W live g t x e = inl (row-remove (object m o .rights) u y x (W .objects-formed o .rights-fit) t e)
 changed-rights (Create s o w) m W live g t x e = apart live (create-finds s o w m g)
 changed-rights (Delete s o) m W live g t x e = none-held x _ (no-modes t) e
@@ -116,7 +116,7 @@ changed-access : (q : Request) (m : Monitor) → WellFormed m → object m (targ
     → (t : ℕ) (x : Mode) → has x (heldBy (changed q (object m (target q))) t) ≡ true
     → (has x (heldBy (object m (target q)) t) ≡ true) ⊎ GetsAccess q t (target q) x
 unfolding changed
-changed-access (Get s o y) m W live g t x e = at-object o (row-add (object m o .held) s y x (W .objects-formed o .held-fit) t e)
+changed-access (Get s o y) m W live g t x e = or-else (λ p. λ i. Get (p .0 i) o (p .1 i)) (row-add (object m o .held) s y x (W .objects-formed o .held-fit) t e)
 changed-access (Release s o y) m W live g t x e = inl (row-remove (object m o .held) s y x (W .objects-formed o .held-fit) t e)
 changed-access (Give s u o y) m W live g t x e = inl e
 changed-access (Rescind s u o y) m W live g t x e = inl (row-remove (object m o .held) u y x (W .objects-formed o .held-fit) t e)
@@ -131,7 +131,7 @@ unfolding changed
 kept-right (Get s o y) m W live g stays t x e = inl e
 kept-right (Release s o y) m W live g stays t x e = inl e
 kept-right (Give s u o y) m W live g stays t x e = inl (row-add-keeps (object m o .rights) u y x (W .objects-formed o .rights-fit) t e)
-kept-right (Rescind s u o y) m W live g stays t x e = at-object o (row-remove-keeps (object m o .rights) u y x (W .objects-formed o .rights-fit) t e)
+kept-right (Rescind s u o y) m W live g stays t x e = or-else (λ p. (s, λ i. Rescind s (p .0 i) o (p .1 i))) (row-remove-keeps (object m o .rights) u y x (W .objects-formed o .rights-fit) t e)
 kept-right (Create s o w) m W live g stays t x e = apart live (create-finds s o w m g)
 kept-right (Delete s o) m W live g stays t x e = clash (sym stays)
 kept-right (ChangeLevel s o l) m W live g stays t x e = inl e
@@ -141,9 +141,9 @@ kept-access : (q : Request) (m : Monitor) → WellFormed m → object m (target 
     → (has x (heldBy (changed q (object m (target q))) t) ≡ true) ⊎ EndsAccess q t (target q) x
 unfolding changed
 kept-access (Get s o y) m W live g stays t x e = inl (row-add-keeps (object m o .held) s y x (W .objects-formed o .held-fit) t e)
-kept-access (Release s o y) m W live g stays t x e = at-object o (row-remove-keeps (object m o .held) s y x (W .objects-formed o .held-fit) t e)
+kept-access (Release s o y) m W live g stays t x e = or-else (λ p. inl (λ i. Release (p .0 i) o (p .1 i))) (row-remove-keeps (object m o .held) s y x (W .objects-formed o .held-fit) t e)
 kept-access (Give s u o y) m W live g stays t x e = inl e
-kept-access (Rescind s u o y) m W live g stays t x e = at-object o (row-remove-keeps (object m o .held) u y x (W .objects-formed o .held-fit) t e)
+kept-access (Rescind s u o y) m W live g stays t x e = or-else (λ p. inr (s, λ i. Rescind s (p .0 i) o (p .1 i))) (row-remove-keeps (object m o .held) u y x (W .objects-formed o .held-fit) t e)
 kept-access (Create s o w) m W live g stays t x e = apart live (create-finds s o w m g)
 kept-access (Delete s o) m W live g stays t x e = clash (sym stays)
 kept-access (ChangeLevel s o l) m W live g stays t x e = inl e
@@ -157,7 +157,7 @@ changed-label (Give s t o x) m live g e = inl refl
 changed-label (Rescind s t o x) m live g e = inl refl
 changed-label (Create s o w) m live g e = apart live (create-finds s o w m g)
 changed-label (Delete s o) m live g e = clash (sym e)
-changed-label (ChangeLevel s o l) m live g e = inr (refl, refl)
+changed-label (ChangeLevel s o l) m live g e = inr (s, l, refl, refl)
 
 module _ (q : Request) (m : Monitor) (W : WellFormed m) (o : ℕ) (live : object m o .live ≡ true) (stays : object (step q m .monitor) o .live ≡ true) where
   at-target : target q ≡ o → object m (target q) .live ≡ true

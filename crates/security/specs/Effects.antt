@@ -2,8 +2,9 @@
 -- Assumes nothing.
 use Prim.Native.Nat.{ℕ}
 use mathlib.Core.Path.{_≡_}
-use mathlib.Core.Logic.{_≢_}
+use mathlib.Core.Logic.{_≢_, _⊎_}
 use mathlib.Core.Bool.{Bool, true}
+use Rattle.model.specs.declared.Level.{Level}
 use Rattle.model.specs.declared.Label.{Label}
 use Rattle.model.specs.declared.Label.the-variants.{Absent, Present}
 use Rattle.model.specs.declared.Monitor.{Monitor}
@@ -44,50 +45,20 @@ Effect (ChangeLevel s o l) n = object n o .label ≡ Present l
 
 -- the request gives access x on object o to subject t
 abbrev pub GetsAccess : Request → ℕ → ℕ → Mode → Type 0
-GetsAccess (Get s p y) t o x = (s ≡ t) × (p ≡ o) × (y ≡ x)
-GetsAccess (Release s p y) t o x = ⊥
-GetsAccess (Give s u p y) t o x = ⊥
-GetsAccess (Rescind s u p y) t o x = ⊥
-GetsAccess (Create s p e) t o x = ⊥
-GetsAccess (Delete s p) t o x = ⊥
-GetsAccess (ChangeLevel s p l) t o x = ⊥
+GetsAccess q t o x = q ≡ Get t o x
 
--- the request takes right x at object o from subject t
+-- it takes right x at object o from subject t
 abbrev pub TakesRight : Request → ℕ → ℕ → Mode → Type 0
-TakesRight (Get s p y) t o x = ⊥
-TakesRight (Release s p y) t o x = ⊥
-TakesRight (Give s u p y) t o x = ⊥
-TakesRight (Rescind s u p y) t o x = (u ≡ t) × (p ≡ o) × (y ≡ x)
-TakesRight (Create s p e) t o x = ⊥
-TakesRight (Delete s p) t o x = ⊥
-TakesRight (ChangeLevel s p l) t o x = ⊥
+TakesRight q t o x = (s : ℕ) × (q ≡ Rescind s t o x)
 
--- the request ends access x on object o of subject t
+-- it ends access x on object o of subject t
 abbrev pub EndsAccess : Request → ℕ → ℕ → Mode → Type 0
-EndsAccess (Get s p y) t o x = ⊥
-EndsAccess (Release s p y) t o x = (s ≡ t) × (p ≡ o) × (y ≡ x)
-EndsAccess (Give s u p y) t o x = ⊥
-EndsAccess (Rescind s u p y) t o x = (u ≡ t) × (p ≡ o) × (y ≡ x)
-EndsAccess (Create s p e) t o x = ⊥
-EndsAccess (Delete s p) t o x = ⊥
-EndsAccess (ChangeLevel s p l) t o x = ⊥
+EndsAccess q t o x = (q ≡ Release t o x) ⊎ ((s : ℕ) × (q ≡ Rescind s t o x))
 
--- the request gives right x at object o to subject t
+-- it gives right x at object o to subject t
 abbrev pub GivesRight : Request → ℕ → ℕ → Mode → Type 0
-GivesRight (Get s p y) t o x = ⊥
-GivesRight (Release s p y) t o x = ⊥
-GivesRight (Give s u p y) t o x = (u ≡ t) × (p ≡ o) × (y ≡ x)
-GivesRight (Rescind s u p y) t o x = ⊥
-GivesRight (Create s p e) t o x = ⊥
-GivesRight (Delete s p) t o x = ⊥
-GivesRight (ChangeLevel s p l) t o x = ⊥
+GivesRight q t o x = (s : ℕ) × (q ≡ Give s t o x)
 
--- the request changes the level of object o to the label
+-- it changes the level of object o to the label
 abbrev pub ChangesLabel : Request → ℕ → Label → Type 0
-ChangesLabel (Get s p y) o a = ⊥
-ChangesLabel (Release s p y) o a = ⊥
-ChangesLabel (Give s u p y) o a = ⊥
-ChangesLabel (Rescind s u p y) o a = ⊥
-ChangesLabel (Create s p e) o a = ⊥
-ChangesLabel (Delete s p) o a = ⊥
-ChangesLabel (ChangeLevel s p l) o a = (p ≡ o) × (Present l ≡ a)
+ChangesLabel q o a = (s : ℕ) × (l : Level) × (q ≡ ChangeLevel s o l) × (Present l ≡ a)
