@@ -1,6 +1,6 @@
 -- Bytes worked out by hand from the scope's widths: requests in which every field has another number, and one object record.
 -- Assumes nothing.
-use Prim.Native.Nat.{ℕ}
+use Prim.Native.Nat.{ℕ, _*_}
 use mathlib.Core.Path.{_≡_, refl}
 use mathlib.Core.Bool.{true, false}
 use mathlib.Core.List.{List, [], _∷_, map}
@@ -14,7 +14,7 @@ use Rattle.model.specs.declared.Request.the-variants.{Get, Release, Give
 use Rattle.model.specs.declared.Decoded.the-variants.{Says}
 use Rattle.model.specs.Levels.{need}
 use Rattle.model.specs.Requests.{fields, modeAllowed, unusedZero, wellFormed, request, decodeFields, decode}
-use Rattle.model.specs.Layout.{labelBits, setsBits, objectBits}
+use Rattle.model.specs.Layout.{labelWidth, objectWidth, tableWidth, tableSize, objectsWidth, objectsSize, imageSize, labelBits, setsBits, objectBits}
 use Rattle.model.specs.Reading.{labelFrom, labelForm, objectFrom, objectForm}
 
 -- ---- requests
@@ -57,6 +57,12 @@ every-kind = refl
 pub need-weights : map (λ (k : ℕ). need k 0x8005) (0 ∷ 1 ∷ 2 ∷ 3 ∷ 14 ∷ 15 ∷ []) ≡ true ∷ false ∷ true ∷ false ∷ false ∷ true ∷ []
 unfolding need odd
 need-weights = refl
+
+-- ---- sizes
+
+-- the numbers that the scope prints, and whole bytes: no bit is lost by a division
+pub every-size : (labelWidth ≡ 21) × (objectWidth ≡ 154) × (tableSize ≡ 42) × (imageSize ≡ 1274) × (tableWidth ≡ 8 * tableSize) × (objectsWidth ≡ 8 * objectsSize)
+every-size = (refl, refl, refl, refl, refl, refl)
 
 -- ---- an object record
 

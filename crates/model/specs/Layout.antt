@@ -1,6 +1,6 @@
 -- The layout of table and image ("Image and table" in the scope): every size and offset once, and the bits of each record.
 -- Assumes nothing.
-use Prim.Native.Nat.{ℕ}
+use Prim.Native.Nat.{ℕ, _+_, _*_, _/_}
 use mathlib.Core.Bool.{Bool, true, false}
 use mathlib.Core.List.{List, [], _∷_, _++_, map}
 use lib.ListN.{replicate}
@@ -10,40 +10,57 @@ use Rattle.model.specs.declared.Label.the-variants.{Absent, Present}
 use Rattle.model.specs.declared.Subject.{Subject}
 use Rattle.model.specs.declared.Object.{Object}
 use Rattle.model.specs.declared.Monitor.{Monitor}
+use Rattle.model.specs.State.{subjectCount, objectCount}
 
--- "subject records of 21 bits (enrolled 1, class 4, needs 16)"; a label has the same form
-abbrev pub labelWidth : ℕ
-labelWidth = 21
-
+-- "class 4, needs 16"
 abbrev pub classWidth : ℕ
 classWidth = 4
 
 abbrev pub needsWidth : ℕ
 needsWidth = 16
 
--- "object records of 154 bits: live 1, owner 4, label present 1, class 4, needs 16, then for subjects 0 to 15 four right bits and four access bits"
-abbrev pub objectWidth : ℕ
-objectWidth = 154
+-- "subject records of 21 bits (enrolled 1, class 4, needs 16)"; a label has the same form
+abbrev pub labelWidth : ℕ
+labelWidth = 1 + classWidth + needsWidth
 
+-- "live 1, owner 4", then the label
 abbrev pub ownerWidth : ℕ
 ownerWidth = 4
 
+abbrev pub labelOffset : ℕ
+labelOffset = 1 + ownerWidth
+
+-- "then for subjects 0 to 15 four right bits and four access bits"
 abbrev pub setWidth : ℕ
 setWidth = 4
 
--- where the label and the sets of an object record begin
-abbrev pub labelOffset : ℕ
-labelOffset = 5
-
 abbrev pub setsOffset : ℕ
-setsOffset = 26
+setsOffset = labelOffset + labelWidth
 
--- "42 bytes"; "The object records begin at byte 42"; "In all 1,274 bytes"
+abbrev pub setsWidth : ℕ
+setsWidth = subjectCount * (setWidth + setWidth)
+
+-- "object records of 154 bits"
+abbrev pub objectWidth : ℕ
+objectWidth = setsOffset + setsWidth
+
+-- "The table is 16 subject records of 21 bits .. : 42 bytes"; "The object records begin at byte 42"
+abbrev pub tableWidth : ℕ
+tableWidth = subjectCount * labelWidth
+
 abbrev pub tableSize : ℕ
-tableSize = 42
+tableSize = tableWidth / 8
 
+-- "64 object records"
+abbrev pub objectsWidth : ℕ
+objectsWidth = objectCount * objectWidth
+
+abbrev pub objectsSize : ℕ
+objectsSize = objectsWidth / 8
+
+-- "In all 1,274 bytes"
 abbrev pub imageSize : ℕ
-imageSize = 1274
+imageSize = tableSize + objectsSize
 
 -- present 1, class 4, needs 16; "What is absent .. has all its other bits 0"
 unfoldable pub labelBits : Label → List Bool
