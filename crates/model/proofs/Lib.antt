@@ -1,6 +1,7 @@
 -- Laws of the definitions, for the theorems about them and for the proofs of the code.
 pub mod Tests
 pub mod Decisions
+pub mod Checks
 pub mod Modes
 pub mod Levels
 pub mod Packing

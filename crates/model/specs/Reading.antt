@@ -2,7 +2,7 @@
 -- Assumes nothing.
 use Prim.Native.Nat.{ℕ}
 use mathlib.Core.Bool.{Bool, true, cond, _&&_, _||_}
-use mathlib.Core.List.{List, map}
+use mathlib.Core.List.{List, [], _∷_, map}
 use lib.ListN.{length, take, drop}
 use lib.Dec.{eqb}
 use Rattle.bits.specs.Bits.{fromBits, bytesToBits, cut, first, allZero}
@@ -12,9 +12,9 @@ use Rattle.model.specs.declared.Subject.{Subject}
 use Rattle.model.specs.declared.Object.{Object}
 use Rattle.model.specs.declared.Monitor.{Monitor}
 use Rattle.model.specs.declared.Decision.{Decision}
-use Rattle.model.specs.declared.Decision.the-variants.{Granted, NoRight, NoLabel, SimpleBroken, StarBroken, WrongLength, StrayBits, AbsentSubject}
+use Rattle.model.specs.declared.Decision.the-variants.{NoRight, NoLabel, SimpleBroken, StarBroken, WrongLength, StrayBits, AbsentSubject}
 use Rattle.model.specs.declared.Response.{Response}
-use Rattle.model.specs.Tests.{allBelow, allOf, implies, unless}
+use Rattle.model.specs.Tests.{allBelow, allOf, implies, firstFailing}
 use Rattle.model.specs.Levels.{subset, present}
 use Rattle.model.specs.Modes.{anyNeedsLabel}
 use Rattle.model.specs.State.{subjectCount, objectCount, noObject, clearanceAt, rightsOf, heldBy, fresh, emptyMonitor}
@@ -112,22 +112,25 @@ unfoldable pub heldLabelled : Object → Bool
 heldLabelled ob = allBelow subjectCount (λ (s : ℕ). implies (anyNeedsLabel (heldBy ob s)) (present (ob .label)))
 
 -- "12, 6, 7, 8, 9, each over the whole image before the next"
+abbrev pub stateList : Monitor → List (Bool × Decision)
+stateList m =
+    (allOf (onlyEnrolled (m .subjects)) (m .objects), AbsentSubject)
+    ∷ (allOf withinMatrix (m .objects), NoRight)
+    ∷ (allOf heldLabelled (m .objects), NoLabel)
+    ∷ (allOf (simpleAll (m .subjects)) (m .objects), SimpleBroken)
+    ∷ (starAll (m .objects), StarBroken)
+    ∷ []
+
 unfoldable pub stateChecks : Monitor → Decision
-stateChecks m =
-    unless (allOf (onlyEnrolled (m .subjects)) (m .objects)) AbsentSubject
-    (unless (allOf withinMatrix (m .objects)) NoRight
-    (unless (allOf heldLabelled (m .objects)) NoLabel
-    (unless (allOf (simpleAll (m .subjects)) (m .objects)) SimpleBroken
-    (unless (starAll (m .objects)) StarBroken
-    Granted))))
+stateChecks m = firstFailing (stateList m)
 
 -- "Tables are checked 10, 11"
 unfoldable pub tableChecks : List ℕ → Decision
-tableChecks b = unless (eqb (length b) tableSize) WrongLength (unless (tableForm b) StrayBits Granted)
+tableChecks b = firstFailing ((eqb (length b) tableSize, WrongLength) ∷ (tableForm b, StrayBits) ∷ [])
 
 -- "images 10, 11, 12, 6, 7, 8, 9"
 unfoldable pub imageChecks : List ℕ → Decision
-imageChecks b = unless (eqb (length b) imageSize) WrongLength (unless (imageForm b) StrayBits (stateChecks (monitorFrom b)))
+imageChecks b = firstFailing ((eqb (length b) imageSize, WrongLength) ∷ (imageForm b, StrayBits) ∷ stateList (monitorFrom b))
 
 -- ---- the answers
 

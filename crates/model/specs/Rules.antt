@@ -2,7 +2,7 @@
 -- Assumes nothing.
 use Prim.Native.Nat.{ℕ}
 use mathlib.Core.Bool.{Bool, true, false, cond, not, _&&_}
-use mathlib.Core.List.{List}
+use mathlib.Core.List.{List, [], _∷_}
 use lib.Dec.{eqb}
 use lib.ListN.{set}
 use Rattle.model.specs.declared.Label.the-variants.{Absent, Present}
@@ -15,7 +15,7 @@ use Rattle.model.specs.declared.Request.the-variants.{Get, Release, Give
 use Rattle.model.specs.declared.Decision.{Decision}
 use Rattle.model.specs.declared.Decision.the-variants.{Granted, Already, NotEnrolled, NotLive, AlreadyLive, NoRight, NoLabel, SimpleBroken, StarBroken}
 use Rattle.model.specs.declared.Response.{Response}
-use Rattle.model.specs.Tests.{allBelow, allOf, implies, unless}
+use Rattle.model.specs.Tests.{allBelow, allOf, implies, firstFailing}
 use Rattle.model.specs.Levels.{dominates, present, sameLabel}
 use Rattle.model.specs.Modes.{has, add, remove, observes, needsLabel, anyObserves, anyAlters}
 use Rattle.model.specs.State.{subjectCount, noModes, noObject, clearanceAt, clearance, enrolled, object, rightsOf, heldBy, withRights, withHeld, withLabel, withObject}
@@ -98,53 +98,57 @@ owns s ob = eqb (ob .owner) s
 abbrev pub mayGive : ℕ → Mode → Object → Bool
 mayGive s x ob = owns s ob && has x (rightsOf ob s)
 
+-- each check with its answer
+abbrev pub checkList : Request → Monitor → List (Bool × Decision)
+-- "checks 4, 6 (the actor's right); 7 (not e); 8 (r, w); 9 (r, w, a)"
+checkList (Get s o x) m =
+    (enrolled m s, NotEnrolled)
+    ∷ (object m o .live, NotLive)
+    ∷ (has x (rightsOf (object m o) s), NoRight)
+    ∷ (implies (needsLabel x) (present (object m o .label)), NoLabel)
+    ∷ (implies (observes x) (dominates (clearance m s) (object m o .label)), SimpleBroken)
+    ∷ (implies (needsLabel x) (starFor s (afterwards (Get s o x) m .objects)), StarBroken)
+    ∷ []
+-- "check 4"
+checkList (Release s o x) m =
+    (enrolled m s, NotEnrolled)
+    ∷ (object m o .live, NotLive)
+    ∷ []
+-- "checks 4, 6: the actor is owner and has that right itself"
+checkList (Give s t o x) m =
+    (enrolled m s && enrolled m t, NotEnrolled)
+    ∷ (object m o .live, NotLive)
+    ∷ (mayGive s x (object m o), NoRight)
+    ∷ []
+-- "checks as give"
+checkList (Rescind s t o x) m =
+    (enrolled m s && enrolled m t, NotEnrolled)
+    ∷ (object m o .live, NotLive)
+    ∷ (mayGive s x (object m o), NoRight)
+    ∷ []
+-- "check 5"
+checkList (Create s o e) m =
+    (enrolled m s, NotEnrolled)
+    ∷ (not (object m o .live), AlreadyLive)
+    ∷ []
+-- "checks 4, 6: owner"
+checkList (Delete s o) m =
+    (enrolled m s, NotEnrolled)
+    ∷ (object m o .live, NotLive)
+    ∷ (owns s (object m o), NoRight)
+    ∷ []
+-- "checks 4, 6: owner; 8, 9 over all subjects in the state after the change"
+checkList (ChangeLevel s o l) m =
+    (enrolled m s, NotEnrolled)
+    ∷ (object m o .live, NotLive)
+    ∷ (owns s (object m o), NoRight)
+    ∷ (simpleAll (m .subjects) (changed (ChangeLevel s o l) (object m o)), SimpleBroken)
+    ∷ (starAll (afterwards (ChangeLevel s o l) m .objects), StarBroken)
+    ∷ []
+
 -- the first check that fails gives its answer, Granted where none does
 unfoldable pub checks : Request → Monitor → Decision
--- "checks 4, 6 (the actor's right); 7 (not e); 8 (r, w); 9 (r, w, a)"
-checks (Get s o x) m =
-    unless (enrolled m s) NotEnrolled
-    (unless (object m o .live) NotLive
-    (unless (has x (rightsOf (object m o) s)) NoRight
-    (unless (implies (needsLabel x) (present (object m o .label))) NoLabel
-    (unless (implies (observes x) (dominates (clearance m s) (object m o .label))) SimpleBroken
-    (unless (implies (needsLabel x) (starFor s (afterwards (Get s o x) m .objects))) StarBroken
-    Granted)))))
--- "check 4"
-checks (Release s o x) m =
-    unless (enrolled m s) NotEnrolled
-    (unless (object m o .live) NotLive
-    Granted)
--- "checks 4, 6: the actor is owner and has that right itself"
-checks (Give s t o x) m =
-    unless (enrolled m s && enrolled m t) NotEnrolled
-    (unless (object m o .live) NotLive
-    (unless (mayGive s x (object m o)) NoRight
-    Granted))
--- "checks as give"
-checks (Rescind s t o x) m =
-    unless (enrolled m s && enrolled m t) NotEnrolled
-    (unless (object m o .live) NotLive
-    (unless (mayGive s x (object m o)) NoRight
-    Granted))
--- "check 5"
-checks (Create s o e) m =
-    unless (enrolled m s) NotEnrolled
-    (unless (not (object m o .live)) AlreadyLive
-    Granted)
--- "checks 4, 6: owner"
-checks (Delete s o) m =
-    unless (enrolled m s) NotEnrolled
-    (unless (object m o .live) NotLive
-    (unless (owns s (object m o)) NoRight
-    Granted))
--- "checks 4, 6: owner; 8, 9 over all subjects in the state after the change"
-checks (ChangeLevel s o l) m =
-    unless (enrolled m s) NotEnrolled
-    (unless (object m o .live) NotLive
-    (unless (owns s (object m o)) NoRight
-    (unless (simpleAll (m .subjects) (changed (ChangeLevel s o l) (object m o))) SimpleBroken
-    (unless (starAll (afterwards (ChangeLevel s o l) m .objects)) StarBroken
-    Granted))))
+checks q m = firstFailing (checkList q m)
 
 -- a refusal leaves "the whole state"; "Reply 0: granted and the state changed. Reply 1: granted and the state was so already."
 unfoldable pub answer : Decision → Bool → Monitor → Monitor → Response

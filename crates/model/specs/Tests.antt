@@ -4,6 +4,7 @@ use Prim.Native.Nat.{ℕ, zero, suc}
 use mathlib.Core.Bool.{Bool, true, false, _&&_}
 use mathlib.Core.List.{List, [], _∷_}
 use Rattle.model.specs.declared.Decision.{Decision}
+use Rattle.model.specs.declared.Decision.the-variants.{Granted}
 
 -- the test at each number below n
 abbrev pub allBelow : ℕ → (ℕ → Bool) → Bool
@@ -24,3 +25,8 @@ implies false b = true
 unfoldable pub unless : Bool → Decision → Decision → Decision
 unless true d later = later
 unless false d later = d
+
+-- checks in their order, each with its answer: the first that fails gives its answer, Granted where none does
+abbrev pub firstFailing : List (Bool × Decision) → Decision
+firstFailing [] = Granted
+firstFailing (c ∷ later) = unless (c .0) (c .1) (firstFailing later)

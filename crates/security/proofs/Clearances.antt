@@ -17,7 +17,7 @@ use Rattle.model.specs.declared.Monitor.{Monitor}
 use Rattle.model.specs.declared.Mode.the-variants.{Read}
 use Rattle.model.specs.declared.Request.{Request}
 use Rattle.model.specs.declared.Request.the-variants.{Get, Create, Delete, ChangeLevel}
-use Rattle.model.specs.declared.Decision.the-variants.{Granted, NotEnrolled, NotLive, AlreadyLive, NoRight, NoLabel, SimpleBroken, StarBroken}
+use Rattle.model.specs.declared.Decision.the-variants.{Granted, NotEnrolled, NotLive, NoRight, NoLabel, SimpleBroken, StarBroken}
 use Rattle.model.specs.declared.Response.{Response}
 use Rattle.model.specs.Tests.{implies, unless}
 use Rattle.model.specs.Levels.{dominates, levelDominates, present}
@@ -29,6 +29,7 @@ use Rattle.model.proofs.Tests.{pass, stop, not-stop, distinct, cond-all}
 use Rattle.model.proofs.Tests as tests
 use Rattle.model.proofs.Levels.{level-refl, level-antisym}
 use Rattle.model.proofs.After.{object-there}
+use Rattle.security.proofs.Granted.{grants-create, grants-change}
 use Rattle.security.specs.Distinguish.{freeBelow, readAt, toClearance, byClearance}
 use Rattle.security.proofs.Form.{no-modes}
 use Rattle.security.proofs.Pairs.{none-held}
@@ -59,8 +60,7 @@ module _ (s o : ℕ) (l : Level) (s-below : s < 16) (o-below : o < 64) (fits : L
 
   module _ (m : Monitor) (S : Sound m) (there : enrolled m s ≡ true) (free : object m o .live ≡ false) where
     create-granted : checks (Create s o false) m ≡ Granted
-    unfolding checks
-    create-granted = pass _ NotEnrolled _ there ∙ pass _ AlreadyLive _ (ap not free)
+    create-granted = grants-create m s o false (record { there = there; free = ap not free })
 
     sound-made : Sound (made m)
     unfolding made
@@ -78,13 +78,16 @@ module _ (s o : ℕ) (l : Level) (s-below : s < 16) (o-below : o < 64) (fits : L
     clearance-made = refl
 
     level-granted : checks (ChangeLevel s o l) (made m) ≡ Granted
-    unfolding checks changed
+    unfolding changed
     level-granted =
-        pass _ NotEnrolled _ (ap present clearance-made ∙ there)
-        ∙ pass _ NotLive _ (ap (λ (k : Object). k .live) object-made)
-        ∙ pass _ NoRight _ (eq-eqb (object (made m) o .owner) s (ap (λ (k : Object). k .owner) object-made))
-        ∙ pass _ SimpleBroken _ (simple-in (made m .subjects) _ (λ t x w u. none-held x _ (nobody-holds t) w))
-        ∙ pass _ StarBroken _ (star-all-in _ (λ t. star-free t (made m .objects) o _ (star-for (made m) (sound-made .secure .star) t) (nobody-holds t)))
+        grants-change (made m) s o l
+        (record {
+          there = ap present clearance-made ∙ there;
+          live = ap (λ (k : Object). k .live) object-made;
+          owned = eq-eqb (object (made m) o .owner) s (ap (λ (k : Object). k .owner) object-made);
+          simple = simple-in (made m .subjects) _ (λ t x w u. none-held x _ (nobody-holds t) w);
+          star = star-all-in _ (λ t. star-free t (made m .objects) o _ (star-for (made m) (sound-made .secure .star) t) (nobody-holds t));
+        })
 
     object-ready : object (ready m) o ≡ withLabel (created s false) (Present l)
     unfolding ready changed

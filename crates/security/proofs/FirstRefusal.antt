@@ -4,9 +4,8 @@ use Prim.Native.Nat.{ℕ, _<_, _≤_}
 use native.Mathlib.Omega.{arith}
 use mathlib.Core.Path.{_≡_, refl, sym, ap, _∙_, subst}
 use mathlib.Core.Logic.{_↔_, _≢_}
-use mathlib.Core.Bool.{Bool, true, false}
+use mathlib.Core.Bool.{Bool, true}
 use mathlib.Core.List.{List, [], _∷_}
-use lib.Dec.{eqb}
 use borrow.Author.Tests.{leb-true}
 use Rattle.model.specs.declared.Level.{Level}
 use Rattle.model.specs.declared.Monitor.{Monitor}
@@ -16,18 +15,18 @@ use Rattle.model.specs.declared.Request.the-variants.{Get, Release, Give, Resci
 use Rattle.model.specs.declared.Decoded.{Decoded}
 use Rattle.model.specs.declared.Decoded.the-variants.{Malformed, Says}
 use Rattle.model.specs.declared.Decision.{Decision}
-use Rattle.model.specs.declared.Decision.the-variants.{Granted, MalformedRequest, NotEnrolled, NotLive, AlreadyLive, NoRight, NoLabel, SimpleBroken, StarBroken}
+use Rattle.model.specs.declared.Decision.the-variants.{Granted, MalformedRequest}
 use Rattle.model.specs.declared.Response.{Response}
-use Rattle.model.specs.Tests.{unless}
 use Rattle.model.specs.State.{emptyMonitor}
 use Rattle.model.specs.Decisions.{number, refuses}
 use Rattle.model.specs.Requests.{decode}
-use Rattle.model.specs.Rules.{checks, step}
+use Rattle.model.specs.Rules.{checkList, checks, step}
 use Rattle.model.specs.Runs.{carryOut, respond, reply}
 use Rattle.model.specs.Reading.{tableChecks, imageChecks, begin, readTable, readImage}
 use Rattle.model.specs.Beginnings.{Reached}
-use Rattle.model.proofs.Tests.{cond-true, distinct, not-stop}
+use Rattle.model.proofs.Tests.{cond-true, distinct}
 use Rattle.model.proofs.Decisions.{number-inj}
+use Rattle.model.proofs.Checks.{without, never-answers}
 use Rattle.model.proofs.Requests.{decode-range}
 use Rattle.security.specs.First.{Causes, FirstIn, NoneIn, AnswersFirst, orderOf}
 use Rattle.security.specs.Causes.{MalformedBytes, requestCauses, tableCauses, imageCauses}
@@ -47,22 +46,18 @@ reply-is q m d r =
     )
 
 -- no check of a well-formed request answers 2
-later-check : (b : Bool) (d v : Decision) → eqb (number d) 2 ≡ false → v ≢ MalformedRequest → unless b d v ≢ MalformedRequest
-later-check b d v e h = not-stop b d v MalformedRequest (distinct d MalformedRequest e) h
-
 never-malformed : (q : Request) (m : Monitor) → checks q m ≢ MalformedRequest
 unfolding checks
-never-malformed (Get s o x) m =
-    later-check _ NotEnrolled _ refl (later-check _ NotLive _ refl (later-check _ NoRight _ refl
-    (later-check _ NoLabel _ refl (later-check _ SimpleBroken _ refl (later-check _ StarBroken _ refl (distinct _ _ refl))))))
-never-malformed (Release s o x) m = later-check _ NotEnrolled _ refl (later-check _ NotLive _ refl (distinct _ _ refl))
-never-malformed (Give s t o x) m = later-check _ NotEnrolled _ refl (later-check _ NotLive _ refl (later-check _ NoRight _ refl (distinct _ _ refl)))
-never-malformed (Rescind s t o x) m = later-check _ NotEnrolled _ refl (later-check _ NotLive _ refl (later-check _ NoRight _ refl (distinct _ _ refl)))
-never-malformed (Create s o e) m = later-check _ NotEnrolled _ refl (later-check _ AlreadyLive _ refl (distinct _ _ refl))
-never-malformed (Delete s o) m = later-check _ NotEnrolled _ refl (later-check _ NotLive _ refl (later-check _ NoRight _ refl (distinct _ _ refl)))
-never-malformed (ChangeLevel s o l) m =
-    later-check _ NotEnrolled _ refl (later-check _ NotLive _ refl (later-check _ NoRight _ refl
-    (later-check _ SimpleBroken _ refl (later-check _ StarBroken _ refl (distinct _ _ refl)))))
+never-malformed q m = never-answers MalformedRequest (distinct _ _ refl) (checkList q m) (go q)
+  where
+    go : (q : Request) → without MalformedRequest (checkList q m) ≡ true
+    go (Get s o x) = refl
+    go (Release s o x) = refl
+    go (Give s t o x) = refl
+    go (Rescind s t o x) = refl
+    go (Create s o e) = refl
+    go (Delete s o) = refl
+    go (ChangeLevel s o l) = refl
 
 -- 2: exactly the first row, on every monitor
 pub reply-2-exactly : (g : List ℕ) (m : Monitor) → (reply g m ≡ 2) ↔ MalformedBytes g

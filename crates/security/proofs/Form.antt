@@ -12,14 +12,15 @@ use Rattle.model.specs.declared.Object.{Object}
 use Rattle.model.specs.declared.Monitor.{Monitor}
 use Rattle.model.specs.declared.Request.{Request}
 use Rattle.model.specs.declared.Request.the-variants.{Get, Release, Give, Rescind, Create, Delete, ChangeLevel}
-use Rattle.model.specs.declared.Decision.the-variants.{Granted, NotEnrolled, NotLive}
+use Rattle.model.specs.declared.Decision.the-variants.{Granted}
 use Rattle.model.specs.Levels.{present}
 use Rattle.model.specs.State.{noModes, noObject, clearanceAt, enrolled, object, rightsOf, withHeld, withRights, WellFormedObject, WellFormed}
 use Rattle.model.specs.Modes.{remove}
 use Rattle.model.specs.Requests.{InRange}
 use Rattle.model.specs.Rules.{target, changed, checks, created}
-use Rattle.model.proofs.Tests.{set-all, apart, clash, passed, and-right, replicate-at}
+use Rattle.model.proofs.Tests.{set-all, apart, clash, and-right, replicate-at}
 use Rattle.model.proofs.Modes.{add-fits, remove-fits}
+use Rattle.security.proofs.Granted.{granted-get, granted-release, granted-give, granted-rescind, granted-create, granted-change}
 
 pub no-modes : (s : ℕ) → getD noModes s 0 ≡ 0
 no-modes s = replicate-at 0 16 s
@@ -101,38 +102,33 @@ module _ (l : List Subject) where
 -- the actor's enrolment and the life of the object, of a granted request that needs both
 module _ (m : Monitor) where
   pub changed-formed : (q : Request) → InRange q → WellFormed m → checks q m ≡ Granted → WellFormedObject (m .subjects) (changed q (object m (target q)))
-  unfolding checks changed
+  unfolding changed
   changed-formed (Get s o x) r W e =
       let F = W .objects-formed o in
-      let a = passed _ NotEnrolled _ refl e in
-      let b = passed _ NotLive _ refl (a .1) in
-      held-formed (m .subjects) (object m o) s _ F (b .0) (a .0) (add-fits x _ (F .held-fit s))
+      let g = granted-get m s o x e in
+      held-formed (m .subjects) (object m o) s _ F (g .live) (g .there) (add-fits x _ (F .held-fit s))
   changed-formed (Release s o x) r W e =
       let F = W .objects-formed o in
-      let a = passed _ NotEnrolled _ refl e in
-      let b = passed _ NotLive _ refl (a .1) in
-      held-formed (m .subjects) (object m o) s _ F (b .0) (a .0) (remove-fits x _ (F .held-fit s))
+      let g = granted-release m s o x e in
+      held-formed (m .subjects) (object m o) s _ F (g .live) (g .there) (remove-fits x _ (F .held-fit s))
   changed-formed (Give s t o x) r W e =
       let F = W .objects-formed o in
-      let a = passed _ NotEnrolled _ refl e in
-      let b = passed _ NotLive _ refl (a .1) in
-      rights-formed (m .subjects) (object m o) t _ F (b .0) (and-right (enrolled m s) _ (a .0)) (add-fits x _ (F .rights-fit t))
+      let g = granted-give m s t o x e in
+      rights-formed (m .subjects) (object m o) t _ F (g .live) (and-right (enrolled m s) _ (g .there)) (add-fits x _ (F .rights-fit t))
   changed-formed (Rescind s t o x) r W e =
       let F = W .objects-formed o in
-      let a = passed _ NotEnrolled _ refl e in
-      let b = passed _ NotLive _ refl (a .1) in
-      let there = and-right (enrolled m s) (enrolled m t) (a .0) in
+      let g = granted-rescind m s t o x e in
+      let there = and-right (enrolled m s) (enrolled m t) (g .there) in
       held-formed (m .subjects) (withRights (object m o) t (remove x (rightsOf (object m o) t))) t _
-      (rights-formed (m .subjects) (object m o) t _ F (b .0) there (remove-fits x _ (F .rights-fit t)))
-      (b .0) there (remove-fits x _ (F .held-fit t))
+      (rights-formed (m .subjects) (object m o) t _ F (g .live) there (remove-fits x _ (F .rights-fit t)))
+      (g .live) there (remove-fits x _ (F .held-fit t))
   changed-formed (Create s o w) r W e =
-      let a = passed _ NotEnrolled _ refl e in
-      created-formed (m .subjects) s w (r .0) (a .0)
+      let g = granted-create m s o w e in
+      created-formed (m .subjects) s w (r .0) (g .there)
   changed-formed (Delete s o) r W e = no-object-formed (m .subjects)
   changed-formed (ChangeLevel s o v) r W e =
       let F = W .objects-formed o in
-      let a = passed _ NotEnrolled _ refl e in
-      let b = passed _ NotLive _ refl (a .1) in
+      let g = granted-change m s o v e in
       record {
         rights-length = F .rights-length;
         held-length = F .held-length;
@@ -140,7 +136,7 @@ module _ (m : Monitor) where
         held-fit = F .held-fit;
         owner-fits = F .owner-fits;
         label-fits = r .2;
-        not-live = λ w. apart (b .0) w;
+        not-live = λ w. apart (g .live) w;
         owner-enrolled = F .owner-enrolled;
         absent-rights = F .absent-rights;
         absent-held = F .absent-held;

@@ -12,17 +12,18 @@ use Rattle.model.specs.declared.Mode.{Mode}
 use Rattle.model.specs.declared.Request.{Request}
 use Rattle.model.specs.declared.Request.the-variants.{Get, Release, Give, Rescind, Create, Delete, ChangeLevel}
 use Rattle.model.specs.declared.Decoded.the-variants.{Says}
-use Rattle.model.specs.declared.Decision.the-variants.{Granted, NotEnrolled, AlreadyLive}
+use Rattle.model.specs.declared.Decision.the-variants.{Granted}
 use Rattle.model.specs.declared.Response.{Response}
 use Rattle.model.specs.Modes.{has, add, remove}
 use Rattle.model.specs.State.{object, rightsOf, heldBy, WellFormed}
 use Rattle.model.specs.Requests.{decode}
 use Rattle.model.specs.Rules.{target, changed, checks, created, step}
 use Rattle.model.specs.Runs.{respond, after}
-use Rattle.model.proofs.Tests.{set-all, split, apart, clash, passed, not-on, and-both, or-right}
+use Rattle.model.proofs.Tests.{set-all, split, apart, clash, not-on, and-both, or-right}
 use Rattle.model.proofs.Modes.{has-add, has-remove, sameMode, same-mode, held-add, held-remove}
 use Rattle.model.proofs.After.{object-there, objects-after}
 use Rattle.security.specs.Effects.{GivesRight, TakesRight, GetsAccess, EndsAccess, ChangesLabel}
+use Rattle.security.proofs.Granted.{granted-create}
 use Rattle.security.proofs.Steps.{step-all, step-granted, respond-all}
 use Rattle.security.proofs.Form.{no-modes}
 use Rattle.security.proofs.Pairs.{none-held}
@@ -52,10 +53,7 @@ others-kept q m o h = frame (λ (ob : Object). ob ≡ object m o) q m o refl (λ
 
 -- a granted create finds an object that is not live
 create-finds : (s o : ℕ) (w : Bool) (m : Monitor) → checks (Create s o w) m ≡ Granted → object m o .live ≡ false
-unfolding checks
-create-finds s o w m g =
-    let a = passed _ NotEnrolled _ refl g in
-    not-on _ (passed _ AlreadyLive _ refl (a .1) .0)
+create-finds s o w m g = not-on _ (granted-create m s o w g .free)
 
 -- what a granted request on a live object that stays live leaves of its record
 changed-owner : (q : Request) (m : Monitor) → object m (target q) .live ≡ true → checks q m ≡ Granted

@@ -11,7 +11,7 @@ use Rattle.model.specs.declared.Object.{Object}
 use Rattle.model.specs.declared.Monitor.{Monitor}
 use Rattle.model.specs.declared.Mode.{Mode}
 use Rattle.model.specs.declared.Request.the-variants.{Get}
-use Rattle.model.specs.declared.Decision.the-variants.{Granted, NotEnrolled, NotLive, NoRight, NoLabel, SimpleBroken, StarBroken}
+use Rattle.model.specs.declared.Decision.the-variants.{Granted}
 use Rattle.model.specs.Tests.{implies}
 use Rattle.model.specs.Levels.{Dominates, dominates, present}
 use Rattle.model.specs.Modes.{has, add, observes}
@@ -19,7 +19,7 @@ use Rattle.model.specs.State.{noObject, clearance, enrolled, objectAt, object, 
 use Rattle.model.specs.Properties.{Secure, Simple, Holds}
 use Rattle.model.specs.Decisions.{number}
 use Rattle.model.specs.Rules.{changed, checks, step}
-use Rattle.model.proofs.Tests.{set-all, pass, implies-in, implies-out, clash}
+use Rattle.model.proofs.Tests.{set-all, implies-in, implies-out, clash}
 use Rattle.model.proofs.Modes.{add-has, held-add}
 use Rattle.model.proofs.Levels.{dominates-decides}
 use Rattle.model.proofs.After.{object-there, held-stored}
@@ -27,6 +27,7 @@ use Rattle.security.specs.Access.{withAccess}
 use Rattle.security.proofs.Form.{enrolled-below}
 use Rattle.security.proofs.Secure.{star-in, star-for}
 use Rattle.security.specs.Sound.{Sound}
+use Rattle.security.proofs.Granted.{grants-get}
 use Rattle.security.proofs.Steps.{sound-afterwards}
 use Rattle.security.proofs.Replies.{reply-granted}
 
@@ -65,13 +66,17 @@ module _ (m : Monitor) (S : Sound m) (s o : ℕ) (x : Mode) (s-below : s < 16) (
 
   -- where the state with the access added is secure, every check passes
   secure-granted : enrolled m s ≡ true → object m o .live ≡ true → Secure (withAccess m s o x) → checks (Get s o x) m ≡ Granted
-  unfolding checks changed
+  unfolding changed
   secure-granted there live T =
-      pass _ NotEnrolled _ there ∙ pass _ NotLive _ live
-      ∙ pass _ NoRight _ (sym (ap (λ (b : Object). has x (rightsOf b s)) there-now) ∙ T .discretionary s o x holds-now)
-      ∙ pass _ NoLabel _ (implies-in _ _ (λ n. sym (ap (λ (b : Object). present (b .label)) there-now) ∙ T .labelled s o x holds-now n))
-      ∙ pass _ SimpleBroken _ (simple-get-out (T .simple))
-      ∙ pass _ StarBroken _ (implies-in _ _ (λ n. star-in s _ (star-for (withAccess m s o x) (T .star) s)))
+      grants-get m s o x
+      (record {
+        there = there;
+        live = live;
+        right = sym (ap (λ (b : Object). has x (rightsOf b s)) there-now) ∙ T .discretionary s o x holds-now;
+        labelled = implies-in _ _ (λ n. sym (ap (λ (b : Object). present (b .label)) there-now) ∙ T .labelled s o x holds-now n);
+        simple = simple-get-out (T .simple);
+        star = implies-in _ _ (λ n. star-in s _ (star-for (withAccess m s o x) (T .star) s));
+      })
 
 module _ (m : Monitor) (S : Sound m) (s o : ℕ) (x : Mode) (there : enrolled m s ≡ true) (live : object m o .live ≡ true) where
   s-below : s < 16

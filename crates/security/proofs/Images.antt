@@ -14,8 +14,9 @@ use Rattle.model.specs.declared.Decision.the-variants.{Granted, NoRight, NoLabe
 use Rattle.model.specs.State.{fresh}
 use Rattle.model.specs.Properties.{Secure}
 use Rattle.model.specs.Layout.{labelWidth, labelOffset, tableSize, imageSize}
-use Rattle.model.specs.Reading.{labelForm, objectForm, tableRecords, objectRecords, tableForm, objectsForm, imageForm, tableFrom, monitorFrom, stateChecks, tableChecks, imageChecks}
-use Rattle.model.proofs.Tests.{split, apart, clash, passed, pass, and-left, and-right, and-false, or-cases, or-false, cond-true, cond-false, all-out, all-false}
+use Rattle.model.specs.Reading.{stateList, labelForm, objectForm, tableRecords, objectRecords, tableForm, objectsForm, imageForm, tableFrom, monitorFrom, stateChecks, tableChecks, imageChecks}
+use Rattle.model.proofs.Tests.{split, apart, clash, and-left, and-right, and-false, or-cases, or-false, cond-true, cond-false, all-out, all-false}
+use Rattle.model.proofs.Checks.{all-passed, all-pass}
 use Rattle.security.specs.First.{AnswersFirst}
 use Rattle.security.specs.Causes.{Stray, StrayLabel, StrayInTable, StrayInObjects, StrayInImage, AbsentActs, tableCauses, imageCauses}
 use Rattle.security.proofs.First.{answers-end, answers-check}
@@ -131,11 +132,19 @@ pub state-passes : (m : Monitor) → Sound m → stateChecks m ≡ Granted
 unfolding stateChecks
 state-passes m S =
     let H = shape-of m (S .formed) in
-    pass _ AbsentSubject _ (formed-in m H (S .formed))
-    ∙ pass _ NoRight _ (matrix-in m H (S .secure .discretionary))
-    ∙ pass _ NoLabel _ (labelled-in m H (S .secure .labelled))
-    ∙ pass _ SimpleBroken _ (simple-all-in m H (S .secure .simple))
-    ∙ pass _ StarBroken _ (stars-in m H (S .secure .star))
+    all-pass (stateList m) (
+      formed-in m H (S .formed),
+      (
+        matrix-in m H (S .secure .discretionary),
+        (
+          labelled-in m H (S .secure .labelled),
+          (
+            simple-all-in m H (S .secure .simple),
+            (stars-in m H (S .secure .star), tt),
+          ),
+        ),
+      ),
+    )
 
 -- what an accepted image has passed
 pub image-passed : (b : List ℕ) → imageChecks b ≡ Granted → (length b ≡ imageSize) × (imageForm b ≡ true) × Sound (monitorFrom b)
@@ -143,22 +152,17 @@ unfolding imageChecks stateChecks
 image-passed b e =
     let m = monitorFrom b in
     let S = image-shape b in
-    let ten = passed _ WrongLength _ refl e in
-    let eleven = passed _ StrayBits _ refl (ten .1) in
-    let twelve = passed _ AbsentSubject _ refl (eleven .1) in
-    let six = passed _ NoRight _ refl (twelve .1) in
-    let seven = passed _ NoLabel _ refl (six .1) in
-    let eight = passed _ SimpleBroken _ refl (seven .1) in
-    let nine = passed _ StarBroken _ refl (eight .1) in (
-      eqb-true (length b) imageSize (ten .0),
-      eleven .0,
+    let p = all-passed ((eqb (length b) imageSize, WrongLength) ∷ (imageForm b, StrayBits) ∷ stateList m) refl e in
+    let q = p .1 .1 in (
+      eqb-true (length b) imageSize (p .0),
+      p .1 .0,
       record {
-        formed = formed-out m S (twelve .0);
+        formed = formed-out m S (q .0);
         secure = record {
-          discretionary = matrix-out m S (six .0);
-          labelled = labelled-out m S (seven .0);
-          simple = simple-all-out m S (eight .0);
-          star = stars-out m S (nine .0);
+          discretionary = matrix-out m S (q .1 .0);
+          labelled = labelled-out m S (q .1 .1 .0);
+          simple = simple-all-out m S (q .1 .1 .1 .0);
+          star = stars-out m S (q .1 .1 .1 .1 .0);
         };
       },
     )
@@ -173,13 +177,25 @@ image-accepted-exactly b = (
   λ p.
       let m = monitorFrom b in
       let S = image-shape b in
-      pass _ WrongLength _ (eq-eqb (length b) imageSize (p .0))
-      ∙ pass _ StrayBits _ (holds (imageForm b) (λ e. p .1 (image-stray b e)))
-      ∙ pass _ AbsentSubject _ (holds _ (λ e. p .2 (absent-acts m S e)))
-      ∙ pass _ NoRight _ (matrix-in m S (p .3 .discretionary))
-      ∙ pass _ NoLabel _ (labelled-in m S (p .3 .labelled))
-      ∙ pass _ SimpleBroken _ (simple-all-in m S (p .3 .simple))
-      ∙ pass _ StarBroken _ (stars-in m S (p .3 .star)),
+      all-pass ((eqb (length b) imageSize, WrongLength) ∷ (imageForm b, StrayBits) ∷ stateList m) (
+        eq-eqb (length b) imageSize (p .0),
+        (
+          holds (imageForm b) (λ e. p .1 (image-stray b e)),
+          (
+            holds _ (λ e. p .2 (absent-acts m S e)),
+            (
+              matrix-in m S (p .3 .discretionary),
+              (
+                labelled-in m S (p .3 .labelled),
+                (
+                  simple-all-in m S (p .3 .simple),
+                  (stars-in m S (p .3 .star), tt),
+                ),
+              ),
+            ),
+          ),
+        ),
+      ),
 )
   where
     holds : (b : Bool) → (b ≡ false → ⊥) → b ≡ true

@@ -1,4 +1,5 @@
 -- The theorems, in the order in which they stand on each other.
+pub mod Granted
 pub mod Form
 pub mod Pairs
 pub mod Secure

@@ -6,7 +6,7 @@ use mathlib.Core.Path.{_≡_, refl, sym, ap, _∙_, subst}
 use mathlib.Core.Logic.{_≢_}
 use mathlib.Core.Bool.{true, false, not}
 use mathlib.Core.List.{List}
-use lib.ListN.{set}
+use lib.ListN.{drop, set}
 use lib.Seq.{set-getD}
 use lib.Dec.{eqb}
 use borrow.Author.Tests.{eq-eqb, eqb-true, leb-true}
@@ -19,18 +19,20 @@ use Rattle.model.specs.declared.Mode.the-variants.{Read}
 use Rattle.model.specs.declared.Request.{Request}
 use Rattle.model.specs.declared.Request.the-variants.{Get, Release, Delete, ChangeLevel}
 use Rattle.model.specs.declared.Decision.{Decision}
-use Rattle.model.specs.declared.Decision.the-variants.{Granted, NotEnrolled, NotLive, NoRight, NoLabel, SimpleBroken, StarBroken}
+use Rattle.model.specs.declared.Decision.the-variants.{Granted, NotEnrolled, NotLive, NoRight}
 use Rattle.model.specs.Levels.{sameLabel}
 use Rattle.model.specs.Modes.{has}
 use Rattle.model.specs.State.{noObject, enrolled, object, rightsOf, heldBy, LabelFits}
 use Rattle.model.specs.Decisions.{number, refuses}
 use Rattle.model.specs.Requests.{InRange}
-use Rattle.model.specs.Rules.{target, changed, already, checks, owns, simpleAll, starAll, step}
-use Rattle.model.proofs.Tests.{split, apart, pass, stop, not-stop, distinct}
+use Rattle.model.specs.Rules.{checkList, target, changed, already, checks, owns, simpleAll, starAll, step}
+use Rattle.model.proofs.Tests.{split, apart, pass, stop, distinct}
 use Rattle.model.proofs.Equal.{with-label-same}
 use Rattle.model.proofs.Decisions.{number-inj}
 use Rattle.model.proofs.Modes.{has-none}
 use Rattle.model.proofs.Levels.{label-same}
+use Rattle.model.proofs.Checks.{never-answers}
+use Rattle.security.proofs.Granted.{grants-release, grants-delete, grants-change}
 use Rattle.security.proofs.Secure.{object-secure, simple-in, star-all-in, star-for}
 use Rattle.security.specs.Sound.{Sound}
 use Rattle.security.proofs.Steps.{step-refused}
@@ -60,26 +62,29 @@ tells-already q m n g a b w =
 -- ---- requests that are granted, or refused with one number
 
 pub delete-granted : (m : Monitor) → Sound m → (o : ℕ) → object m o .live ≡ true → checks (Delete (object m o .owner) o) m ≡ Granted
-unfolding checks
 delete-granted m S o live =
-    pass _ NotEnrolled _ (S .formed .objects-formed o .owner-enrolled live) ∙ pass _ NotLive _ live ∙ pass _ NoRight _ (eq-eqb (object m o .owner) _ refl)
+    grants-delete m (object m o .owner) o
+    (record { there = S .formed .objects-formed o .owner-enrolled live; live = live; owned = eq-eqb (object m o .owner) _ refl })
 
 pub release-granted : (m : Monitor) (s o : ℕ) (x : Mode) → enrolled m s ≡ true → object m o .live ≡ true → checks (Release s o x) m ≡ Granted
-unfolding checks
-release-granted m s o x e g = pass _ NotEnrolled _ e ∙ pass _ NotLive _ g
+release-granted m s o x e g = grants-release m s o x (record { there = e; live = g })
 
 -- the owner's change to the level that the object has
 change-granted : (m : Monitor) → Sound m → (o : ℕ) (l : Level) → object m o .live ≡ true → object m o .label ≡ Present l
     → checks (ChangeLevel (object m o .owner) o l) m ≡ Granted
-unfolding checks changed
+unfolding changed
 change-granted m S o l a e =
     let ob = object m o in
     let is = with-label-same ob (Present l) (sym e) in
-    pass _ NotEnrolled _ (S .formed .objects-formed o .owner-enrolled a) ∙ pass _ NotLive _ a ∙ pass _ NoRight _ (eq-eqb (ob .owner) _ refl)
-    ∙ pass _ SimpleBroken _
-    (subst (λ (b : Object). simpleAll (m .subjects) b ≡ true) (sym is) (simple-in (m .subjects) ob (object-secure m (S .secure) o .simple)))
-    ∙ pass _ StarBroken _
-    (subst (λ (k : List Object). starAll k ≡ true) (sym (ap (set (m .objects) o) is ∙ set-getD (m .objects) o noObject)) (star-all-in (m .objects) (star-for m (S .secure .star))))
+    grants-change m (ob .owner) o l
+    (record {
+      there = S .formed .objects-formed o .owner-enrolled a;
+      live = a;
+      owned = eq-eqb (ob .owner) _ refl;
+      simple = subst (λ (b : Object). simpleAll (m .subjects) b ≡ true) (sym is) (simple-in (m .subjects) ob (object-secure m (S .secure) o .simple));
+      star = subst (λ (k : List Object). starAll k ≡ true) (sym (ap (set (m .objects) o) is ∙ set-getD (m .objects) o noObject))
+          (star-all-in (m .objects) (star-for m (S .secure .star)));
+    })
 
 -- ---- each difference of an object, from one state to the other
 
@@ -88,7 +93,7 @@ module _ (m n : Monitor) (S : Sound m) (N : Sound n) where
   unfolding checks
   tells-enrolment s e g =
       tells-refusal (Delete s 0) m n NotEnrolled refl (stop _ NotEnrolled _ g)
-      (λ w. not-stop _ NotLive _ NotEnrolled (distinct _ _ refl) (not-stop _ NoRight _ NotEnrolled (distinct _ _ refl) (distinct _ _ refl)) (sym (pass _ NotEnrolled _ e) ∙ w))
+      (λ w. never-answers NotEnrolled (distinct _ _ refl) (drop 1 (checkList (Delete s 0) m)) refl (sym (pass _ NotEnrolled _ e) ∙ w))
 
   module _ (same : (s : ℕ) → s < 16 → enrolled m s ≡ enrolled n s) (o : ℕ) (o-below : o < 64) where
     there : (s : ℕ) → s < 16 → enrolled m s ≡ true → enrolled n s ≡ true
@@ -142,8 +147,7 @@ module _ (m n : Monitor) (S : Sound m) (N : Sound n) where
           split (enrolled m s) (λ w. w) (λ w. apart e (ap (has x) (S .formed .objects-formed o .absent-rights s w) ∙ has-none x)) in (
             (h, o-below),
             tells-refusal (Get s o x) m n NoRight refl (pass _ NotEnrolled _ (there s h p) ∙ pass _ NotLive _ b ∙ stop _ NoRight _ g)
-                (λ w. not-stop _ NoLabel _ NoRight (distinct _ _ refl)
-                (not-stop _ SimpleBroken _ NoRight (distinct _ _ refl) (not-stop _ StarBroken _ NoRight (distinct _ _ refl) (distinct _ _ refl)))
+                (λ w. never-answers NoRight (distinct _ _ refl) (drop 3 (checkList (Get s o x) m)) refl
                 (sym (pass _ NotEnrolled _ p ∙ pass _ NotLive _ a ∙ pass _ NoRight _ e) ∙ w)),
           )
 

@@ -2,7 +2,7 @@
 -- Assumes nothing.
 use Prim.Native.Nat.{ℕ, _<_, _≤_}
 use native.Mathlib.Omega.{arith}
-use mathlib.Core.Path.{_≡_, refl, sym, ap, _∙_, subst}
+use mathlib.Core.Path.{_≡_, sym, ap, _∙_, subst}
 use mathlib.Core.Logic.{_↔_, _≢_}
 use mathlib.Core.Bool.{Bool, true, false, not, cond}
 use borrow.Author.Tests.{leb-true}
@@ -11,18 +11,19 @@ use Rattle.model.specs.declared.Monitor.{Monitor}
 use Rattle.model.specs.declared.Label.the-variants.{Present}
 use Rattle.model.specs.declared.Request.{Request}
 use Rattle.model.specs.declared.Request.the-variants.{Get, Release, Give, Rescind, Create, Delete, ChangeLevel}
-use Rattle.model.specs.declared.Decision.the-variants.{Granted, Already, NotEnrolled, NotLive, AlreadyLive}
+use Rattle.model.specs.declared.Decision.the-variants.{Granted, Already}
 use Rattle.model.specs.declared.Response.{Response}
 use Rattle.model.specs.Modes.{has, remove}
 use Rattle.model.specs.State.{object, heldBy, rightsOf, withHeld, withRights, WellFormed}
 use Rattle.model.specs.Decisions.{number}
 use Rattle.model.specs.Requests.{InRange}
 use Rattle.model.specs.Rules.{target, changed, already, afterwards, checks, step}
-use Rattle.model.proofs.Tests.{passed, split, apart, clash, and-left, and-right, and-both, not-on, not-off}
+use Rattle.model.proofs.Tests.{split, apart, clash, and-left, and-right, and-both, not-on, not-off}
 use Rattle.model.proofs.Modes.{add-same, remove-same, add-has, remove-has}
 use Rattle.model.proofs.Levels.{same-label, label-same}
 use Rattle.model.proofs.Equal.{with-held-same, with-rights-same, with-label-same, with-object-same}
 use Rattle.model.proofs.After.{object-there, rights-stored, held-stored}
+use Rattle.security.proofs.Granted.{granted-create, granted-delete}
 use Rattle.security.proofs.Steps.{granted-or-refused, step-granted, step-refused}
 
 -- ---- the state was so already
@@ -58,7 +59,7 @@ module _ (m : Monitor) (W : WellFormed m) where
 
   record-differs : (q : Request) → InRange q → checks q m ≡ Granted → already q (object m (target q)) ≡ false
       → changed q (object m (target q)) ≡ object m (target q) → ⊥
-  unfolding already changed checks
+  unfolding already changed
   record-differs (Get s o x) r g e w =
       apart (sym (ap (has x) (held-now o s _ (r .0) w)) ∙ add-has x _ (W .objects-formed o .held-fit s)) e
   record-differs (Release s o x) r g e w =
@@ -75,13 +76,9 @@ module _ (m : Monitor) (W : WellFormed m) where
       (and-both (ap not (sym (ap (has x) rights) ∙ remove-has x _ (F .rights-fit t))) (ap not (sym (ap (has x) held) ∙ remove-has x _ (F .held-fit t))))
       e
   record-differs (Create s o v) r g e w =
-      let a = passed _ NotEnrolled _ refl g in
-      let b = passed _ AlreadyLive _ refl (a .1) in
-      apart (ap (λ (k : Object). k .live) (sym w)) (not-on _ (b .0))
+      apart (ap (λ (k : Object). k .live) (sym w)) (not-on _ (granted-create m s o v g .free))
   record-differs (Delete s o) r g e w =
-      let a = passed _ NotEnrolled _ refl g in
-      let b = passed _ NotLive _ refl (a .1) in
-      apart (b .0) (ap (λ (k : Object). k .live) (sym w))
+      apart (granted-delete m s o g .live) (ap (λ (k : Object). k .live) (sym w))
   record-differs (ChangeLevel s o l) r g e w = apart (label-same _ (Present l) (ap (λ (k : Object). k .label) (sym w))) e
 
 pub target-below : (q : Request) → InRange q → target q < 64

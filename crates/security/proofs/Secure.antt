@@ -15,16 +15,17 @@ use Rattle.model.specs.declared.Label.{Label}
 use Rattle.model.specs.declared.Label.the-variants.{Present}
 use Rattle.model.specs.declared.Request.{Request}
 use Rattle.model.specs.declared.Request.the-variants.{Get, Release, Give, Rescind, Create, Delete, ChangeLevel}
-use Rattle.model.specs.declared.Decision.the-variants.{Granted, NotEnrolled, NotLive, NoRight, NoLabel, SimpleBroken, StarBroken}
+use Rattle.model.specs.declared.Decision.the-variants.{Granted}
 use Rattle.model.specs.Tests.{implies}
 use Rattle.model.specs.Levels.{Dominates, dominates, present}
 use Rattle.model.specs.Modes.{has, remove, observes, alters, needsLabel, anyObserves}
 use Rattle.model.specs.State.{noObject, clearanceAt, objectAt, object, rightsOf, heldBy, withHeld, withLabel, WellFormed}
 use Rattle.model.specs.Properties.{Secure, Star}
 use Rattle.model.specs.Rules.{target, changed, afterwards, checks, created, simpleAll, starPair, starFrom, starFor, starAll}
-use Rattle.model.proofs.Tests.{set-all, set-two, row-all, passed, and-left, and-right, and-both, or-left, or-right, implies-out, implies-in, below-out, below-in, all-out, all-in, beyond, le-or-lt}
+use Rattle.model.proofs.Tests.{set-all, set-two, row-all, and-left, and-right, and-both, or-left, or-right, implies-out, implies-in, below-out, below-in, all-out, all-in, beyond, le-or-lt}
 use Rattle.model.proofs.Modes.{has-add, has-remove, sameMode, held-add, held-remove, any-observes, any-alters, observes-some, alters-some}
 use Rattle.model.proofs.Levels.{dominates-decides}
+use Rattle.security.proofs.Granted.{granted-get, granted-change}
 use Rattle.security.proofs.Form.{no-modes}
 use Rattle.security.proofs.Pairs.{none-held, PairsFor, Fewer, pairs-idle, pairs-free, pairs-get, pairs-fewer}
 
@@ -95,22 +96,18 @@ module _ (m : Monitor) (W : WellFormed m) (S : Secure m) where
       (λ y w. S .simple s o y (held-remove x y _ (fits s o) w))
 
   pub changed-secure : (q : Request) → checks q m ≡ Granted → SecureObject (m .subjects) (changed q (object m (target q)))
-  unfolding checks changed
+  unfolding changed
   changed-secure (Get s o x) e =
-      let a = passed _ NotEnrolled _ refl e in
-      let b = passed _ NotLive _ refl (a .1) in
-      let right = passed _ NoRight _ refl (b .1) in
-      let label = passed _ NoLabel _ refl (right .1) in
-      let simple = passed _ SimpleBroken _ refl (label .1) in
+      let g = granted-get m s o x e in
       held-secure (m .subjects) (object m o) s _ (object-secure m S o)
       (λ y w. held-add x y _ (fits s o) w
-      (λ q. ap (λ (z : Mode). has z (rightsOf (object m o) s)) q ∙ right .0)
+      (λ q. ap (λ (z : Mode). has z (rightsOf (object m o) s)) q ∙ g .right)
       (λ q. S .discretionary s o y q))
       (λ y w n. held-add x y _ (fits s o) w
-      (λ q. implies-out _ _ (label .0) (sym (ap needsLabel q) ∙ n))
+      (λ q. implies-out _ _ (g .labelled) (sym (ap needsLabel q) ∙ n))
       (λ q. S .labelled s o y q n))
       (λ y w n. held-add x y _ (fits s o) w
-      (λ q. dominates-decides _ _ .0 (implies-out _ _ (simple .0) (sym (ap observes q) ∙ n)))
+      (λ q. dominates-decides _ _ .0 (implies-out _ _ (g .simple) (sym (ap observes q) ∙ n)))
       (λ q. S .simple s o y q n))
   changed-secure (Release s o x) e = less-secure s o x
   changed-secure (Give s t o x) e =
@@ -137,14 +134,10 @@ module _ (m : Monitor) (W : WellFormed m) (S : Secure m) where
   changed-secure (Create s o w) e = idle-secure (m .subjects) (created s w) no-modes
   changed-secure (Delete s o) e = idle-secure (m .subjects) noObject no-modes
   changed-secure (ChangeLevel s o v) e =
-      let a = passed _ NotEnrolled _ refl e in
-      let b = passed _ NotLive _ refl (a .1) in
-      let c = passed _ NoRight _ refl (b .1) in
-      let d = passed _ SimpleBroken _ refl (c .1) in
       record {
         discretionary = λ j. S .discretionary j o;
         labelled = λ j y w n. refl;
-        simple = simple-out (m .subjects) (withLabel (object m o) (Present v)) (W .objects-formed o .held-length) (d .0);
+        simple = simple-out (m .subjects) (withLabel (object m o) (Present v)) (W .objects-formed o .held-length) (granted-change m s o v e .simple);
       }
 
 -- ---- star: a property of pairs
@@ -229,24 +222,13 @@ star-fewer q m W T f = pairs-fewer needsLabel labelOf Flows flows-only flows-see
 
 pub changed-star : (q : Request) (m : Monitor) → WellFormed m → Secure m → ((o : ℕ) → length (objectAt (afterwards q m .objects) o .held) ≡ 16)
     → checks q m ≡ Granted → (j : ℕ) → StarFor j (afterwards q m .objects)
-unfolding checks StarFor
+unfolding StarFor
 changed-star (Get s o x) m W S n e =
-    let a = passed _ NotEnrolled _ refl e in
-    let b = passed _ NotLive _ refl (a .1) in
-    let c = passed _ NoRight _ refl (b .1) in
-    let d = passed _ NoLabel _ refl (c .1) in
-    let g = passed _ SimpleBroken _ refl (d .1) in
-    let k = passed _ StarBroken _ refl (g .1) in
-    star-get s o x m W (S .star) (k .0)
+    star-get s o x m W (S .star) (granted-get m s o x e .star)
 changed-star (Release s o x) m W S n e = star-fewer (Release s o x) m W (S .star) tt
 changed-star (Give s t o x) m W S n e = star-fewer (Give s t o x) m W (S .star) tt
 changed-star (Rescind s t o x) m W S n e = star-fewer (Rescind s t o x) m W (S .star) tt
 changed-star (Create s o w) m W S n e = star-fewer (Create s o w) m W (S .star) tt
 changed-star (Delete s o) m W S n e = star-fewer (Delete s o) m W (S .star) tt
 changed-star (ChangeLevel s o v) m W S n e =
-    let a = passed _ NotEnrolled _ refl e in
-    let b = passed _ NotLive _ refl (a .1) in
-    let c = passed _ NoRight _ refl (b .1) in
-    let d = passed _ SimpleBroken _ refl (c .1) in
-    let g = passed _ StarBroken _ refl (d .1) in
-    star-all-out _ n (g .0)
+    star-all-out _ n (granted-change m s o v e .star)

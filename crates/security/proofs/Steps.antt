@@ -2,64 +2,40 @@
 -- Assumes nothing.
 use Prim.Native.Nat.{ℕ}
 use mathlib.Core.Path.{_≡_, refl, sym, ap, _∙_, subst}
-use mathlib.Core.Logic.{_⊎_, inl, inr, ⊎-elim}
-use mathlib.Core.Bool.{Bool, true, false, cond}
+use mathlib.Core.Logic.{_⊎_, ⊎-elim}
+use mathlib.Core.Bool.{true, cond}
 use mathlib.Core.List.{List, [], _∷_}
 use lib.ListN.{length-set, length-replicate}
 use Rattle.model.specs.declared.Subject.{Subject}
 use Rattle.model.specs.declared.Object.{Object}
 use Rattle.model.specs.declared.Monitor.{Monitor}
 use Rattle.model.specs.declared.Request.{Request}
-use Rattle.model.specs.declared.Request.the-variants.{Get, Release, Give, Rescind, Create, Delete, ChangeLevel}
 use Rattle.model.specs.declared.Decoded.{Decoded}
 use Rattle.model.specs.declared.Decoded.the-variants.{Malformed, Says}
-use Rattle.model.specs.declared.Decision.{Decision}
-use Rattle.model.specs.declared.Decision.the-variants.{Granted, Already, NotEnrolled, NotLive, AlreadyLive, NoRight, NoLabel, SimpleBroken, StarBroken}
+use Rattle.model.specs.declared.Decision.the-variants.{Granted, Already}
 use Rattle.model.specs.declared.Response.{Response}
-use Rattle.model.specs.Tests.{unless}
 use Rattle.model.specs.State.{noObject, objectAt, object, heldBy, fresh, WellFormedObject}
 use Rattle.model.specs.Properties.{Secure}
 use Rattle.model.specs.Decisions.{refuses}
 use Rattle.model.specs.Requests.{decode, InRange}
-use Rattle.model.specs.Rules.{target, already, afterwards, checks, answer, step}
+use Rattle.model.specs.Rules.{target, already, afterwards, checkList, checks, answer, step}
 use Rattle.model.specs.Runs.{carryOut, respond, after}
 use Rattle.model.proofs.Tests.{replicate-at, cond-true, cond-false}
 use Rattle.model.proofs.Requests.{decode-range}
 use Rattle.model.proofs.After.{objects-after}
+use Rattle.model.proofs.Checks.{granted-or-refusal}
 use Rattle.security.specs.Sound.{Sound}
 use Rattle.security.specs.Tables.{TableFits}
+use Rattle.security.proofs.Granted.{only-refusals}
 use Rattle.security.proofs.Form.{no-modes, no-object-formed, changed-formed}
 use Rattle.security.proofs.Secure.{SecureObject, object-secure, idle-secure, changed-secure, StarFor, star-of, star-idle, changed-star}
 
 -- ---- the two cases of a step
 
--- a list of checks answers Granted or a refusal
-Verdict : Decision → Type 0
-Verdict d = (d ≡ Granted) ⊎ (refuses d ≡ true)
-
-verdict-unless : (b : Bool) (d v : Decision) → refuses d ≡ true → Verdict v → Verdict (unless b d v)
-unfolding Verdict unless
-verdict-unless true d v r h = h
-verdict-unless false d v r h = inr r
-
-verdict : (q : Request) (m : Monitor) → Verdict (checks q m)
-unfolding checks Verdict
-verdict (Get s o x) m =
-    verdict-unless _ NotEnrolled _ refl (verdict-unless _ NotLive _ refl (verdict-unless _ NoRight _ refl
-    (verdict-unless _ NoLabel _ refl (verdict-unless _ SimpleBroken _ refl (verdict-unless _ StarBroken _ refl (inl refl))))))
-verdict (Release s o x) m = verdict-unless _ NotEnrolled _ refl (verdict-unless _ NotLive _ refl (inl refl))
-verdict (Give s t o x) m = verdict-unless _ NotEnrolled _ refl (verdict-unless _ NotLive _ refl (verdict-unless _ NoRight _ refl (inl refl)))
-verdict (Rescind s t o x) m = verdict-unless _ NotEnrolled _ refl (verdict-unless _ NotLive _ refl (verdict-unless _ NoRight _ refl (inl refl)))
-verdict (Create s o e) m = verdict-unless _ NotEnrolled _ refl (verdict-unless _ AlreadyLive _ refl (inl refl))
-verdict (Delete s o) m = verdict-unless _ NotEnrolled _ refl (verdict-unless _ NotLive _ refl (verdict-unless _ NoRight _ refl (inl refl)))
-verdict (ChangeLevel s o l) m =
-    verdict-unless _ NotEnrolled _ refl (verdict-unless _ NotLive _ refl (verdict-unless _ NoRight _ refl
-    (verdict-unless _ SimpleBroken _ refl (verdict-unless _ StarBroken _ refl (inl refl)))))
-
 -- every request is granted or refused
 pub granted-or-refused : {P : Type 0} (q : Request) (m : Monitor) → (checks q m ≡ Granted → P) → (refuses (checks q m) ≡ true → P) → P
-unfolding Verdict
-granted-or-refused q m f g = ⊎-elim f g (verdict q m)
+unfolding checks
+granted-or-refused q m f g = ⊎-elim f g (granted-or-refusal (checkList q m) (only-refusals q m))
 
 -- the answer of a granted one, and of a refused one
 pub step-granted : (q : Request) (m : Monitor) → checks q m ≡ Granted

@@ -118,7 +118,7 @@ module _ (m : Monitor) (S : Sound m) where
 
   -- and it is accepted
   pub image-accepted : imageChecks (imageOf m) ≡ Granted
-  unfolding imageChecks
+  unfolding imageChecks stateChecks
   image-accepted =
       pass _ WrongLength _ (eq-eqb (length (imageOf m)) imageSize size) ∙ pass _ StrayBits _ image-form ∙ ap stateChecks image-read-back ∙ state-passes m S
 
