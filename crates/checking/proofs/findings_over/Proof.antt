@@ -1,59 +1,68 @@
--- After o turns the findings are those of the objects below o.
--- Assumes nothing.
 use Prim.Native.Nat.{ℕ, _-_, _≤_}
 use native.Mathlib.Omega.{arith}
 use mathlib.Core.Path.{_≡_, refl, ap, ap₂, _∙_}
-use borrow.Author.Needs.{needs}
-use lib.ListN.{length, take}
+use lib.ListN.{take}
 use lib.Seq.{take-all}
+use Rattle.model.specs.State.{noObject}
+use Rattle.unit.specs.Rows.{objectIn, subjectsIn, objectsIn}
+use Rattle.unit.proofs.Tabulated.{tabulate-length}
 use Rattle.checking.specs.Checks.{both, ofObject, ofObjects}
 use Rattle.checking.proofs.Passes.{along-more}
+use borrow.Author.Needs.{needs}
 use Rattle.checking.proofs.findings_over.Statement.{statement}
 use Rattle.checking.proofs.findings_over.Tie as tie
+use Rattle.checking.proofs.findings_over.Reads as reads
+use Rattle.checking.proofs.findings_over.Lts as lts
+use Rattle.checking.proofs.both.Reads as both-reads
+use Rattle.checking.proofs.findings_of.Reads as findings-of-reads
 
 abbrev Inv-loop : tie.InvT-loop
-Inv-loop subjects objects found₀ o₀ found o = (o ≤ 64) × (length objects ≡ 64) × (found ≡ ofObjects subjects (take o objects))
+Inv-loop unit found₀ o₀ found o = (o ≤ 64) × (found ≡ ofObjects (subjectsIn unit) (take o (objectsIn unit)))
 
 abbrev μ-loop : tie.MeasureT-loop
-μ-loop subjects objects found₀ o₀ found o = 64 - o
+μ-loop unit found₀ o₀ found o = 64 - o
 
+-- src/lib.rt:110:5
 loop-holds : tie.Need-loop-holds Inv-loop μ-loop
-loop-holds c = (omega arith, omega arith, refl)
+loop-holds c = (omega arith, refl)
 
-mul-findings-of : tie.Need-mul-findings-of Inv-loop μ-loop
-mul-findings-of c = search needs
+-- src/lib.rt:111:47
+cast-findings-of : tie.Need-cast-findings-of Inv-loop μ-loop
+cast-findings-of c = search needs
 
-array-copy-out-findings-of : tie.Need-array-copy-out-findings-of Inv-loop μ-loop
-array-copy-out-findings-of c = search needs
-
+-- src/lib.rt:111:29
 findings-of-requires : tie.Need-findings-of-requires Inv-loop μ-loop
 findings-of-requires c κs = search needs
 
+-- src/lib.rt:111:9
 both-requires : tie.Need-both-requires Inv-loop μ-loop
 both-requires c κs = search needs
 
+-- src/lib.rt:112:9
 add-o : tie.Need-add-o Inv-loop μ-loop
 add-o c = search needs
 
+-- src/lib.rt:110:5
 loop-less : tie.Need-loop-less Inv-loop μ-loop
 loop-less c = search needs
 
+-- src/lib.rt:110:5
 loop-again : tie.Need-loop-again Inv-loop μ-loop
-loop-again c =
-    let loop = c .before .before .before .before .loop in
-    let a = c .before .before .before .before .before .args in (
-      omega arith,
-      loop .inv .1,
-      c .both .ensures ∙ ap₂ both (loop .inv .2) (c .before .findings-of .ensures)
-          ∙ along-more (ofObject (a .subjects)) (a .t2) (loop .o) _ (omega (arith, loop .inv .1)),
+loop-again c = 
+    let loop = c .before .before .before .loop in
+    let u = c .before .before .before .before .args .unit .now in (
+      omega (arith, c .before .before .loop-test .taken),
+      c .both .ensures ∙ ap₂ both (loop .inv .1) (c .before .findings-of .ensures)
+          ∙ along-more (ofObject (subjectsIn u)) (objectsIn u) (loop .o) noObject (omega (arith, c .before .before .loop-test .taken, tabulate-length 64 (objectIn u))),
     )
 
+-- src/lib.rt:99:1
 returns : tie.Need-returns Inv-loop μ-loop
-returns c =
+returns c = 
     let loop = c .before .loop in
-    let a = c .before .before .args in
-    let end : loop .o ≡ 64 = omega arith in
-    loop .inv .2 ∙ ap (λ (o : ℕ). ofObjects (a .subjects) (take o (a .t2))) end ∙ ap (ofObjects (a .subjects)) (take-all 64 (a .t2) (omega (arith, loop .inv .1)))
+    let u = c .before .before .args .unit .now in
+    let end : loop .o ≡ 64 = omega (arith, c .loop-test .left, loop .inv .0) in
+    loop .inv .1 ∙ ap (λ (o : ℕ). ofObjects (subjectsIn u) (take o (objectsIn u))) end ∙ ap (ofObjects (subjectsIn u)) (take-all 64 (objectsIn u) (omega (arith, tabulate-length 64 (objectIn u))))
 
 pub findings-over-spec : {M : Type 1} → statement M
 findings-over-spec =
@@ -62,8 +71,7 @@ findings-over-spec =
     Inv-loop
     μ-loop
     loop-holds
-    mul-findings-of
-    array-copy-out-findings-of
+    cast-findings-of
     findings-of-requires
     both-requires
     add-o
