@@ -88,7 +88,12 @@ fn findings_of(unit: &[[u8; 16]], o: u8) -> Findings
     let mut i: usize = 0;
     while i < Monitor::SUBJECTS {
         let s = i as u8;
-        let here = findings_at(clearance_of(unit, s), label, rights_of(unit, o, s), held_by(unit, o, s));
+        let here = findings_at(
+            clearance_of(unit, s),
+            label,
+            rights_of(unit, o, s),
+            held_by(unit, o, s),
+        );
         found = both(found, here);
         i += 1;
     }

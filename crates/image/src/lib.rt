@@ -68,7 +68,11 @@ pub fn open(unit: &mut [[u8; 16]], image: &[u8]) -> Decision
     let subjects = table.subjects;
     begin(unit, subjects);
     let formed = read_objects(unit, &image[Monitor::TABLE_BYTES..]);
-    let decision = check(table.formed & formed, Decision::StrayBits, state_checks(unit));
+    let decision = check(
+        table.formed & formed,
+        Decision::StrayBits,
+        state_checks(unit),
+    );
     if refuses(decision) {
         begin(unit, nobody());
     }

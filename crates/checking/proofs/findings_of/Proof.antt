@@ -1,3 +1,5 @@
+-- `checking::findings_of` meets its contract.
+-- Assumes nothing.
 use Prim.Native.Nat.{ℕ, _+_, _-_, _≤_}
 use native.Mathlib.Omega.{arith}
 use mathlib.Core.Path.{_≡_, ap, ap₂, _∙_}
@@ -14,18 +16,6 @@ use Rattle.checking.proofs.Passes.{below, both-unbroken, below-more, bo
 use borrow.Author.Needs.{needs}
 use Rattle.checking.proofs.findings_of.Statement.{statement}
 use Rattle.checking.proofs.findings_of.Tie as tie
-use Rattle.checking.proofs.findings_of.Reads as reads
-use Rattle.checking.proofs.findings_of.Lts as lts
-use Rattle.checking.proofs.both.Reads as both-reads
-use Rattle.checking.proofs.findings_at.Reads as findings-at-reads
-use Rattle.checking.proofs.is_known.Reads as is-known-reads
-use Rattle.labels.proofs.implies.Reads as implies-reads
-use Rattle.unit.proofs.clearance_of.Reads as clearance-of-reads
-use Rattle.unit.proofs.held_by.Reads as held-by-reads
-use Rattle.unit.proofs.is_live.Reads as is-live-reads
-use Rattle.unit.proofs.label_of.Reads as label-of-reads
-use Rattle.unit.proofs.owner_of.Reads as owner-of-reads
-use Rattle.unit.proofs.rights_of.Reads as rights-of-reads
 
 -- the findings before the loop
 abbrev begins : Bool → Findings
@@ -40,65 +30,50 @@ Inv-loop unit o label owned found₀ i₀ found i = (i ≤ 16) × (found ≡ bot
 abbrev μ-loop : tie.MeasureT-loop
 μ-loop unit o label owned found₀ i₀ found i = 16 - i
 
--- src/lib.rt:80:9
 label-of-requires : tie.Need-label-of-requires Inv-loop μ-loop
 label-of-requires c κs = search needs
 
--- src/lib.rt:81:25
 is-live-requires : tie.Need-is-live-requires Inv-loop μ-loop
 is-live-requires c κs = search needs
 
--- src/lib.rt:81:58
 owner-of-requires : tie.Need-owner-of-requires Inv-loop μ-loop
 owner-of-requires c κs = search needs
 
--- src/lib.rt:81:43
 is-known-requires : tie.Need-is-known-requires Inv-loop μ-loop
 is-known-requires c κs = search needs
 
--- src/lib.rt:81:9
 implies-requires : tie.Need-implies-requires Inv-loop μ-loop
 implies-requires c κs = search needs
 
--- src/lib.rt:89:5
 loop-holds : tie.Need-loop-holds Inv-loop μ-loop
 loop-holds c = (omega arith, both-unbroken _)
 
--- src/lib.rt:90:17
 cast-s : tie.Need-cast-s Inv-loop μ-loop
 cast-s c = search needs
 
--- src/lib.rt:91:32
 clearance-of-requires : tie.Need-clearance-of-requires Inv-loop μ-loop
 clearance-of-requires c κs = search needs
 
--- src/lib.rt:91:62
 rights-of-requires : tie.Need-rights-of-requires Inv-loop μ-loop
 rights-of-requires c κs = search needs
 
--- src/lib.rt:91:85
 held-by-requires : tie.Need-held-by-requires Inv-loop μ-loop
 held-by-requires c κs = search needs
 
--- src/lib.rt:91:13
 findings-at-requires : tie.Need-findings-at-requires Inv-loop μ-loop
 findings-at-requires c κs = search needs
 
--- src/lib.rt:92:9
 both-requires : tie.Need-both-requires Inv-loop μ-loop
 both-requires c κs = search needs
 
--- src/lib.rt:93:9
 add-i : tie.Need-add-i Inv-loop μ-loop
 add-i c = search needs
 
--- src/lib.rt:89:5
 loop-less : tie.Need-loop-less Inv-loop μ-loop
 loop-less c = search needs
 
--- src/lib.rt:89:5
 loop-again : tie.Need-loop-again Inv-loop μ-loop
-loop-again c = 
+loop-again c =
     let loop = c .before .before .before .before .before .before .loop in
     let start = c .before .before .before .before .before .before .before .before .before .before .before .before in
     let f = atSubject (start .args .unit .now) (start .args .o) in
@@ -108,10 +83,9 @@ loop-again c =
     c .both .ensures ∙ ap₂ both (loop .inv .1) here ∙ both-assoc first (below (loop .i) f) (f (loop .i)) ∙ ap (both first) (below-more (loop .i) f) in
     (omega (arith, c .before .before .before .before .before .loop-test .taken), more)
 
--- src/lib.rt:75:1
 returns : tie.Need-returns Inv-loop μ-loop
 unfolding onlyEnrolled withinMatrix heldLabelled simpleAll
-returns c =     let loop = c .before .loop in
+returns c = let loop = c .before .loop in
     let start = c .before .before .before .before .before .before .before in
     let u = start .args .unit .now in
     let f = atSubject u (start .args .o) in

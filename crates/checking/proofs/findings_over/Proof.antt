@@ -1,3 +1,5 @@
+-- `checking::findings_over` meets its contract.
+-- Assumes nothing.
 use Prim.Native.Nat.{ℕ, _-_, _≤_}
 use native.Mathlib.Omega.{arith}
 use mathlib.Core.Path.{_≡_, refl, ap, ap₂, _∙_}
@@ -11,10 +13,6 @@ use Rattle.checking.proofs.Passes.{along-more}
 use borrow.Author.Needs.{needs}
 use Rattle.checking.proofs.findings_over.Statement.{statement}
 use Rattle.checking.proofs.findings_over.Tie as tie
-use Rattle.checking.proofs.findings_over.Reads as reads
-use Rattle.checking.proofs.findings_over.Lts as lts
-use Rattle.checking.proofs.both.Reads as both-reads
-use Rattle.checking.proofs.findings_of.Reads as findings-of-reads
 
 abbrev Inv-loop : tie.InvT-loop
 Inv-loop unit found₀ o₀ found o = (o ≤ 64) × (found ≡ ofObjects (subjectsIn unit) (take o (objectsIn unit)))
@@ -22,33 +20,26 @@ Inv-loop unit found₀ o₀ found o = (o ≤ 64) × (found ≡ ofObjects (subjec
 abbrev μ-loop : tie.MeasureT-loop
 μ-loop unit found₀ o₀ found o = 64 - o
 
--- src/lib.rt:110:5
 loop-holds : tie.Need-loop-holds Inv-loop μ-loop
 loop-holds c = (omega arith, refl)
 
--- src/lib.rt:111:47
 cast-findings-of : tie.Need-cast-findings-of Inv-loop μ-loop
 cast-findings-of c = search needs
 
--- src/lib.rt:111:29
 findings-of-requires : tie.Need-findings-of-requires Inv-loop μ-loop
 findings-of-requires c κs = search needs
 
--- src/lib.rt:111:9
 both-requires : tie.Need-both-requires Inv-loop μ-loop
 both-requires c κs = search needs
 
--- src/lib.rt:112:9
 add-o : tie.Need-add-o Inv-loop μ-loop
 add-o c = search needs
 
--- src/lib.rt:110:5
 loop-less : tie.Need-loop-less Inv-loop μ-loop
 loop-less c = search needs
 
--- src/lib.rt:110:5
 loop-again : tie.Need-loop-again Inv-loop μ-loop
-loop-again c = 
+loop-again c =
     let loop = c .before .before .before .loop in
     let u = c .before .before .before .before .args .unit .now in (
       omega (arith, c .before .before .loop-test .taken),
@@ -56,9 +47,8 @@ loop-again c =
           ∙ along-more (ofObject (subjectsIn u)) (objectsIn u) (loop .o) noObject (omega (arith, c .before .before .loop-test .taken, tabulate-length 64 (objectIn u))),
     )
 
--- src/lib.rt:99:1
 returns : tie.Need-returns Inv-loop μ-loop
-returns c = 
+returns c =
     let loop = c .before .loop in
     let u = c .before .before .args .unit .now in
     let end : loop .o ≡ 64 = omega (arith, c .loop-test .left, loop .inv .0) in

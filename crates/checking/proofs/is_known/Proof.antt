@@ -1,3 +1,5 @@
+-- `checking::is_known` meets its contract.
+-- Assumes nothing.
 use mathlib.Core.Path.{sym, ap}
 use native.Mathlib.Omega.{arith}
 use Rattle.model.specs.declared.Subject.{Subject}
@@ -9,21 +11,15 @@ use Rattle.unit.proofs.Tabulated.{tabulate-length}
 use borrow.Author.Needs.{needs}
 use Rattle.checking.proofs.is_known.Statement.{statement}
 use Rattle.checking.proofs.is_known.Tie as tie
-use Rattle.checking.proofs.is_known.Reads as reads
-use Rattle.checking.proofs.is_known.Lts as lts
-use Rattle.unit.proofs.is_enrolled.Reads as is-enrolled-reads
 
--- src/lib.rt:69:9
 is-enrolled-requires : tie.Need-is-enrolled-requires
 is-enrolled-requires c κs = search needs
 
--- src/lib.rt:69:9
 returns : tie.Need-returns
 returns c = search needs
 
--- src/lib.rt:64:1
 returns-2 : tie.Need-returns-2
-returns-2 c = 
+returns-2 c =
     let a = c .before .args in
     ap (λ (x : Subject). present (x .clearance)) (sym (beyond (subjectsIn (a .unit .now)) (a .s) nobody (omega (arith, c .if1 .left, tabulate-length 16 (subjectIn (a .unit .now))))))
 

@@ -1,3 +1,5 @@
+-- `checking::state_checks` meets its contract.
+-- Assumes nothing.
 use mathlib.Core.Path.{_≡_, refl, ap, ap₂, _∙_}
 use mathlib.Core.Bool.{Bool, true, false, not}
 use Rattle.model.specs.declared.Decision.{Decision}
@@ -9,11 +11,6 @@ use Rattle.checking.specs.declared.Findings.{Findings}
 use borrow.Author.Needs.{needs}
 use Rattle.checking.proofs.state_checks.Statement.{statement}
 use Rattle.checking.proofs.state_checks.Tie as tie
-use Rattle.checking.proofs.state_checks.Reads as reads
-use Rattle.checking.proofs.state_checks.Lts as lts
-use Rattle.checking.proofs.findings_over.Reads as findings-over-reads
-use Rattle.labels.proofs.check.Reads as check-reads
-use Rattle.star.proofs.breaks_star.Reads as breaks-star-reads
 
 not-not : (b : Bool) → not (not b) ≡ b
 not-not true = refl
@@ -23,38 +20,30 @@ not-not false = refl
 answers : (d : Decision) {r k v : Decision} {a b : Bool} → a ≡ b → k ≡ v → r ≡ unless a d k → r ≡ unless b d v
 answers d p q e = e ∙ ap₂ (λ (x : Bool) (y : Decision). unless x d y) p q
 
--- src/lib.rt:122:9
 findings-over-requires : tie.Need-findings-over-requires
 findings-over-requires c κs = search needs
 
--- src/lib.rt:123:22
 breaks-star-requires : tie.Need-breaks-star-requires
 breaks-star-requires c κs = search needs
 
--- src/lib.rt:124:9
 check-requires : tie.Need-check-requires
 check-requires c κs = search needs
 
--- src/lib.rt:125:9
 check-requires-2 : tie.Need-check-requires-2
 check-requires-2 c κs = search needs
 
--- src/lib.rt:126:9
 check-requires-3 : tie.Need-check-requires-3
 check-requires-3 c κs = search needs
 
--- src/lib.rt:127:9
 check-requires-4 : tie.Need-check-requires-4
 check-requires-4 c κs = search needs
 
--- src/lib.rt:128:5
 check-requires-5 : tie.Need-check-requires-5
 check-requires-5 c κs = search needs
 
--- src/lib.rt:118:1
 returns : tie.Need-returns
 unfolding stateChecks
-returns c =     let found = c .before .before .before .before .before .before .findings-over .ensures in
+returns c = let found = c .before .before .before .before .before .before .findings-over .ensures in
     let star = ap not (c .before .before .before .before .before .breaks-star .ensures) ∙ not-not _ ∙ between-all _ in
     let nine = answers StarBroken star refl (c .before .before .before .before .check .ensures) in
     let eight = answers SimpleBroken (ap (λ (f : Findings). f .simple) found) nine (c .before .before .before .check2 .ensures) in

@@ -1,103 +1,93 @@
+-- `image::open` meets its contract.
+-- Assumes nothing.
+use mathlib.Core.Path.{refl, sym, ap, _∙_}
+use mathlib.Core.List.{List}
+use Rattle.model.specs.declared.Subject.{Subject}
+use Rattle.model.specs.State.{fresh}
+use Rattle.unit.specs.Stored.{unitOf}
+use Rattle.model.specs.declared.Decision.the-variants.{WrongLength}
+use Rattle.model.specs.Reading.{imageChecks, readImage}
+use Rattle.image.proofs.Answers.{refused, accepted, wrong-length, image-rows, image-answer}
 use borrow.Author.Needs.{needs}
 use Rattle.image.proofs.open.Statement.{statement}
 use Rattle.image.proofs.open.Tie as tie
-use Rattle.image.proofs.open.Reads as reads
-use Rattle.image.proofs.open.Lts as lts
-use Rattle.checking.proofs.state_checks.Reads as state-checks-reads
-use Rattle.image.proofs.begin.Reads as begin-reads
-use Rattle.image.proofs.nobody.Reads as nobody-reads
-use Rattle.image_records.proofs.read_objects.Reads as read-objects-reads
-use Rattle.image_records.proofs.read_subjects.Reads as read-subjects-reads
-use Rattle.labels.proofs.check.Reads as check-reads
-use Rattle.labels.proofs.refuses.Reads as refuses-reads
 
--- src/lib.rt:64:21
 nobody-requires : tie.Need-nobody-requires
 nobody-requires c κs = search needs
 
--- src/lib.rt:64:9
 begin-requires : tie.Need-begin-requires
 begin-requires c κs = search needs
 
--- src/lib.rt:65:9
 same-length : tie.Need-same-length
 same-length c = search needs
 
--- src/lib.rt:65:9
 returns : tie.Need-returns
-returns c = ?
+unfolding readImage imageChecks
+returns c = let s = c .before .before .before .before .before .before .args .image .now in
+    refused _ WrongLength _ _ (wrong-length s 1274 _ (c .before .before .before .before .if1 .taken)) refl (c .before .begin .ensures ∙ ap (λ (l : List Subject). unitOf (fresh l)) (c .before .before .nobody .ensures))
 
--- src/lib.rt:67:31
 sub-read-subjects : tie.Need-sub-read-subjects
 sub-read-subjects c = search needs
 
--- src/lib.rt:67:31
 part-read-subjects-start : tie.Need-part-read-subjects-start
 part-read-subjects-start c = search needs
 
--- src/lib.rt:67:31
 part-read-subjects-end : tie.Need-part-read-subjects-end
 part-read-subjects-end c = search needs
 
--- src/lib.rt:67:9
 read-subjects-requires : tie.Need-read-subjects-requires
 read-subjects-requires c κs = search needs
 
--- src/lib.rt:69:5
 begin-requires-2 : tie.Need-begin-requires-2
 begin-requires-2 c κs = search needs
 
--- src/lib.rt:70:37
 sub-read-objects : tie.Need-sub-read-objects
 sub-read-objects c = search needs
 
--- src/lib.rt:70:37
 part-read-objects-start : tie.Need-part-read-objects-start
 part-read-objects-start c = search needs
 
--- src/lib.rt:70:37
 part-read-objects-end : tie.Need-part-read-objects-end
 part-read-objects-end c = search needs
 
--- src/lib.rt:70:9
 read-objects-requires : tie.Need-read-objects-requires
 read-objects-requires c κs = search needs
 
--- src/lib.rt:71:70
 state-checks-requires : tie.Need-state-checks-requires
 state-checks-requires c κs = search needs
 
--- src/lib.rt:71:9
 check-requires : tie.Need-check-requires
 check-requires c κs = search needs
 
--- src/lib.rt:72:8
 refuses-requires : tie.Need-refuses-requires
 refuses-requires c κs = search needs
 
--- src/lib.rt:73:21
 nobody-requires-2 : tie.Need-nobody-requires-2
 nobody-requires-2 c κs = search needs
 
--- src/lib.rt:73:9
 begin-requires-3 : tie.Need-begin-requires-3
 begin-requires-3 c κs = search needs
 
--- src/lib.rt:59:1
 same-length-2 : tie.Need-same-length-2
 same-length-2 c = search needs
 
--- src/lib.rt:59:1
 returns-2 : tie.Need-returns-2
-returns-2 c = ?
+unfolding readImage
+returns-2 c = let s = c .before .before .before .before .before .before .before .before .before .before .before .before .before .before .before .before .before .before .before .before .before .before .args .image .now in
+    let O = c .before .before .before .before .before .before .before .before .before .before .before .read-objects .ensures in
+    let answer = image-answer s (c .before .before .before .before .before .before .before .before .before .before .before .before .before .before .before .before .before .before .before .before .if1 .left) _ (c .before .before .before .before .before .before .before .before .before .before .before .before .before .before .before .before .before .before .read-subjects .ensures) _ _ _ (c .before .before .before .before .before .before .before .before .before .before .before .before .before .before .before .begin2 .ensures) (O .0) (O .1 .0) (O .1 .1) _ _ (c .before .before .before .before .before .before .before .state-checks .ensures) (c .before .before .before .before .before .before .check .ensures) in
+    refused _ _ _ _ answer (sym (c .before .before .before .before .before .refuses .ensures) ∙ c .before .before .before .before .if2 .taken) (c .before .begin3 .ensures ∙ ap (λ (l : List Subject). unitOf (fresh l)) (c .before .before .nobody2 .ensures))
 
--- src/lib.rt:59:1
 same-length-3 : tie.Need-same-length-3
 same-length-3 c = search needs
 
--- src/lib.rt:59:1
 returns-3 : tie.Need-returns-3
-returns-3 c = ?
+unfolding readImage
+returns-3 c = let s = c .before .before .before .before .before .before .before .before .before .before .before .before .before .before .before .before .before .before .args .image .now in
+    let O = c .before .before .before .before .before .before .before .read-objects .ensures in
+    let size = c .before .before .before .before .before .before .before .before .before .before .before .before .before .before .before .before .if1 .left in
+    let answer = image-answer s size _ (c .before .before .before .before .before .before .before .before .before .before .before .before .before .before .read-subjects .ensures) _ _ _ (c .before .before .before .before .before .before .before .before .before .before .before .begin2 .ensures) (O .0) (O .1 .0) (O .1 .1) _ _ (c .before .before .before .state-checks .ensures) (c .before .before .check .ensures) in
+    accepted _ _ _ _ answer (sym (c .before .refuses .ensures) ∙ c .if2 .left) (image-rows s size _ (c .before .before .before .before .before .before .before .before .before .before .before .before .before .before .read-subjects .ensures) _ _ _ (c .before .before .before .before .before .before .before .before .before .before .before .begin2 .ensures) (O .0) (O .1 .0) (O .1 .1))
 
 pub open-spec : {M : Type 1} → statement M
 open-spec =

@@ -1,30 +1,30 @@
+-- `image::read_table` meets its contract.
+-- Assumes nothing.
+use mathlib.Core.Path.{ap, _∙_}
+use Rattle.model.specs.Beginnings.{table}
+use Rattle.unit.specs.Rows.{stateIn}
+use Rattle.image.proofs.Sizes.{begun-says}
 use borrow.Author.Needs.{needs}
 use Rattle.image.proofs.read_table.Statement.{statement}
 use Rattle.image.proofs.read_table.Tie as tie
-use Rattle.image.proofs.read_table.Reads as reads
-use Rattle.image.proofs.read_table.Lts as lts
-use Rattle.image.proofs.start.Reads as start-reads
-use Rattle.unit.proofs.monitor_in.Reads as monitor-in-reads
 
--- src/lib.rt:83:26
 slice-aggregate-start : tie.Need-slice-aggregate-start
 slice-aggregate-start c = search needs
 
--- src/lib.rt:83:9
 start-requires : tie.Need-start-requires
 start-requires c κs = search needs
 
--- src/lib.rt:86:29
 slice-aggregate-monitor-in : tie.Need-slice-aggregate-monitor-in
 slice-aggregate-monitor-in c = search needs
 
--- src/lib.rt:86:18
 monitor-in-requires : tie.Need-monitor-in-requires
 monitor-in-requires c κs = search needs
 
--- src/lib.rt:79:1
 returns : tie.Need-returns
-returns c = ?
+returns c =
+    let d = c .before .before .before .start .ensures .0 in
+    let m = c .monitor-in .ensures ∙ ap stateIn (c .before .before .before .start .ensures .1) ∙ begun-says (table (c .before .before .before .before .before .before .args .table .now)) in
+    λ i. record { decision = d i; monitor = m i }
 
 pub read-table-spec : {M : Type 1} → statement M
 read-table-spec =

@@ -1,59 +1,68 @@
+-- `image::start` meets its contract.
+-- Assumes nothing.
+use mathlib.Core.Path.{refl, sym, ap, _∙_}
+use mathlib.Core.List.{List}
+use Rattle.model.specs.declared.Subject.{Subject}
+use Rattle.model.specs.State.{fresh}
+use Rattle.unit.specs.Stored.{unitOf}
+use Rattle.model.specs.declared.Decision.the-variants.{Granted, WrongLength, StrayBits}
+use Rattle.model.specs.Reading.{tableChecks, readTable}
+use Rattle.model.proofs.Tests.{pass, stop, not-on, not-off}
+use Rattle.image_records.specs.declared.TableRead.{TableRead}
+use Rattle.image_records.proofs.Lengths.{table-read}
+use Rattle.image.proofs.Answers.{refused, accepted, wrong-length, right-length}
 use borrow.Author.Needs.{needs}
 use Rattle.image.proofs.start.Statement.{statement}
 use Rattle.image.proofs.start.Tie as tie
-use Rattle.image.proofs.start.Reads as reads
-use Rattle.image.proofs.start.Lts as lts
-use Rattle.image.proofs.begin.Reads as begin-reads
-use Rattle.image.proofs.nobody.Reads as nobody-reads
-use Rattle.image_records.proofs.read_subjects.Reads as read-subjects-reads
 
--- src/lib.rt:45:21
 nobody-requires : tie.Need-nobody-requires
 nobody-requires c κs = search needs
 
--- src/lib.rt:45:9
 begin-requires : tie.Need-begin-requires
 begin-requires c κs = search needs
 
--- src/lib.rt:46:9
 same-length : tie.Need-same-length
 same-length c = search needs
 
--- src/lib.rt:46:9
 returns : tie.Need-returns
-returns c = ?
+unfolding readTable tableChecks
+returns c = let s = c .before .before .before .before .before .before .args .table .now in
+    refused _ WrongLength _ _ (wrong-length s 42 _ (c .before .before .before .before .if1 .taken)) refl (c .before .begin .ensures ∙ ap (λ (l : List Subject). unitOf (fresh l)) (c .before .before .nobody .ensures))
 
--- src/lib.rt:48:9
 read-subjects-requires : tie.Need-read-subjects-requires
 read-subjects-requires c κs = search needs
 
--- src/lib.rt:50:21
 nobody-requires-2 : tie.Need-nobody-requires-2
 nobody-requires-2 c κs = search needs
 
--- src/lib.rt:50:9
 begin-requires-2 : tie.Need-begin-requires-2
 begin-requires-2 c κs = search needs
 
--- src/lib.rt:51:9
 same-length-2 : tie.Need-same-length-2
 same-length-2 c = search needs
 
--- src/lib.rt:51:9
 returns-2 : tie.Need-returns-2
-returns-2 c = ?
+unfolding readTable tableChecks
+returns-2 c = let s = c .before .before .before .before .before .before .before .before .before .args .table .now in
+    let h = c .before .before .before .before .before .before .before .if1 .left in
+    let read = c .before .before .before .before .before .before .read-subjects .ensures ∙ table-read s h in
+    let stray = sym (ap (λ (r : TableRead). r .formed) read) ∙ not-on _ (c .before .before .before .before .if2 .taken) in
+    refused _ StrayBits _ _ (right-length s 42 _ StrayBits h (sym (stop _ StrayBits Granted stray))) refl (c .before .begin2 .ensures ∙ ap (λ (l : List Subject). unitOf (fresh l)) (c .before .before .nobody2 .ensures))
 
--- src/lib.rt:54:5
 begin-requires-3 : tie.Need-begin-requires-3
 begin-requires-3 c κs = search needs
 
--- src/lib.rt:40:1
 same-length-3 : tie.Need-same-length-3
 same-length-3 c = search needs
 
--- src/lib.rt:40:1
 returns-3 : tie.Need-returns-3
-returns-3 c = ?
+unfolding readTable tableChecks
+returns-3 c = let s = c .before .before .before .before .before .before .before .before .before .args .table .now in
+    let h = c .before .before .before .before .before .before .before .if1 .left in
+    let read = c .before .before .before .before .before .before .read-subjects .ensures ∙ table-read s h in
+    let formed = sym (ap (λ (r : TableRead). r .formed) read) ∙ not-off _ (c .before .before .before .before .if2 .left) in
+    accepted _ Granted _ _ (right-length s 42 _ Granted h (sym (pass _ StrayBits Granted formed))) refl
+    (c .before .begin3 .ensures ∙ ap (λ (r : TableRead). unitOf (fresh (r .subjects))) read)
 
 pub start-spec : {M : Type 1} → statement M
 start-spec =

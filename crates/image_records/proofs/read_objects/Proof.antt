@@ -1,7 +1,8 @@
+-- `image_records::read_objects` meets its contract.
+-- Assumes nothing.
 use Prim.Native.Nat.{ℕ, _+_, _-_, _≤_}
 use native.Mathlib.Omega.{arith}
 use mathlib.Core.Path.{_≡_, refl, sym, ap, _∙_, subst}
-use lib.ListN.{length}
 use Rattle.bits.specs.Bits.{bytesToBits, cut}
 use Rattle.model.specs.Tests.{allOf}
 use Rattle.model.specs.State.{noObject}
@@ -14,50 +15,38 @@ use Rattle.image_records.proofs.Gathering.{record-at, none-formed, form
 use borrow.Author.Needs.{needs}
 use Rattle.image_records.proofs.read_objects.Statement.{statement}
 use Rattle.image_records.proofs.read_objects.Tie as tie
-use Rattle.image_records.proofs.read_objects.Reads as reads
-use Rattle.image_records.proofs.read_objects.Lts as lts
-use Rattle.image_records.proofs.read_object.Reads as read-object-reads
-use Rattle.unit.proofs.set_object.Reads as set-object-reads
 
 abbrev Inv-loop : tie.InvT-loop
-Inv-loop unit₀ bytes formed₀ o₀ unit formed o = 
+Inv-loop unit₀ bytes formed₀ o₀ unit formed o =
     (o ≤ 64) × ObjectsStored (objectsFrom bytes) unit o × SameClearances unit₀ unit × (formed ≡ allOf objectForm (cut o 154 (bytesToBits bytes)))
 
 abbrev μ-loop : tie.MeasureT-loop
 μ-loop unit₀ bytes formed₀ o₀ unit formed o = 64 - o
 
--- src/lib.rt:174:5
 loop-holds : tie.Need-loop-holds Inv-loop μ-loop
 loop-holds c = (omega arith, objects-none _ _ (c .before .pre .0), record { same = λ s. refl }, none-formed objectForm 154 (bytesToBits _))
 
--- src/lib.rt:175:39
 mul-read-object : tie.Need-mul-read-object Inv-loop μ-loop
 mul-read-object c = search needs
 
--- src/lib.rt:175:13
 read-object-requires : tie.Need-read-object-requires Inv-loop μ-loop
 read-object-requires c κs = search needs
 
--- src/lib.rt:177:26
 cast-set-object : tie.Need-cast-set-object Inv-loop μ-loop
 cast-set-object c = search needs
 
--- src/lib.rt:177:9
 set-object-requires : tie.Need-set-object-requires Inv-loop μ-loop
 set-object-requires c κs = let start = c .before .before .before .before .before .before in (c .before .before .before .before .loop .inv .1 .whole, c .before .before .before .loop-test .taken)
 
--- src/lib.rt:179:9
 add-o : tie.Need-add-o Inv-loop μ-loop
 add-o c = search needs
 
--- src/lib.rt:174:5
 loop-less : tie.Need-loop-less Inv-loop μ-loop
 loop-less c = search needs
 
--- src/lib.rt:174:5
 loop-again : tie.Need-loop-again Inv-loop μ-loop
 unfolding objectsFrom
-loop-again c =     let loop = c .before .before .before .before .before .before .before .loop in
+loop-again c = let loop = c .before .before .before .before .before .before .before .loop in
     let start = c .before .before .before .before .before .before .before .before .before in
     let t = c .before .before .before .before .before .before .loop-test .taken in
     let b = bytesToBits (start .args .bytes .now) in
@@ -71,14 +60,12 @@ loop-again c =     let loop = c .before .before .before .before .before .before 
       form-more objectForm 154 b (loop .o) (loop .formed) (read .formed) (loop .inv .3) form,
     )
 
--- src/lib.rt:165:1
 same-length : tie.Need-same-length Inv-loop μ-loop
 same-length c = let loop = c .before .loop in loop .inv .1 .whole ∙ sym (c .before .before .before .pre .0)
 
--- src/lib.rt:165:1
 returns : tie.Need-returns Inv-loop μ-loop
 unfolding objectsForm
-returns c =     let loop = c .before .loop in
+returns c = let loop = c .before .loop in
     let start = c .before .before .before in
     let b = bytesToBits (start .args .bytes .now) in
     let end : loop .o ≡ 64 = omega (arith, c .loop-test .left, loop .inv .0) in

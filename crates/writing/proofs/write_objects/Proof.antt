@@ -23,7 +23,7 @@ abbrev μ-loop : tie.MeasureT-loop
 μ-loop out₀ acc unit waiting₀ o₀ out waiting o = 64 - o
 
 loop-holds : tie.Need-loop-holds Inv-loop μ-loop
-loop-holds c = 
+loop-holds c =
     let a = c .before .args in
     (omega arith, ends [] (objectsBits []) no-records refl (stay (a .out .now) 336 (a .acc) (omega arith)))
 
@@ -49,7 +49,7 @@ loop-less : tie.Need-loop-less Inv-loop μ-loop
 loop-less c = search needs
 
 loop-again : tie.Need-loop-again Inv-loop μ-loop
-loop-again c = 
+loop-again c =
     let loop = c .before .before .before .before .before .before .loop in
     let u = c .before .before .before .before .before .before .before .before .args .unit .now in
     let l = objectsIn u in
@@ -60,7 +60,7 @@ same-length : tie.Need-same-length Inv-loop μ-loop
 same-length c = search needs
 
 returns : tie.Need-returns Inv-loop μ-loop
-returns c = 
+returns c =
     let u = c .before .before .before .args .unit .now in
     let loop = c .before .loop in
     ends _ _ (join-all objectBits (loop .o) 64 (objectsIn u) (omega arith) (tabulate-length 64 (objectIn u))) (omega arith) (loop .inv .1)

@@ -44,7 +44,7 @@ loop-less : tie.Need-loop-less Inv-loop μ-loop
 loop-less c = search needs
 
 loop-again : tie.Need-loop-again Inv-loop μ-loop
-loop-again c = 
+loop-again c =
     let loop = c .before .before .before .before .before .before .loop in
     let u = c .before .before .before .before .before .before .before .before .args .unit .now in
     let l = subjectsIn u in
@@ -55,7 +55,7 @@ same-length : tie.Need-same-length Inv-loop μ-loop
 same-length c = search needs
 
 returns : tie.Need-returns Inv-loop μ-loop
-returns c = 
+returns c =
     let u = c .before .before .before .args .unit .now in
     let loop = c .before .loop in
     ends _ _ (join-all subjectBits (loop .s) 16 (subjectsIn u) (omega arith) (tabulate-length 16 (subjectIn u))) (omega arith) (loop .inv .1)
