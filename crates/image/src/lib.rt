@@ -1,7 +1,6 @@
 // The table reader and the image reader: a unit begun from bytes of any length and content; a refusal leaves the empty monitor in it.
 ghost use mathlib.Core.Path.{_≡_};
-ghost use lib.ListN.{replicate};
-ghost use Rattle.model.specs.State.{subjectCount, nobody, fresh};
+ghost use Rattle.model.specs.State.{fresh, emptyMonitor};
 ghost use Rattle.model.specs.Reading.{readTable, readImage};
 ghost use Rattle.unit.specs.Rows.{rowCount};
 ghost use Rattle.unit.specs.Stored.{unitOf};
@@ -27,13 +26,16 @@ fn begin(unit: &mut [[u8; 16]], subjects: [Subject; 16])
     fill(unit, Monitor::begin(subjects));
 }
 
-// Nobody enrolled: what a refused beginning leaves.
-fn nobody() -> [Subject; 16]
-    ensures { λ r. ⌜ r ≡ replicate subjectCount nobody ⌝ }
+// What a refused beginning returns and leaves: the number, and nobody enrolled.
+fn refused(unit: &mut [[u8; 16]], d: Decision) -> Decision
+    requires { do ⌜ (← ⟦unit.len()⟧) ≡ rowCount ⌝ }
+    ensures { λ r. ⌜ (r ≡ d) × (now (unit .exit) ≡ unitOf emptyMonitor) ⌝ }
 {
-    [Subject {
+    let nobody = [Subject {
         clearance: Label::Absent,
-    }; Monitor::SUBJECTS]
+    }; Monitor::SUBJECTS];
+    begin(unit, nobody);
+    d
 }
 
 // Begins from an enrolment table: checks 10 and 11.
@@ -42,13 +44,11 @@ pub fn start(unit: &mut [[u8; 16]], table: &[u8]) -> Decision
     ensures { λ r. ⌜ (r ≡ readTable (now (table .entry)) .decision) × (now (unit .exit) ≡ unitOf (readTable (now (table .entry)) .monitor)) ⌝ }
 {
     if table.len() != Monitor::TABLE_BYTES {
-        begin(unit, nobody());
-        return Decision::WrongLength;
+        return refused(unit, Decision::WrongLength);
     }
     let read = read_subjects(table);
     if !read.formed {
-        begin(unit, nobody());
-        return Decision::StrayBits;
+        return refused(unit, Decision::StrayBits);
     }
     let subjects = read.subjects;
     begin(unit, subjects);
@@ -61,8 +61,7 @@ pub fn open(unit: &mut [[u8; 16]], image: &[u8]) -> Decision
     ensures { λ r. ⌜ (r ≡ readImage (now (image .entry)) .decision) × (now (unit .exit) ≡ unitOf (readImage (now (image .entry)) .monitor)) ⌝ }
 {
     if image.len() != Monitor::IMAGE_BYTES {
-        begin(unit, nobody());
-        return Decision::WrongLength;
+        return refused(unit, Decision::WrongLength);
     }
     let table = read_subjects(&image[0..Monitor::TABLE_BYTES]);
     let subjects = table.subjects;
@@ -74,7 +73,7 @@ pub fn open(unit: &mut [[u8; 16]], image: &[u8]) -> Decision
         state_checks(unit),
     );
     if refuses(decision) {
-        begin(unit, nobody());
+        return refused(unit, decision);
     }
     decision
 }
