@@ -1,6 +1,6 @@
 -- Every beginning, refused ones too, has sixteen subjects and sixty-four objects; so the rows of its monitor say it.
 -- Assumes nothing.
-use mathlib.Core.Path.{_≡_, refl}
+use mathlib.Core.Path.{_≡_, refl, ap, _∙_}
 use Prim.Native.Nat.{ℕ}
 use mathlib.Core.List.{List}
 use lib.ListN.{length, length-map}
@@ -12,7 +12,7 @@ use Rattle.model.specs.Decisions.{refuses}
 use Rattle.model.specs.Reading.{begin, tableFrom, objectsFrom, monitorFrom, tableChecks, imageChecks, readTable, readImage}
 use Rattle.model.specs.Beginnings.{Beginning, table, image, begun}
 use Rattle.model.proofs.Tests.{cond-all}
-use Rattle.unit.specs.Rows.{stateIn}
+use Rattle.unit.specs.Rows.{Rows, stateIn}
 use Rattle.unit.specs.Stored.{unitOf}
 use Rattle.unit.proofs.Units.{unit-says}
 
@@ -43,3 +43,7 @@ begun-says b = unit-says (begun b .monitor) (begun-sized b .subjects) (begun-siz
 -- what the bytes of an image say, accepted or not
 pub read-says : (b : List ℕ) → stateIn (unitOf (monitorFrom b)) ≡ monitorFrom b
 read-says b = unit-says (monitorFrom b) (image-sized b .subjects) (image-sized b .objects)
+
+-- the decision and the rows that are left, as the reader's response
+pub table-begun : (b : List ℕ) (d : Decision) (u : Rows) → d ≡ readTable b .decision → u ≡ unitOf (readTable b .monitor) → record { decision = d; monitor = stateIn u } ≡ readTable b
+table-begun b d u e f = let m = ap stateIn f ∙ begun-says (table b) in λ i. record { decision = e i; monitor = m i }
