@@ -4,67 +4,46 @@ use Prim.Native.Nat.{ℕ, _≤_}
 use mathlib.Core.Path.{_≡_, refl, sym, ap, ap₂, _∙_, subst}
 use mathlib.Core.Logic.{_↔_, _≢_}
 use mathlib.Core.List.{List, [], map}
-use lib.ListN.{length, take, length-map}
-use Rattle.bits.specs.Records.{length-cut}
+use lib.ListN.{length, take}
 use Rattle.model.specs.declared.Monitor.{Monitor}
 use Rattle.model.specs.declared.Request.{Request}
-use Rattle.model.specs.declared.Decision.{Decision}
 use Rattle.model.specs.declared.Decision.the-variants.{Granted}
 use Rattle.model.specs.declared.Response.{Response}
-use Rattle.model.specs.State.{fresh, emptyMonitor, WellFormed}
+use Rattle.model.specs.State.{WellFormed}
 use Rattle.model.specs.Properties.{Secure}
-use Rattle.model.specs.Decisions.{number, refuses}
+use Rattle.model.specs.Decisions.{number}
 use Rattle.model.specs.Requests.{encode}
 use Rattle.model.specs.Runs.{after, replies}
 use Rattle.model.specs.Layout.{imageSize, imageOf}
-use Rattle.model.specs.Reading.{begin, tableFrom, objectsFrom, monitorFrom, tableChecks, imageChecks, readTable, readImage}
+use Rattle.model.specs.Reading.{readImage}
 use Rattle.model.specs.Writing.{writing, written}
-use Rattle.model.specs.Beginnings.{Beginning, table, image, begun, Accepted, left, AllBytes}
-use Rattle.model.proofs.Tests.{cond-all}
+use Rattle.model.specs.Beginnings.{Beginning, begun, Accepted, left, AllBytes}
 use Rattle.security.specs.Distinguish.{distinguish}
 use Rattle.security.proofs.Reached.{reached-left, sound-left, fills}
 use Rattle.security.proofs.Demand2.{always-secure}
 use Rattle.security.proofs.Demand3.{distinguishes, distinguishes-not, demand-3}
 use Rattle.security.proofs.RoundTrips.{read-written}
 use Rattle.unit.specs.Rows.{rowCount, stateIn}
-use Rattle.unit.proofs.Units.{unit-length, unit-says}
+use Rattle.unit.proofs.Units.{unit-length}
+use Rattle.image.proofs.Sizes.{begun-says}
 use Rattle.asking.specs.Asked.{repliesOf}
 use Rattle.asking.proofs.Lists.{all-length, all-state, all-replies}
 use Rattle.capi.specs.UnitRuns.{begunUnit, unitAfter, saved}
 
--- ---- beginnings, refused ones too
-
-record Sized (m : Monitor) : Type 0 where
-  subjects : length (m .subjects) ≡ 16
-  objects : length (m .objects) ≡ 64
-
-begin-sized : (d : Decision) (m : Monitor) → Sized m → Sized (begin d m .monitor)
-unfolding begin
-begin-sized d m z = cond-all Sized (refuses d) emptyMonitor m (λ e. record { subjects = refl; objects = refl }) (λ e. z)
-
-begun-sized : (b : Beginning) → Sized (begun b .monitor)
-unfolding readTable readImage monitorFrom tableFrom objectsFrom
-begun-sized (table b) = begin-sized (tableChecks b) (fresh (tableFrom b)) (record { subjects = simp (length-map, length-cut); objects = refl })
-begun-sized (image b) = begin-sized (imageChecks b) (monitorFrom b) (record { subjects = simp (length-map, length-cut); objects = simp (length-map, length-cut) })
-
 -- ---- started or opened, asked, saved
 
 module _ (b : Beginning) where
-  -- the unit says the monitor that the reader returns, the empty one where it refuses
-  pub begun-says : stateIn (begunUnit b) ≡ begun b .monitor
-  begun-says = unit-says (begun b .monitor) (begun-sized b .subjects) (begun-sized b .objects)
-
   begun-length : length (begunUnit b) ≡ rowCount
   begun-length = unit-length (begun b .monitor)
 
   -- asked any list, it replies as the monitor does
   pub unit-replies : (bs : List (List ℕ)) → repliesOf bs (begunUnit b) ≡ replies bs (begun b .monitor)
-  unit-replies bs = all-replies bs (begunUnit b) begun-length ∙ ap (replies bs) begun-says
+  unit-replies bs = all-replies bs (begunUnit b) begun-length ∙ ap (replies bs) (begun-says b)
 
   module _ (bs : List (List ℕ)) where
     -- and then says the state after the list
     pub after-says : stateIn (unitAfter b bs) ≡ left b bs
-    after-says = all-state bs (begunUnit b) begun-length ∙ ap (after bs) begun-says
+    after-says = all-state bs (begunUnit b) begun-length ∙ ap (after bs) (begun-says b)
 
     -- a further list draws the replies of that state
     pub further-replies : (further : List (List ℕ)) → repliesOf further (unitAfter b bs) ≡ replies further (left b bs)

@@ -8,11 +8,11 @@ ghost use Rattle.unit.specs.Rows.{stateIn};
 ghost use Rattle.unit.specs.Stored.{unitOf};
 ghost use Rattle.asking.specs.Asked.{asked};
 use asking::ask;
-use keeping::open;
-use keeping::save;
-use keeping::start;
+use image::open;
+use image::start;
 use labels::number;
 use unit::ROWS;
+use writing::save;
 
 // Begins from an image; a refused one leaves the empty monitor in the unit.
 #[no_mangle]

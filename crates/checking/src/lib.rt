@@ -2,7 +2,9 @@
 // Checks 12, 6, 7 and 8 look at one object and one subject at a time, so one pass over them finds what all four need.
 ghost use mathlib.Core.Path.{_≡_};
 ghost use Rattle.model.specs.Levels.{present};
-ghost use Rattle.model.specs.State.{clearanceAt};
+ghost use Prim.Native.Nat.{_<_};
+ghost use Rattle.model.specs.State.{objectCount, clearanceAt, object};
+ghost use Rattle.unit.specs.Rows.{rowCount, subjectsIn, objectsIn, stateIn};
 ghost use Rattle.model.specs.Reading.{stateChecks};
 ghost use Rattle.checking.specs.Checks.{both, at, ofObject, ofObjects};
 use labels::any_needs_label;
@@ -15,8 +17,14 @@ use labels::within;
 use model::Decision;
 use model::Label;
 use model::Monitor;
-use model::Object;
-use model::Subject;
+use star::breaks_star;
+use unit::clearance_of;
+use unit::held_by;
+use unit::is_enrolled;
+use unit::is_live;
+use unit::label_of;
+use unit::owner_of;
+use unit::rights_of;
 
 // Which of the checks passed: 12, 6, 7 and 8.
 struct Findings {
@@ -53,44 +61,49 @@ fn findings_at(clearance: Label, label: Label, rights: u8, held: u8) -> Findings
 }
 
 // The subject with this number is enrolled; no subject has a number past 15.
-fn is_enrolled(subjects: [Subject; 16], s: u8) -> bool
-    ensures { λ r. ⌜ r ≡ present (clearanceAt subjects s) ⌝ }
+fn is_known(unit: &[[u8; 16]], s: u8) -> bool
+    requires { do ⌜ (← ⟦unit.len()⟧) ≡ rowCount ⌝ }
+    ensures { λ r. ⌜ r ≡ present (clearanceAt (subjectsIn (now (unit .entry))) s) ⌝ }
 {
-    let i = s as usize;
-    if i < Monitor::SUBJECTS {
-        let subject = subjects[i];
-        let clearance = subject.clearance;
-        return is_present(clearance);
+    if (s as usize) < Monitor::SUBJECTS {
+        return is_enrolled(unit, s);
     }
     false
 }
 
 // All subjects at one object.
-fn findings_of(subjects: [Subject; 16], ob: Object) -> Findings
-    ensures { λ r. ⌜ r ≡ ofObject subjects ob ⌝ }
+fn findings_of(unit: &[[u8; 16]], o: u8) -> Findings
+    requires { do ⌜ (← ⟦unit.len()⟧) ≡ rowCount ⌝ }
+    requires { ⌜ o < objectCount ⌝ }
+    ensures { λ r. ⌜ r ≡ ofObject (subjectsIn (now (unit .entry))) (object (stateIn (now (unit .entry))) o) ⌝ }
 {
-    let label = ob.label;
-    let rights = ob.rights;
-    let held = ob.held;
+    let label = label_of(unit, o);
+    let owned = implies(is_live(unit, o), is_known(unit, owner_of(unit, o)));
     let mut found = Findings {
-        enrolled: implies(ob.live, is_enrolled(subjects, ob.owner)),
+        enrolled: owned,
         matrix: true,
         labelled: true,
         simple: true,
     };
-    let mut s: usize = 0;
-    while s < Monitor::SUBJECTS {
-        let subject = subjects[s];
-        let clearance = subject.clearance;
-        found = both(found, findings_at(clearance, label, rights[s], held[s]));
-        s += 1;
+    let mut i: usize = 0;
+    while i < Monitor::SUBJECTS {
+        let s = i as u8;
+        let here = findings_at(
+            clearance_of(unit, s),
+            label,
+            rights_of(unit, o, s),
+            held_by(unit, o, s),
+        );
+        found = both(found, here);
+        i += 1;
     }
     found
 }
 
 // All subjects at all objects.
-fn findings_over(subjects: [Subject; 16], objects: [Object; 64]) -> Findings
-    ensures { λ r. ⌜ r ≡ ofObjects subjects objects ⌝ }
+fn findings_over(unit: &[[u8; 16]]) -> Findings
+    requires { do ⌜ (← ⟦unit.len()⟧) ≡ rowCount ⌝ }
+    ensures { λ r. ⌜ r ≡ ofObjects (subjectsIn (now (unit .entry))) (objectsIn (now (unit .entry))) ⌝ }
 {
     let mut found = Findings {
         enrolled: true,
@@ -100,20 +113,19 @@ fn findings_over(subjects: [Subject; 16], objects: [Object; 64]) -> Findings
     };
     let mut o: usize = 0;
     while o < Monitor::OBJECTS {
-        found = both(found, findings_of(subjects, objects[o]));
+        found = both(found, findings_of(unit, o as u8));
         o += 1;
     }
     found
 }
 
-// The answer of the first check that fails, or Granted. For a monitor record of any content.
-pub fn state_checks(m: Monitor) -> Decision
-    ensures { λ r. ⌜ r ≡ stateChecks m ⌝ }
+// The answer of the first check that fails, or Granted. For every content of a unit.
+pub fn state_checks(unit: &[[u8; 16]]) -> Decision
+    requires { do ⌜ (← ⟦unit.len()⟧) ≡ rowCount ⌝ }
+    ensures { λ r. ⌜ r ≡ stateChecks (stateIn (now (unit .entry))) ⌝ }
 {
-    let subjects = m.subjects;
-    let objects = m.objects;
-    let found = findings_over(subjects, objects);
-    let star_kept = !star::star_broken(m, 0, Monitor::SUBJECTS);
+    let found = findings_over(unit);
+    let star_kept = !breaks_star(unit, 0, Monitor::SUBJECTS);
     let star = check(star_kept, Decision::StarBroken, Decision::Granted);
     let simple = check(found.simple, Decision::SimpleBroken, star);
     let labelled = check(found.labelled, Decision::NoLabel, simple);

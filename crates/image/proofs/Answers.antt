@@ -1,26 +1,72 @@
--- The answers of the readers: the checks in their order, and the monitor of each answer.
+-- The answers of the readers: the checks in their order, and the rows of the monitor of each answer.
 -- Assumes nothing.
 use mathlib.Core.Path.{_≡_, sym, ap, ap₂, _∙_}
+use mathlib.Core.Bool.{Bool, true, false, _&&_}
 use mathlib.Core.List.{List}
-use Prim.Native.Nat.{ℕ}
-use lib.ListN.{length}
+use Prim.Native.Nat.{ℕ, _-_}
+use native.Mathlib.Omega.{arith}
+use lib.ListN.{length, take, drop, length-drop}
+use lib.Seq.{take-all, length-take-le}
 use borrow.Author.Tests.{eq-eqb, ne-eqb}
+use lib.Dec.{eqb}
 use Rattle.model.specs.declared.Monitor.{Monitor}
 use Rattle.model.specs.declared.Decision.{Decision}
-use Rattle.model.specs.declared.Decision.the-variants.{WrongLength}
-use Rattle.model.specs.declared.Response.{Response}
+use Rattle.model.specs.declared.Decision.the-variants.{WrongLength, StrayBits}
 use Rattle.model.specs.Tests.{unless}
-use Rattle.model.specs.Reading.{begin}
-use Rattle.model.proofs.Tests.{pass, stop}
-use lib.Dec.{eqb}
+use Rattle.model.specs.State.{emptyMonitor, fresh}
+use Rattle.model.specs.Decisions.{refuses}
+use Rattle.model.specs.Reading.{tableFrom, tableForm, objectsFrom, objectsForm, monitorFrom, imageForm, stateChecks, imageChecks, begin}
+use Rattle.model.proofs.Tests.{pass, stop, cond-true, cond-false}
+use Rattle.unit.specs.Rows.{Rows, stateIn}
+use Rattle.unit.specs.Stored.{unitOf, ObjectsStored, SameClearances}
+use Rattle.unit.proofs.Units.{stored-over}
+use Rattle.image_records.specs.declared.TableRead.{TableRead}
+use Rattle.image_records.specs.Records.{subjectsRead}
+use Rattle.image_records.proofs.Lengths.{table-read}
+use Rattle.image.proofs.Sizes.{read-says}
 
--- bytes of another length than n: which monitor was to be begun does not matter
-pub wrong-length : (s : List ℕ) (n : ℕ) (later : Decision) (r : Response) (m k : Monitor) → (length s ≡ n → ⊥) → r ≡ begin WrongLength m
-    → r ≡ begin (unless (eqb (length s) n) WrongLength later) k
-unfolding begin
-wrong-length s n later r m k h e = e ∙ ap (λ (d : Decision). begin d k) (sym (stop (eqb (length s) n) WrongLength later (ne-eqb (length s) n h)))
+-- ---- refused, or not
 
--- bytes of n: the later checks answer
-pub right-length : (s : List ℕ) (n : ℕ) (later d : Decision) (r : Response) (m k : Monitor) → length s ≡ n → d ≡ later → m ≡ k → r ≡ begin d m
-    → r ≡ begin (unless (eqb (length s) n) WrongLength later) k
-right-length s n later d r m k h p q e = e ∙ ap₂ begin (p ∙ sym (pass (eqb (length s) n) WrongLength later (eq-eqb (length s) n h))) q
+module _ (d k : Decision) (m : Monitor) (w : Rows) (e : k ≡ d) where
+  pub refused : refuses k ≡ true → w ≡ unitOf emptyMonitor → (k ≡ begin d m .decision) × (w ≡ unitOf (begin d m .monitor))
+  unfolding begin
+  refused t f = (e, f ∙ ap unitOf (sym (cond-true (refuses d) emptyMonitor m (sym (ap refuses e) ∙ t))))
+
+  pub accepted : refuses k ≡ false → w ≡ unitOf m → (k ≡ begin d m .decision) × (w ≡ unitOf (begin d m .monitor))
+  unfolding begin
+  accepted t f = (e, f ∙ ap unitOf (sym (cond-false (refuses d) emptyMonitor m (sym (ap refuses e) ∙ t))))
+
+-- ---- the length, checked first
+
+pub wrong-length : (s : List ℕ) (n : ℕ) (later : Decision) → (length s ≡ n → ⊥) → WrongLength ≡ unless (eqb (length s) n) WrongLength later
+wrong-length s n later h = sym (stop (eqb (length s) n) WrongLength later (ne-eqb (length s) n h))
+
+pub right-length : (s : List ℕ) (n : ℕ) (later d : Decision) → length s ≡ n → d ≡ later → d ≡ unless (eqb (length s) n) WrongLength later
+right-length s n later d h e = e ∙ sym (pass (eqb (length s) n) WrongLength later (eq-eqb (length s) n h))
+
+-- ---- an image of the right length: the rows that its two parts leave, and the answer of its checks
+
+module _ (s : List ℕ) (size : length s ≡ 1274) (t : TableRead) (t-is : t ≡ subjectsRead (take 42 s)) where
+  table-is : t ≡ record { subjects = tableFrom (take 42 s); formed = tableForm (take 42 s) }
+  table-is = t-is ∙ table-read (take 42 s) (length-take-le 42 s (omega arith))
+
+  -- the slice from byte 42 on
+  rest : take (length s - 42) (drop 42 s) ≡ drop 42 s
+  rest = take-all (length s - 42) (drop 42 s) (rw (length-drop 42 s) (omega arith))
+
+  module _ (u w : Rows) (formed : Bool) (begun : u ≡ unitOf (fresh (t .subjects))) (formed-is : formed ≡ objectsForm (take (length s - 42) (drop 42 s)))
+      (stored : ObjectsStored (objectsFrom (take (length s - 42) (drop 42 s))) w 64) (kept : SameClearances u w) where
+    pub image-rows : w ≡ unitOf (monitorFrom s)
+    unfolding monitorFrom
+    image-rows =
+        stored-over (t .subjects) (objectsFrom (take (length s - 42) (drop 42 s))) u w begun kept stored
+        ∙ ap₂ (λ (r : TableRead) (part : List ℕ). unitOf (record { subjects = r .subjects; objects = objectsFrom part })) table-is rest
+
+    pub image-answer : (k d : Decision) → k ≡ stateChecks (stateIn w) → d ≡ unless (t .formed && formed) StrayBits k → d ≡ imageChecks s
+    unfolding imageForm imageChecks
+    image-answer k d e f =
+        right-length s 1274 (unless (imageForm s) StrayBits (stateChecks (monitorFrom s))) d size
+        (f
+        ∙ ap₂ (λ b (later : Decision). unless b StrayBits later)
+        (ap₂ (λ (r : TableRead) b. r .formed && b) table-is (formed-is ∙ ap objectsForm rest))
+        (e ∙ ap stateChecks (ap stateIn image-rows ∙ read-says s)))

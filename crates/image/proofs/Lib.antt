@@ -1,3 +1,3 @@
--- Laws that the proofs of more than one function use.
--- Assumes nothing.
+-- The answers of the readers, and the sizes of the monitors that they begin.
+pub mod Sizes
 pub mod Answers

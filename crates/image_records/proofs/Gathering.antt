@@ -3,13 +3,13 @@
 use mathlib.Core.Path.{_≡_, refl, sym, ap, _∙_}
 use mathlib.Core.Bool.{Bool, true, _&&_}
 use mathlib.Core.List.{List, [], _∷_, _++_, map}
-use Prim.Native.Nat.{ℕ, _+_, _*_, _<_}
+use Prim.Native.Nat.{ℕ, zero, suc, _+_, _*_, _<_}
 use native.Mathlib.Numerals.{add-one}
 use native.Mathlib.Omega.{arith}
-use lib.ListN.{length, take, drop, set}
+use lib.ListN.{length, getD, take, drop, set}
 use lib.Seq.{take-all, take-suc-set}
 use Rattle.bits.specs.Bits.{cut}
-use Rattle.bits.specs.Records.{cut-more, cut-suc}
+use Rattle.bits.specs.Records.{cut-at, cut-more, cut-suc, length-cut}
 use Rattle.model.specs.Tests.{allOf}
 use Rattle.model.proofs.Tests.{split}
 
@@ -27,6 +27,15 @@ gather-more f w b r i v h e p =
 pub gathered : {A : Type 0} (f : List Bool → A) (n w : ℕ) (b : List Bool) (r : List A) (i : ℕ) → length r ≡ n → i ≡ n → take i r ≡ map f (cut i w b) → r ≡ map f (cut n w b)
 gathered f n w b r i l e p =
     sym (take-all n r (omega arith)) ∙ ap (λ (k : ℕ). take k r) (sym e) ∙ p ∙ ap (λ (k : ℕ). map f (cut k w b)) e
+
+-- what the record at i says
+map-at : {A B : Type 0} (f : A → B) (l : List A) (i : ℕ) (d : B) (e : A) → i < length l → getD (map f l) i d ≡ f (getD l i e)
+map-at f [] i d e h = absurd (omega arith)
+map-at f (x ∷ l) zero d e h = refl
+map-at f (x ∷ l) (suc i) d e h = map-at f l i d e (omega arith)
+
+pub record-at : {A : Type 0} (f : List Bool → A) (n w : ℕ) (b : List Bool) (i : ℕ) (d : A) → i < n → getD (map f (cut n w b)) i d ≡ f (take w (drop (w * i) b))
+record-at f n w b i d h = map-at f (cut n w b) i d [] (omega (arith, length-cut n w b)) ∙ ap f (cut-at n w b i [] h)
 
 -- the form of one record more
 pub none-formed : (f : List Bool → Bool) (w : ℕ) (b : List Bool) → true ≡ allOf f (cut 0 w b)

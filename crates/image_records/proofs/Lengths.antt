@@ -1,17 +1,13 @@
--- What is read of bytes that have the length of a table, or of all object records.
+-- What is read of bytes that have the length of a table.
 -- Assumes nothing.
 use mathlib.Core.Path.{_≡_}
 use mathlib.Core.List.{List}
 use Prim.Native.Nat.{ℕ}
 use lib.ListN.{length}
 use borrow.Author.Tests.{eq-eqb}
-use Rattle.model.specs.Reading.{tableFrom, tableForm, objectsFrom, objectsForm}
-use Rattle.image_records.specs.Records.{subjectsRead, objectsRead}
+use Rattle.model.specs.Reading.{tableFrom, tableForm}
+use Rattle.image_records.specs.Records.{subjectsRead}
 
 pub table-read : (s : List ℕ) → length s ≡ 42 → subjectsRead s ≡ record { subjects = tableFrom s; formed = tableForm s }
 unfolding subjectsRead
 table-read s h = rw (eq-eqb (length s) 42 h)
-
-pub objects-read : (s : List ℕ) → length s ≡ 1232 → objectsRead s ≡ record { objects = objectsFrom s; formed = objectsForm s }
-unfolding objectsRead
-objects-read s h = rw (eq-eqb (length s) 1232 h)

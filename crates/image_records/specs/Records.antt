@@ -14,7 +14,6 @@ use Rattle.image_records.specs.declared.LabelRead.{LabelRead}
 use Rattle.image_records.specs.declared.SetsRead.{SetsRead}
 use Rattle.image_records.specs.declared.ObjectRead.{ObjectRead}
 use Rattle.image_records.specs.declared.TableRead.{TableRead}
-use Rattle.image_records.specs.declared.ObjectsRead.{ObjectsRead}
 
 -- w bits of bytes, from bit at on
 abbrev pub bitsAt : List ℕ → ℕ → ℕ → List Bool
@@ -41,9 +40,3 @@ unfoldable pub subjectsRead : List ℕ → TableRead
 subjectsRead s =
     cond (eqb (length s) tableSize) (record { subjects = tableFrom s; formed = tableForm s })
     (record { subjects = replicate subjectCount nobody; formed = false })
-
--- of bytes that are to be the object records of an image
-unfoldable pub objectsRead : List ℕ → ObjectsRead
-objectsRead s =
-    cond (eqb (length s) (imageSize - tableSize)) (record { objects = objectsFrom s; formed = objectsForm s })
-    (record { objects = replicate objectCount noObject; formed = false })

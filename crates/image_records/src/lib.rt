@@ -3,13 +3,18 @@ ghost use mathlib.Core.Path.{_≡_};
 ghost use Prim.Native.Nat.{_+_, _*_, _≤_};
 ghost use lib.ListN.{length};
 ghost use Rattle.model.specs.Layout.{imageSize};
-ghost use Rattle.image_records.specs.Records.{bitsAt, flagOf, labelOf, setsOf, objectOf, subjectsRead, objectsRead};
+ghost use Rattle.image_records.specs.Records.{bitsAt, flagOf, labelOf, setsOf, objectOf, subjectsRead};
+ghost use Rattle.model.specs.State.{objectCount};
+ghost use Rattle.model.specs.Reading.{objectsFrom, objectsForm};
+ghost use Rattle.unit.specs.Rows.{rowCount};
+ghost use Rattle.unit.specs.Stored.{ObjectsStored, SameClearances};
 use model::Label;
 use model::Level;
 use model::Monitor;
 use model::Object;
 use model::Subject;
 use model::no_object;
+use unit::set_object;
 
 // A bit, the number in the four bits behind it, and whether all five are 0.
 struct FlagRead {
@@ -42,15 +47,6 @@ pub struct TableRead {
     pub subjects: [Subject; 16],
     pub formed: bool,
 }
-
-// What the bytes of the object records say, and whether each record has its form.
-pub struct ObjectsRead {
-    pub objects: [Object; 64],
-    pub formed: bool,
-}
-
-// The size of all object records.
-const OBJECTS_BYTES: usize = 1232;
 
 // Five bits: live and owner, or present and class.
 fn read_flag(bytes: &[u8], at: usize) -> FlagRead
@@ -165,25 +161,22 @@ pub fn read_subjects(bytes: &[u8]) -> TableRead
     TableRead { subjects, formed }
 }
 
-// The object records, in the part of an image that begins with them; bytes of another length have no form, and no object in them.
-pub fn read_objects(bytes: &[u8]) -> ObjectsRead
-    ensures { λ r. ⌜ r ≡ objectsRead (now (bytes .entry)) ⌝ }
+// The object records, in the part of an image that begins with them, into the rows of a unit; whether each has its form.
+pub fn read_objects(unit: &mut [[u8; 16]], bytes: &[u8]) -> bool
+    requires { do ⌜ (← ⟦unit.len()⟧) ≡ rowCount ⌝ }
+    requires { do ⌜ (← ⟦bytes.len()⟧) ≡ 1232 ⌝ }
+    ensures formed { λ r. ⌜ r ≡ objectsForm (now (bytes .entry)) ⌝ }
+    ensures stored { λ r. ⌜ ObjectsStored (objectsFrom (now (bytes .entry))) (now (unit .exit)) objectCount ⌝ }
+    ensures kept { λ r. ⌜ SameClearances (now (unit .entry)) (now (unit .exit)) ⌝ }
 {
-    let mut objects = [no_object(); Monitor::OBJECTS];
-    if bytes.len() != OBJECTS_BYTES {
-        return ObjectsRead {
-            objects,
-            formed: false,
-        };
-    }
     let mut formed = true;
     let mut o: usize = 0;
     while o < Monitor::OBJECTS {
         let read = read_object(bytes, 154 * o);
         let object = read.object;
-        objects[o] = object;
+        set_object(unit, o as u8, object);
         formed = formed & read.formed;
         o += 1;
     }
-    ObjectsRead { objects, formed }
+    formed
 }

@@ -10,28 +10,28 @@ ghost use Rattle.model.specs.Program.{mostRequests, line, program};
 ghost use Rattle.replay.specs.Lines.{put};
 ghost use Rattle.replay.specs.Replay.{replayAnswer, replayed};
 use bits::smaller;
-use image::read_table;
+use image::start;
 use labels::number;
 use labels::refuses;
 use model::Decision;
 use model::Monitor;
 use turns::piece_count;
 use turns::run;
+use unit::ROWS;
 
 // One reply byte for each piece of six bytes, a short last one counted; a refusal leaves every byte of the buffer.
 pub fn replay(table: &[u8], requests: &[u8], out: &mut [u8]) -> Decision
     ensures { λ r. ⌜ (r ≡ replayAnswer (now (table .entry)) (now (requests .entry)) (length (now (out .entry)))) × (now (out .exit) ≡ replayed (now (table .entry)) (now (requests .entry)) (now (out .entry))) ⌝ }
 {
-    let begun = read_table(table);
-    let decision = begun.decision;
+    let mut unit = [[0u8; 16]; ROWS];
+    let decision = start(&mut unit, table);
     if refuses(decision) {
         return decision;
     }
     if out.len() < piece_count(requests.len()) {
         return Decision::ShortBuffer;
     }
-    let monitor = begun.monitor;
-    let _ = run(monitor, requests, out);
+    run(&mut unit, requests, out);
     Decision::Granted
 }
 
@@ -90,16 +90,15 @@ pub fn program(input: &[u8]) -> Printed
 {
     let mut bytes = [0u8; 12288];
     let end = smaller(Monitor::TABLE_BYTES, input.len());
-    let begun = read_table(&input[0..end]);
-    let decision = begun.decision;
+    let mut unit = [[0u8; 16]; ROWS];
+    let decision = start(&mut unit, &input[0..end]);
     if refuses(decision) {
         let len = put_line(&mut bytes, 0, number(decision));
         return Printed { bytes, len };
     }
     let last = smaller(input.len(), end + 24576);
     let mut replies = [0u8; 4096];
-    let monitor = begun.monitor;
-    let _ = run(monitor, &input[end..last], &mut replies);
+    run(&mut unit, &input[end..last], &mut replies);
     let count = piece_count(last - end);
     let len = put_lines(&mut bytes, &replies, count);
     Printed { bytes, len }

@@ -14,6 +14,7 @@ use Rattle.model.specs.Runs.{respond, reply, after, replies}
 use Rattle.model.specs.Program.{pieces}
 use Rattle.model.proofs.Tests.{le-or-lt}
 use Rattle.model.proofs.Lists.{after-append, replies-append, length-replies}
+use Rattle.unit.specs.Rows.{Rows, rowCount, stateIn}
 
 -- one element more is taken
 take-more : {A : Type 0} (i : ℕ) (l : List A) (d : A) → i < length l → take (suc i) l ≡ take i l ++ (getD l i d ∷ [])
@@ -85,12 +86,12 @@ piece-at b i h =
     (le-or-lt (i * 6 + 6) (length b))
 
 -- what holds at the head of the loop over the pieces
-pub record Looping (requests out₀ : List ℕ) (m : Monitor) (count : ℕ) (out : List ℕ) (n : Monitor) (i : ℕ) : Type 0 where
+pub record Looping (requests out₀ : List ℕ) (m : Monitor) (count : ℕ) (out : List ℕ) (u : Rows) (i : ℕ) : Type 0 where
   pub bound : i ≤ count
   pub counted : count ≡ min ((length requests + 5) / 6) (length out₀)
-  pub so-far : After (pieces requests) out₀ m out n i
+  pub so-far : After (pieces requests) out₀ m out (stateIn u) i
   pub out-length : length out ≡ length out₀
-  pub objects-length : length (n .objects) ≡ 64
+  pub rows : length u ≡ rowCount
 
 -- as many pieces as were counted are those that have room
 pub taken : {A : Type 0} (l : List A) (room : ℕ) → take (min (length l) room) l ≡ take room l
@@ -99,10 +100,10 @@ taken [] (suc room) = let e : min 0 (suc room) ≡ 0 = omega arith in rw e
 taken (x ∷ l) zero = let e : min (suc (length l)) 0 ≡ 0 = omega arith in rw e
 taken (x ∷ l) (suc room) = let e : min (suc (length l)) (suc room) ≡ suc (min (length l) room) = omega arith in rw e (ap (λ r. x ∷ r) (taken l room))
 
-pub ended : (requests out₀ : List ℕ) (m : Monitor) (count : ℕ) (out : List ℕ) (n : Monitor) (i : ℕ) → Looping requests out₀ m count out n i → count ≤ i
-    → (n ≡ after (take (length out₀) (pieces requests)) m)
+pub ended : (requests out₀ : List ℕ) (m : Monitor) (count : ℕ) (out : List ℕ) (u : Rows) (i : ℕ) → Looping requests out₀ m count out u i → count ≤ i
+    → (stateIn u ≡ after (take (length out₀) (pieces requests)) m)
     × (out ≡ replies (take (length out₀) (pieces requests)) m ++ drop (length (take (length out₀) (pieces requests))) out₀)
-ended requests out₀ m count out n i L h =
+ended requests out₀ m count out u i L h =
     let l : length (pieces requests) ≡ (length requests + 5) / 6 = length-pieces requests in
     let all : i ≡ min (length (pieces requests)) (length out₀) = omega (arith, L .bound, L .counted, l) in
     let same : take i (pieces requests) ≡ take (length out₀) (pieces requests) = ap (λ k. take k (pieces requests)) all ∙ taken (pieces requests) (length out₀) in

@@ -1,22 +1,12 @@
-// A list of requests on one monitor, which stays in one local: a turn stores the record of one object.
+// A list of requests on a unit.
 ghost use mathlib.Core.Path.{_≡_};
 ghost use mathlib.Core.List.{_++_};
 ghost use lib.ListN.{length, drop};
 ghost use Rattle.model.specs.Runs.{after, replies};
+ghost use Rattle.unit.specs.Rows.{rowCount, stateIn};
 ghost use Rattle.turns.specs.Turns.{pieceCount, turns};
+use asking::ask;
 use bits::smaller;
-use decoding::decode;
-use labels::number;
-use labels::refuses;
-use model::Monitor;
-use rules::decide;
-use rules::kept_record;
-use rules::last_answer;
-use rules::late_answer;
-use rules::parts_said;
-use rules::record_of;
-use rules::simple_where;
-use star::star_broken;
 
 // How many pieces of six bytes there are, a last short one counted.
 pub fn piece_count(bytes: usize) -> usize
@@ -29,42 +19,18 @@ pub fn piece_count(bytes: usize) -> usize
     }
 }
 
-// Runs the pieces in a row, as many as have room for a reply, and returns the monitor that they leave.
-pub fn run(m: Monitor, requests: &[u8], out: &mut [u8]) -> Monitor
-    ensures state { λ r. ⌜ r ≡ after (turns (now (requests .entry)) (length (now (out .entry)))) m ⌝ }
-    ensures written { λ r. ⌜ now (out .exit) ≡ replies (turns (now (requests .entry)) (length (now (out .entry)))) m ++ drop (length (turns (now (requests .entry)) (length (now (out .entry))))) (now (out .entry)) ⌝ }
+// Asks a unit the pieces in a row, as many as have room for a reply.
+pub fn run(unit: &mut [[u8; 16]], requests: &[u8], out: &mut [u8])
+    requires { do ⌜ (← ⟦unit.len()⟧) ≡ rowCount ⌝ }
+    ensures state { λ r. ⌜ stateIn (now (unit .exit)) ≡ after (turns (now (requests .entry)) (length (now (out .entry)))) (stateIn (now (unit .entry))) ⌝ }
+    ensures written { λ r. ⌜ now (out .exit) ≡ replies (turns (now (requests .entry)) (length (now (out .entry)))) (stateIn (now (unit .entry))) ++ drop (length (turns (now (requests .entry)) (length (now (out .entry))))) (now (out .entry)) ⌝ }
 {
-    let mut n = m;
     let count = smaller(piece_count(requests.len()), out.len());
     let mut i = 0usize;
     while i < count {
         let at = i * 6;
         let end = smaller(at + 6, requests.len());
-        let said = decode(&requests[at..end]);
-        let parts = parts_said(said);
-        let o = parts.object as usize;
-        let ob = n.objects[o];
-        let one = n.subjects[parts.actor as usize];
-        let two = n.subjects[parts.other as usize];
-        let a = one.clearance;
-        let b = two.clearance;
-        let v = decide(said, a, b, ob);
-        let mut d = v.decision;
-        if !refuses(d) {
-            let new = record_of(v, ob);
-            n.objects[o] = new;
-            if v.low < v.high {
-                let subjects = n.subjects;
-                let simple = simple_where(v.simple, subjects, new);
-                let broken = star_broken(n, v.low, v.high);
-                let last = late_answer(simple, broken);
-                d = last_answer(last, d);
-                let kept = kept_record(last, ob, new);
-                n.objects[o] = kept;
-            }
-        }
-        out[i] = number(d);
+        out[i] = ask(unit, &requests[at..end]);
         i += 1;
     }
-    n
 }

@@ -25,6 +25,10 @@ module _ (u : Rows) (o : ℕ) (h : o < 64) where
   unfolding objectOf
   read-owner s = ap (owns s) read-object
 
+  pub read-owner-byte : byteAt (rowAt u (restRow o)) 1 ≡ object (stateIn u) o .owner
+  unfolding objectOf
+  read-owner-byte = ap (λ (x : Object). x .owner) read-object
+
   pub read-label : labelIn (rowAt u (restRow o)) ≡ object (stateIn u) o .label
   unfolding objectOf
   read-label = ap (λ (x : Object). x .label) read-object

@@ -9,12 +9,13 @@ use mathlib.Core.List.{List, []}
 use lib.ListN.{length, set, length-set}
 use lib.Seq.{getD-set-same, getD-set-other}
 use borrow.Author.Tests.{lt-ltb, le-ltb}
+use Rattle.model.specs.declared.Subject.{Subject}
 use Rattle.model.specs.declared.Object.{Object}
 use Rattle.model.specs.declared.Monitor.{Monitor}
-use Rattle.model.specs.State.{nobody, noObject, object, clearance, WellFormed}
+use Rattle.model.specs.State.{nobody, noObject, objectAt, object, clearance, fresh, WellFormed}
 use Rattle.model.proofs.Tests.{le-or-lt}
 use Rattle.unit.specs.Rows.{Rows, rowCount, heldRow, restRow, clearanceRow, rowAt, labelIn, objectIn, subjectIn, subjectsIn, objectsIn, stateIn}
-use Rattle.unit.specs.Stored.{restOf, clearanceOf, setObject, monitorRow, unitOf}
+use Rattle.unit.specs.Stored.{restOf, clearanceOf, setObject, monitorRow, unitOf, ObjectsStored, SameClearances}
 use Rattle.unit.proofs.Tabulated.{tabulate-length, tabulate-at, tabulated}
 use Rattle.unit.proofs.Stores.{label-back, object-back, object-length, object-others, object-rights, object-held, object-rest}
 
@@ -90,16 +91,8 @@ module _ (m : Monitor) where
 
 -- ---- rows that a loop stores
 
--- the rows of the objects below o are stored
-pub record ObjectsStored (m : Monitor) (u : Rows) (o : ℕ) : Type 0 where
-  pub bound : o ≤ 64
-  pub whole : length u ≡ rowCount
-  pub rights : (p : ℕ) → p < o → rowAt u p ≡ object m p .rights
-  pub held : (p : ℕ) → p < o → rowAt u (heldRow p) ≡ object m p .held
-  pub rest : (p : ℕ) → p < o → rowAt u (restRow p) ≡ restOf (object m p)
-
-pub objects-none : (m : Monitor) (u : Rows) → length u ≡ rowCount → ObjectsStored m u 0
-objects-none m u e =
+pub objects-none : (l : List Object) (u : Rows) → length u ≡ rowCount → ObjectsStored l u 0
+objects-none l u e =
     record {
       bound = omega arith;
       whole = e;
@@ -108,33 +101,37 @@ objects-none m u e =
       rest = λ p h. absurd (omega arith);
     }
 
-module _ (m : Monitor) (u : Rows) (o : ℕ) (ob : Object) (F : ObjectsStored m u o) (h : o < 64) (e : ob ≡ object m o) where
+module _ (l : List Object) (u : Rows) (o : ℕ) (ob : Object) (F : ObjectsStored l u o) (h : o < 64) (e : ob ≡ objectAt l o) where
   below : (P : ℕ → Type 0) → P o → ((p : ℕ) → p < o → P p) → (p : ℕ) → p < o + 1 → P p
   below P x f p w = ⊎-elim (λ (q : p ≡ o). subst P (sym q) x) (λ (q : p < o). f p q) (eq-or-lt-of-le {n = p} {m = o} (omega arith))
 
-  pub objects-more : ObjectsStored m (setObject u o ob) (o + 1)
+  pub objects-more : ObjectsStored l (setObject u o ob) (o + 1)
   objects-more =
       record {
         bound = omega arith;
         whole = object-length u o ob (F .whole) h;
-        rights = below (λ p. rowAt (setObject u o ob) p ≡ object m p .rights) (object-rights u o ob (F .whole) h ∙ ap (λ (x : Object). x .rights) e)
+        rights = below (λ p. rowAt (setObject u o ob) p ≡ objectAt l p .rights) (object-rights u o ob (F .whole) h ∙ ap (λ (x : Object). x .rights) e)
             (λ p w. object-others u o ob (F .whole) h p (λ z. absurd (omega arith)) (λ z. absurd (omega arith)) (λ z. absurd (omega arith)) ∙ F .rights p w);
-        held = below (λ p. rowAt (setObject u o ob) (heldRow p) ≡ object m p .held) (object-held u o ob (F .whole) h ∙ ap (λ (x : Object). x .held) e)
+        held = below (λ p. rowAt (setObject u o ob) (heldRow p) ≡ objectAt l p .held) (object-held u o ob (F .whole) h ∙ ap (λ (x : Object). x .held) e)
             (λ p w. object-others u o ob (F .whole) h (heldRow p) (λ z. absurd (omega arith)) (λ z. absurd (omega arith)) (λ z. absurd (omega arith)) ∙ F .held p w);
-        rest = below (λ p. rowAt (setObject u o ob) (restRow p) ≡ restOf (object m p)) (object-rest u o ob (F .whole) h ∙ ap restOf e)
+        rest = below (λ p. rowAt (setObject u o ob) (restRow p) ≡ restOf (objectAt l p)) (object-rest u o ob (F .whole) h ∙ ap restOf e)
             (λ p w. object-others u o ob (F .whole) h (restRow p) (λ z. absurd (omega arith)) (λ z. absurd (omega arith)) (λ z. absurd (omega arith)) ∙ F .rest p w);
       }
+
+pub clearances-kept : (u v : Rows) (o : ℕ) (ob : Object) → length v ≡ rowCount → o < 64 → SameClearances u v → SameClearances u (setObject v o ob)
+clearances-kept u v o ob n h S =
+    record { same = λ s. object-others v o ob n h (clearanceRow s) (λ z. absurd (omega arith)) (λ z. absurd (omega arith)) (λ z. absurd (omega arith)) ∙ S .same s }
 
 -- these, and the rows of the subjects below s
 pub record SubjectsStored (m : Monitor) (u : Rows) (s : ℕ) : Type 0 where
   pub bound : s ≤ 16
-  pub objects : ObjectsStored m u 64
+  pub objects : ObjectsStored (m .objects) u 64
   pub subjects : (k : ℕ) → k < s → rowAt u (clearanceRow k) ≡ clearanceOf (clearance m k)
 
-pub subjects-none : (m : Monitor) (u : Rows) (o : ℕ) → ObjectsStored m u o → 64 ≤ o → SubjectsStored m u 0
+pub subjects-none : (m : Monitor) (u : Rows) (o : ℕ) → ObjectsStored (m .objects) u o → 64 ≤ o → SubjectsStored m u 0
 subjects-none m u o F h =
     let e : o ≡ 64 = omega (arith, F .bound) in
-    record { bound = omega arith; objects = subst (ObjectsStored m u) e F; subjects = λ k w. absurd (omega arith) }
+    record { bound = omega arith; objects = subst (ObjectsStored (m .objects) u) e F; subjects = λ k w. absurd (omega arith) }
 
 pub subjects-more : (m : Monitor) (u : Rows) (s : ℕ) (r : List ℕ) → SubjectsStored m u s → s < 16 → r ≡ clearanceOf (clearance m s) → SubjectsStored m (set u (clearanceRow s) r) (s + 1)
 subjects-more m u s r E h e =
@@ -166,3 +163,14 @@ subjects-all m u s E h =
     (λ p l. F .held p l ∙ sym (row-held m p l))
     (λ p l. F .rest p l ∙ sym (row-rest m p l))
     (λ k l. E .subjects k (omega arith) ∙ sym (row-clearance m k)))
+
+-- a fresh monitor's rows, in which the records of the objects were stored
+pub stored-over : (l : List Subject) (os : List Object) (u w : Rows) → u ≡ unitOf (fresh l) → SameClearances u w → ObjectsStored os w 64 → w ≡ unitOf (record { subjects = l; objects = os })
+stored-over l os u w e S O =
+    subjects-all (record { subjects = l; objects = os }) w 16
+    (record {
+      bound = omega arith;
+      objects = O;
+      subjects = λ k h. S .same k ∙ ap (λ (v : Rows). rowAt v (clearanceRow k)) e ∙ unit-at (fresh l) (clearanceRow k) (omega arith) ∙ row-clearance (fresh l) k;
+    })
+    (omega arith)

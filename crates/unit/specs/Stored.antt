@@ -1,18 +1,19 @@
 -- What is stored into the rows, and the rows of a whole monitor.
 -- Assumes nothing.
-use Prim.Native.Nat.{ℕ, _-_, _/_, _%_, _*_}
+use Prim.Native.Nat.{ℕ, _-_, _*_, _/_, _%_, _<_, _≤_}
+use mathlib.Core.Path.{_≡_}
 use mathlib.Core.Bool.{cond}
 use mathlib.Core.List.{List, _∷_}
-use lib.ListN.{set, replicate}
+use lib.ListN.{length, set, replicate}
 use lib.Dec.{ltb}
 use Rattle.bits.specs.Bits.{bit}
 use Rattle.model.specs.declared.Label.{Label}
 use Rattle.model.specs.declared.Label.the-variants.{Absent, Present}
 use Rattle.model.specs.declared.Object.{Object}
 use Rattle.model.specs.declared.Monitor.{Monitor}
-use Rattle.model.specs.State.{objectCount, object, clearance, withLabel}
+use Rattle.model.specs.State.{objectCount, objectAt, object, clearance, withLabel}
 use Rattle.unit.specs.declared.rows.LabelBytes.{LabelBytes}
-use Rattle.unit.specs.Rows.{Rows, rowCount, heldRow, restRow, rowAt, objectIn, tabulate}
+use Rattle.unit.specs.Rows.{Rows, rowCount, heldRow, restRow, clearanceRow, rowAt, objectIn, tabulate}
 
 -- the bytes of a label: 1, the class and the needs in two bytes; of none four times 0
 unfoldable pub labelBytes : Label → LabelBytes
@@ -62,3 +63,17 @@ monitorRow m i =
 -- the rows of a monitor
 unfoldable pub unitOf : Monitor → Rows
 unitOf m = tabulate rowCount (monitorRow m)
+
+-- ---- rows that are stored part by part
+
+-- the rows of the objects below o have what a list of records has
+pub record ObjectsStored (l : List Object) (u : Rows) (o : ℕ) : Type 0 where
+  pub bound : o ≤ objectCount
+  pub whole : length u ≡ rowCount
+  pub rights : (p : ℕ) → p < o → rowAt u p ≡ objectAt l p .rights
+  pub held : (p : ℕ) → p < o → rowAt u (heldRow p) ≡ objectAt l p .held
+  pub rest : (p : ℕ) → p < o → rowAt u (restRow p) ≡ restOf (objectAt l p)
+
+-- the clearances are what they were
+pub record SameClearances (u w : Rows) : Type 0 where
+  pub same : (s : ℕ) → rowAt w (clearanceRow s) ≡ rowAt u (clearanceRow s)

@@ -50,6 +50,15 @@ pub fn is_owner(unit: &[[u8; 16]], s: u8, o: u8) -> bool
     unit[i][1] == s
 }
 
+pub fn owner_of(unit: &[[u8; 16]], o: u8) -> u8
+    requires { do ⌜ (← ⟦unit.len()⟧) ≡ rowCount ⌝ }
+    requires { ⌜ o < objectCount ⌝ }
+    ensures { λ r. ⌜ r ≡ object (stateIn (now (unit .entry))) o .owner ⌝ }
+{
+    let i = REST + o as usize;
+    unit[i][1]
+}
+
 pub fn label_of(unit: &[[u8; 16]], o: u8) -> Label
     requires { do ⌜ (← ⟦unit.len()⟧) ≡ rowCount ⌝ }
     requires { ⌜ o < objectCount ⌝ }

@@ -1,7 +1,7 @@
 // A whole monitor out of its rows, and its rows out of a monitor.
 ghost use mathlib.Core.Path.{_≡_};
 ghost use Prim.Native.Nat.{_<_};
-ghost use Rattle.model.specs.State.{objectCount};
+ghost use Rattle.model.specs.State.{objectCount, object};
 ghost use Rattle.unit.specs.Rows.{rowCount, objectsIn, subjectsIn, objectOf, stateIn};
 ghost use Rattle.unit.specs.Stored.{setObject, unitOf};
 use crate::parts::set_rows;
@@ -28,6 +28,19 @@ fn object_of(rights: [u8; 16], held: [u8; 16], rest: [u8; 16]) -> Object
         rights,
         held,
     }
+}
+
+// The record of an object.
+pub fn object_in(unit: &[[u8; 16]], o: u8) -> Object
+    requires { do ⌜ (← ⟦unit.len()⟧) ≡ rowCount ⌝ }
+    requires { ⌜ o < objectCount ⌝ }
+    ensures { λ r. ⌜ r ≡ object (stateIn (now (unit .entry))) o ⌝ }
+{
+    let i = o as usize;
+    let rights = unit[i];
+    let held = unit[HELD + i];
+    let rest = unit[REST + i];
+    object_of(rights, held, rest)
 }
 
 fn objects_in(unit: &[[u8; 16]]) -> [Object; 64]
@@ -74,7 +87,7 @@ pub fn monitor_in(unit: &[[u8; 16]]) -> Monitor
     Monitor { subjects, objects }
 }
 
-fn set_object(unit: &mut [[u8; 16]], o: u8, ob: Object)
+pub fn set_object(unit: &mut [[u8; 16]], o: u8, ob: Object)
     requires { do ⌜ (← ⟦unit.len()⟧) ≡ rowCount ⌝ }
     requires { ⌜ o < objectCount ⌝ }
     ensures { λ r. ⌜ now (unit .exit) ≡ setObject (now (unit .entry)) o ob ⌝ }

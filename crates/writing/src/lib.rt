@@ -9,12 +9,16 @@ ghost use Rattle.bits.specs.Stream.{Appends};
 ghost use Rattle.model.specs.State.{noModes, noObject};
 ghost use Rattle.model.specs.Layout.{imageSize, labelBits, setsBits, objectBits, tableBits, objectsBits};
 ghost use Rattle.model.specs.Writing.{writing, written};
+ghost use Rattle.unit.specs.Rows.{rowCount, subjectsIn, objectsIn, stateIn};
 use labels::is_present;
 use model::Decision;
 use model::Label;
 use model::Monitor;
 use model::Object;
-use model::Subject;
+use unit::ROWS;
+use unit::clearance_of;
+use unit::fill;
+use unit::object_in;
 
 // The four low bits of one number and those of another behind them: the two sets of a subject, live and owner, present and class.
 fn side_by_side(high: u8, low: u8) -> u32
@@ -124,15 +128,15 @@ fn write_object(out: &mut [u8], at: usize, acc: u32, object: Object) -> u32
 }
 
 // The table at the start of the image.
-fn write_subjects(out: &mut [u8], subjects: [Subject; 16]) -> u32
+fn write_subjects(out: &mut [u8], unit: &[[u8; 16]]) -> u32
     requires { ⌜ imageSize ≤ length (now out) ⌝ }
-    ensures { λ r. ⌜ Appends (now (out .entry)) 0 0 (tableBits subjects) (now (out .exit)) 336 r ⌝ }
+    requires { do ⌜ (← ⟦unit.len()⟧) ≡ rowCount ⌝ }
+    ensures { λ r. ⌜ Appends (now (out .entry)) 0 0 (tableBits (subjectsIn (now (unit .entry)))) (now (out .exit)) 336 r ⌝ }
 {
     let mut waiting: u32 = 0;
     let mut s: usize = 0;
     while s < Monitor::SUBJECTS {
-        let subject = subjects[s];
-        let clearance = subject.clearance;
+        let clearance = clearance_of(unit, s as u8);
         waiting = write_label(out, 21 * s, waiting, clearance);
         s += 1;
     }
@@ -140,29 +144,39 @@ fn write_subjects(out: &mut [u8], subjects: [Subject; 16]) -> u32
 }
 
 // The object records, behind the 336 bits of the table.
-fn write_objects(out: &mut [u8], acc: u32, objects: [Object; 64]) -> u32
+fn write_objects(out: &mut [u8], acc: u32, unit: &[[u8; 16]]) -> u32
     requires { ⌜ (imageSize ≤ length (now out)) × (acc < 256) ⌝ }
-    ensures { λ r. ⌜ Appends (now (out .entry)) 336 acc (objectsBits objects) (now (out .exit)) (8 * imageSize) r ⌝ }
+    requires { do ⌜ (← ⟦unit.len()⟧) ≡ rowCount ⌝ }
+    ensures { λ r. ⌜ Appends (now (out .entry)) 336 acc (objectsBits (objectsIn (now (unit .entry)))) (now (out .exit)) (8 * imageSize) r ⌝ }
 {
     let mut waiting = acc;
     let mut o: usize = 0;
     while o < Monitor::OBJECTS {
-        waiting = write_object(out, 336 + 154 * o, waiting, objects[o]);
+        let object = object_in(unit, o as u8);
+        waiting = write_object(out, 336 + 154 * o, waiting, object);
         o += 1;
     }
     waiting
 }
 
-// The image into the first 1,274 bytes of out; a shorter buffer is left as it is.
-pub fn write_image(m: Monitor, out: &mut [u8]) -> Decision
-    ensures { λ r. ⌜ (r ≡ writing (now (out .entry))) × (now (out .exit) ≡ written m (now (out .entry))) ⌝ }
+// The image of a unit's state into the first 1,274 bytes of out; a shorter buffer is left as it is.
+pub fn save(unit: &[[u8; 16]], out: &mut [u8]) -> Decision
+    requires { do ⌜ (← ⟦unit.len()⟧) ≡ rowCount ⌝ }
+    ensures { λ r. ⌜ (r ≡ writing (now (out .entry))) × (now (out .exit) ≡ written (stateIn (now (unit .entry))) (now (out .entry))) ⌝ }
 {
     if out.len() < Monitor::IMAGE_BYTES {
         return Decision::ShortBuffer;
     }
-    let subjects = m.subjects;
-    let objects = m.objects;
-    let waiting = write_subjects(out, subjects);
-    write_objects(out, waiting, objects);
+    let waiting = write_subjects(out, unit);
+    write_objects(out, waiting, unit);
     Decision::Granted
+}
+
+// The same of a monitor by value, through a unit of its own.
+pub fn write_image(m: Monitor, out: &mut [u8]) -> Decision
+    ensures { λ r. ⌜ (r ≡ writing (now (out .entry))) × (now (out .exit) ≡ written m (now (out .entry))) ⌝ }
+{
+    let mut unit = [[0u8; 16]; ROWS];
+    fill(&mut unit, m);
+    save(&unit, out)
 }

@@ -1,3 +1,5 @@
+-- `checking::findings_at` meets its contract.
+-- Assumes nothing.
 -- Each field is the test of its check.
 -- Assumes nothing.
 use mathlib.Core.Path.{ap₂, _∙_}

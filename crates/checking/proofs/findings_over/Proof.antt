@@ -1,30 +1,30 @@
--- After o turns the findings are those of the objects below o.
+-- `checking::findings_over` meets its contract.
 -- Assumes nothing.
 use Prim.Native.Nat.{ℕ, _-_, _≤_}
 use native.Mathlib.Omega.{arith}
 use mathlib.Core.Path.{_≡_, refl, ap, ap₂, _∙_}
-use borrow.Author.Needs.{needs}
-use lib.ListN.{length, take}
+use lib.ListN.{take}
 use lib.Seq.{take-all}
+use Rattle.model.specs.State.{noObject}
+use Rattle.unit.specs.Rows.{objectIn, subjectsIn, objectsIn}
+use Rattle.unit.proofs.Tabulated.{tabulate-length}
 use Rattle.checking.specs.Checks.{both, ofObject, ofObjects}
 use Rattle.checking.proofs.Passes.{along-more}
+use borrow.Author.Needs.{needs}
 use Rattle.checking.proofs.findings_over.Statement.{statement}
 use Rattle.checking.proofs.findings_over.Tie as tie
 
 abbrev Inv-loop : tie.InvT-loop
-Inv-loop subjects objects found₀ o₀ found o = (o ≤ 64) × (length objects ≡ 64) × (found ≡ ofObjects subjects (take o objects))
+Inv-loop unit found₀ o₀ found o = (o ≤ 64) × (found ≡ ofObjects (subjectsIn unit) (take o (objectsIn unit)))
 
 abbrev μ-loop : tie.MeasureT-loop
-μ-loop subjects objects found₀ o₀ found o = 64 - o
+μ-loop unit found₀ o₀ found o = 64 - o
 
 loop-holds : tie.Need-loop-holds Inv-loop μ-loop
-loop-holds c = (omega arith, omega arith, refl)
+loop-holds c = (omega arith, refl)
 
-mul-findings-of : tie.Need-mul-findings-of Inv-loop μ-loop
-mul-findings-of c = search needs
-
-array-copy-out-findings-of : tie.Need-array-copy-out-findings-of Inv-loop μ-loop
-array-copy-out-findings-of c = search needs
+cast-findings-of : tie.Need-cast-findings-of Inv-loop μ-loop
+cast-findings-of c = search needs
 
 findings-of-requires : tie.Need-findings-of-requires Inv-loop μ-loop
 findings-of-requires c κs = search needs
@@ -40,20 +40,19 @@ loop-less c = search needs
 
 loop-again : tie.Need-loop-again Inv-loop μ-loop
 loop-again c =
-    let loop = c .before .before .before .before .loop in
-    let a = c .before .before .before .before .before .args in (
-      omega arith,
-      loop .inv .1,
-      c .both .ensures ∙ ap₂ both (loop .inv .2) (c .before .findings-of .ensures)
-          ∙ along-more (ofObject (a .subjects)) (a .t2) (loop .o) _ (omega (arith, loop .inv .1)),
+    let loop = c .before .before .before .loop in
+    let u = c .before .before .before .before .args .unit .now in (
+      omega (arith, c .before .before .loop-test .taken),
+      c .both .ensures ∙ ap₂ both (loop .inv .1) (c .before .findings-of .ensures)
+          ∙ along-more (ofObject (subjectsIn u)) (objectsIn u) (loop .o) noObject (omega (arith, c .before .before .loop-test .taken, tabulate-length 64 (objectIn u))),
     )
 
 returns : tie.Need-returns Inv-loop μ-loop
 returns c =
     let loop = c .before .loop in
-    let a = c .before .before .args in
-    let end : loop .o ≡ 64 = omega arith in
-    loop .inv .2 ∙ ap (λ (o : ℕ). ofObjects (a .subjects) (take o (a .t2))) end ∙ ap (ofObjects (a .subjects)) (take-all 64 (a .t2) (omega (arith, loop .inv .1)))
+    let u = c .before .before .args .unit .now in
+    let end : loop .o ≡ 64 = omega (arith, c .loop-test .left, loop .inv .0) in
+    loop .inv .1 ∙ ap (λ (o : ℕ). ofObjects (subjectsIn u) (take o (objectsIn u))) end ∙ ap (ofObjects (subjectsIn u)) (take-all 64 (objectsIn u) (omega (arith, tabulate-length 64 (objectIn u))))
 
 pub findings-over-spec : {M : Type 1} → statement M
 findings-over-spec =
@@ -62,8 +61,7 @@ findings-over-spec =
     Inv-loop
     μ-loop
     loop-holds
-    mul-findings-of
-    array-copy-out-findings-of
+    cast-findings-of
     findings-of-requires
     both-requires
     add-o

@@ -1,4 +1,4 @@
--- The five answers, one inside the other, are the checks in their order.
+-- `checking::state_checks` meets its contract.
 -- Assumes nothing.
 use mathlib.Core.Path.{_≡_, refl, ap, ap₂, _∙_}
 use mathlib.Core.Bool.{Bool, true, false, not}
@@ -6,7 +6,6 @@ use Rattle.model.specs.declared.Decision.{Decision}
 use Rattle.model.specs.declared.Decision.the-variants.{NoRight, NoLabel, SimpleBroken, StarBroken, AbsentSubject}
 use Rattle.model.specs.Tests.{unless}
 use Rattle.model.specs.Reading.{stateChecks}
-use Rattle.star.specs.Between.{starBetween}
 use Rattle.star.proofs.Between.{between-all}
 use Rattle.checking.specs.declared.Findings.{Findings}
 use borrow.Author.Needs.{needs}
@@ -24,8 +23,8 @@ answers d p q e = e ∙ ap₂ (λ (x : Bool) (y : Decision). unless x d y) p q
 findings-over-requires : tie.Need-findings-over-requires
 findings-over-requires c κs = search needs
 
-star-broken-requires : tie.Need-star-broken-requires
-star-broken-requires c κs = search needs
+breaks-star-requires : tie.Need-breaks-star-requires
+breaks-star-requires c κs = search needs
 
 check-requires : tie.Need-check-requires
 check-requires c κs = search needs
@@ -44,10 +43,8 @@ check-requires-5 c κs = search needs
 
 returns : tie.Need-returns
 unfolding stateChecks
-returns c =
-    let found = c .before .before .before .before .before .before .findings-over .ensures in
-    let objects = c .before .before .before .before .before .before .before .before .before .args .m .objects in
-    let star = ap not (c .before .before .before .before .before .star-broken .ensures) ∙ not-not (starBetween 0 16 objects) ∙ between-all objects in
+returns c = let found = c .before .before .before .before .before .before .findings-over .ensures in
+    let star = ap not (c .before .before .before .before .before .breaks-star .ensures) ∙ not-not _ ∙ between-all _ in
     let nine = answers StarBroken star refl (c .before .before .before .before .check .ensures) in
     let eight = answers SimpleBroken (ap (λ (f : Findings). f .simple) found) nine (c .before .before .before .check2 .ensures) in
     let seven = answers NoLabel (ap (λ (f : Findings). f .labelled) found) eight (c .before .before .check3 .ensures) in
@@ -59,7 +56,7 @@ state-checks-spec =
     tie.close
     (tie.spec
     findings-over-requires
-    star-broken-requires
+    breaks-star-requires
     check-requires
     check-requires-2
     check-requires-3

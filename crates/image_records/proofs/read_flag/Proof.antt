@@ -1,3 +1,5 @@
+-- `image_records::read_flag` meets its contract.
+-- Assumes nothing.
 -- The number in five bits gives their flag, the number behind it, and whether they are blank.
 -- Assumes nothing.
 use mathlib.Core.Path.{_∙_}

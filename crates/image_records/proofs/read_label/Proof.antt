@@ -1,3 +1,5 @@
+-- `image_records::read_label` meets its contract.
+-- Assumes nothing.
 -- The flag and the needs give the label, present or absent, and whether the record is blank.
 -- Assumes nothing.
 use mathlib.Core.Path.{refl, ap, _∙_}

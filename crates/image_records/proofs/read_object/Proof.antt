@@ -1,3 +1,5 @@
+-- `image_records::read_object` meets its contract.
+-- Assumes nothing.
 -- The five bits, the label and the sets give the object, live or not, and whether its record has its form.
 -- Assumes nothing.
 use mathlib.Core.Path.{_≡_, refl, ap, _∙_}

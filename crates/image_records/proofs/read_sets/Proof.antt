@@ -1,3 +1,5 @@
+-- `image_records::read_sets` meets its contract.
+-- Assumes nothing.
 -- After s turns the sets of the subjects below s are read, and the bits so far are blank or not.
 -- Assumes nothing.
 use mathlib.Core.Path.{_≡_, refl, sym, ap, _∙_}

@@ -1,3 +1,5 @@
+-- `image_records::read_subjects` meets its contract.
+-- Assumes nothing.
 -- Bytes of another length have no form. After s turns the records of the subjects below s are read, and have their form or not.
 -- Assumes nothing.
 use mathlib.Core.Path.{_≡_, refl, ap, _∙_}

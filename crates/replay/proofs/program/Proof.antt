@@ -1,37 +1,31 @@
 -- `replay::program` meets its contract.
 -- Assumes nothing.
-use Prim.Native.Nat.{ℕ}
 use mathlib.Core.Path.{sym, _∙_}
+use Rattle.image.proofs.Sizes.{table-begun}
+use Prim.Native.Nat.{ℕ}
 use lib.ListN.{replicate, length-replicate}
-use borrow.Author.Needs.{needs}
 use Rattle.replay.proofs.Printing.{prints-refusal, prints-replies}
+use borrow.Author.Needs.{needs}
 use Rattle.replay.proofs.program.Statement.{statement}
 use Rattle.replay.proofs.program.Tie as tie
-use Rattle.replay.proofs.program.Reads as reads
-use Rattle.replay.proofs.program.Lts as lts
-use Rattle.image.proofs.read_table.Reads as read-table-reads
-use Rattle.labels.proofs.number.Reads as number-reads
-use Rattle.labels.proofs.refuses.Reads as refuses-reads
-use Rattle.replay.proofs.put_line.Reads as put-line-reads
-use Rattle.replay.proofs.put_lines.Reads as put-lines-reads
-use Rattle.turns.proofs.piece_count.Reads as piece-count-reads
-use Rattle.turns.proofs.run.Reads as run-reads
-use Rattle.bits.proofs.smaller.Reads as smaller-reads
 
 smaller-requires : tie.Need-smaller-requires
 smaller-requires c κs = search needs
 
-sub-read-table : tie.Need-sub-read-table
-sub-read-table c = search needs
+slice-aggregate-start : tie.Need-slice-aggregate-start
+slice-aggregate-start c = search needs
 
-part-read-table-start : tie.Need-part-read-table-start
-part-read-table-start c = search needs
+sub-start : tie.Need-sub-start
+sub-start c = search needs
 
-part-read-table-end : tie.Need-part-read-table-end
-part-read-table-end c = search needs
+part-start-start : tie.Need-part-start-start
+part-start-start c = search needs
 
-read-table-requires : tie.Need-read-table-requires
-read-table-requires c κs = search needs
+part-start-end : tie.Need-part-start-end
+part-start-end c = search needs
+
+start-requires : tie.Need-start-requires
+start-requires c κs = search needs
 
 refuses-requires : tie.Need-refuses-requires
 refuses-requires c κs = search needs
@@ -46,13 +40,16 @@ put-line-requires : tie.Need-put-line-requires
 put-line-requires c κs = search needs
 
 returns : tie.Need-returns
-returns c = prints-refusal _ _ (c .before .before .before .before .before .before .before .before .smaller .ensures) (c .before .before .before .before .before .before .read-table .result) (c .before .before .before .before .before .before .read-table .ensures) (sym (c .before .before .before .before .before .refuses .ensures) ∙ c .before .before .before .before .if1 .taken) _ (c .before .before .number .ensures) _ _ _ (c .before .put-line .ensures .0) (c .before .put-line .ensures .1)
+returns c = prints-refusal _ _ (c .before .before .before .before .before .before .before .before .before .before .smaller .ensures) _ (table-begun _ _ _ (c .before .before .before .before .before .before .before .start .ensures .0) (c .before .before .before .before .before .before .before .start .ensures .1)) (sym (c .before .before .before .before .before .refuses .ensures) ∙ c .before .before .before .before .if1 .taken) _ (c .before .before .number .ensures) _ _ _ (c .before .put-line .ensures .0) (c .before .put-line .ensures .1)
 
 add-smaller : tie.Need-add-smaller
 add-smaller c = search needs
 
 smaller-requires-2 : tie.Need-smaller-requires-2
 smaller-requires-2 c κs = search needs
+
+slice-aggregate-run : tie.Need-slice-aggregate-run
+slice-aggregate-run c = search needs
 
 sub-run : tie.Need-sub-run
 sub-run c = search needs
@@ -63,8 +60,8 @@ part-run-start c = search needs
 part-run-end : tie.Need-part-run-end
 part-run-end c = search needs
 
-slice-aggregate-run : tie.Need-slice-aggregate-run
-slice-aggregate-run c = search needs
+slice-aggregate-run-2 : tie.Need-slice-aggregate-run-2
+slice-aggregate-run-2 c = search needs
 
 run-requires : tie.Need-run-requires
 run-requires c κs = search needs
@@ -85,17 +82,20 @@ put-lines-requires : tie.Need-put-lines-requires
 put-lines-requires c κs = search needs
 
 returns-2 : tie.Need-returns-2
-returns-2 c = prints-replies _ _ (c .before .before .before .before .before .before .before .before .before .before .before .before .before .before .before .smaller .ensures) (c .before .before .before .before .before .before .before .before .before .before .before .before .before .read-table .result) (c .before .before .before .before .before .before .before .before .before .before .before .before .before .read-table .ensures) (sym (c .before .before .before .before .before .before .before .before .before .before .before .before .refuses .ensures) ∙ c .before .before .before .before .before .before .before .before .before .before .before .if1 .left) _ (c .before .before .before .before .before .before .before .before .before .before .smaller2 .ensures) (replicate {A = ℕ} 4096 0) _ (length-replicate {A = ℕ} 4096 0) (c .before .before .before .before .before .before .run .ensures .1) _ (c .before .before .before .before .piece-count .ensures) _ _ _ (c .before .put-lines .ensures .0) (c .before .put-lines .ensures .1)
+returns-2 c =
+    prints-replies _ _ (c .before .before .before .before .before .before .before .before .before .before .before .before .before .before .before .before .before .before .smaller .ensures) _ (table-begun _ _ _ (c .before .before .before .before .before .before .before .before .before .before .before .before .before .before .before .start .ensures .0) (c .before .before .before .before .before .before .before .before .before .before .before .before .before .before .before .start .ensures .1)) (sym (c .before .before .before .before .before .before .before .before .before .before .before .before .before .refuses .ensures) ∙ c .before .before .before .before .before .before .before .before .before .before .before .before .if1 .left) _ (c .before .before .before .before .before .before .before .before .before .before .before .smaller2 .ensures)
+    (replicate {A = ℕ} 4096 0) _ (length-replicate {A = ℕ} 4096 0) (c .before .before .before .before .before .before .before .run .ensures .1) _ (c .before .before .before .before .piece-count .ensures) _ _ _ (c .before .put-lines .ensures .0) (c .before .put-lines .ensures .1)
 
 pub program-spec : {M : Type 1} → statement M
 program-spec =
     tie.close
     (tie.spec
     smaller-requires
-    sub-read-table
-    part-read-table-start
-    part-read-table-end
-    read-table-requires
+    slice-aggregate-start
+    sub-start
+    part-start-start
+    part-start-end
+    start-requires
     refuses-requires
     slice-aggregate-put-line
     number-requires
@@ -103,10 +103,11 @@ program-spec =
     returns
     add-smaller
     smaller-requires-2
+    slice-aggregate-run
     sub-run
     part-run-start
     part-run-end
-    slice-aggregate-run
+    slice-aggregate-run-2
     run-requires
     sub-piece-count
     piece-count-requires

@@ -7,8 +7,6 @@ use lib.ListN.{set, length-set}
 use Rattle.replay.proofs.Putting.{short-line, long-line}
 use Rattle.replay.proofs.put_line.Statement.{statement}
 use Rattle.replay.proofs.put_line.Tie as tie
-use Rattle.replay.proofs.put_line.Reads as reads
-use Rattle.replay.proofs.put_line.Lts as lts
 
 add-out : tie.Need-add-out
 add-out c = search needs

@@ -11,9 +11,6 @@ use Rattle.replay.specs.Lines.{put}
 use Rattle.replay.proofs.Putting.{Lining, lining-start, lining-more}
 use Rattle.replay.proofs.put_lines.Statement.{statement}
 use Rattle.replay.proofs.put_lines.Tie as tie
-use Rattle.replay.proofs.put_lines.Reads as reads
-use Rattle.replay.proofs.put_lines.Lts as lts
-use Rattle.replay.proofs.put_line.Reads as put-line-reads
 
 abbrev Inv-loop : tie.InvT-loop
 Inv-loop out₀ numbers count at₀ i₀ out at i = Lining out₀ numbers count out at i

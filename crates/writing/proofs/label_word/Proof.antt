@@ -1,3 +1,5 @@
+-- `writing::label_word` meets its contract.
+-- Assumes nothing.
 -- The number has the bits of the label's record, by the two cases of a label.
 -- Assumes nothing.
 use mathlib.Core.Path.{sym, ap, _∙_}

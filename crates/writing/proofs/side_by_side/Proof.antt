@@ -1,3 +1,5 @@
+-- `writing::side_by_side` meets its contract.
+-- Assumes nothing.
 -- Two masks and a shift put the low bits of two numbers side by side.
 -- Assumes nothing.
 use native.Mathlib.Omega.{arith}

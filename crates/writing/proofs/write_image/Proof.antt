@@ -1,55 +1,52 @@
--- A buffer that is too short is left; in any other the two parts, one behind the other, are the whole image.
+-- `writing::write_image` meets its contract.
 -- Assumes nothing.
-use mathlib.Core.Path.{_≡_}
-use mathlib.Core.List.{List, _++_}
-use Prim.Native.Nat.{ℕ, _*_, _≤_, _<_}
-use native.Mathlib.Omega.{arith}
-use borrow.Author.Tests.{lt-ltb, le-ltb}
-use lib.ListN.{length, drop}
-use Rattle.bits.specs.Stream.{Appends, next, whole}
+use mathlib.Core.Path.{_≡_, ap, _∙_}
+use lib.ListN.{length}
 use Rattle.model.specs.declared.Monitor.{Monitor}
-use Rattle.model.specs.declared.Decision.the-variants.{Granted, ShortBuffer}
-use Rattle.model.specs.Layout.{imageSize, imageBits, imageOf}
-use Rattle.model.specs.Writing.{tooShort, writing, written}
+use Rattle.model.specs.Writing.{written}
+use Rattle.model.proofs.Tests.{mapped-length}
+use Rattle.unit.specs.Rows.{stateIn}
+use Rattle.unit.proofs.Units.{unit-says}
 use borrow.Author.Needs.{needs}
 use Rattle.writing.proofs.write_image.Statement.{statement}
 use Rattle.writing.proofs.write_image.Tie as tie
 
--- the two answers of the writer
-short : (m : Monitor) (s : List ℕ) → length s < imageSize → (ShortBuffer ≡ writing s) × (s ≡ written m s)
-unfolding writing written tooShort
-short m s h = let e = lt-ltb (length s) 1274 h in (rw e, rw e)
+slice-aggregate-fill : tie.Need-slice-aggregate-fill
+slice-aggregate-fill c = search needs
 
-long : (m : Monitor) (s t : List ℕ) → imageSize ≤ length s → t ≡ imageOf m ++ drop imageSize s → (Granted ≡ writing s) × (t ≡ written m s)
-unfolding writing written tooShort
-long m s t h p = let e = le-ltb (length s) 1274 h in (rw e, rw e p)
+-- the arrays of a monitor by value have their lengths
+subjects-length : (c : tie.Start) → length (c .args .m .subjects) ≡ 16
+subjects-length c = mapped-length (c .args .m .subjects) (Rattle.model.proofs.Subject.the-type .to) 16 (c .good .0 .1 .1 .0 .1 .0 .1)
 
-returns : tie.Need-returns
-returns c = short (c .before .before .args .m) (c .before .before .args .out .now) (c .if1 .taken)
+objects-length : (c : tie.Start) → length (c .args .m .objects) ≡ 64
+objects-length c = mapped-length (c .args .m .objects) (Rattle.model.proofs.Object.the-type .to) 64 (c .good .0 .1 .1 .1 .0 .1 .0 .1)
 
-write-subjects-requires : tie.Need-write-subjects-requires
-write-subjects-requires c κs = search needs
+fill-requires : tie.Need-fill-requires
+fill-requires c κs = search needs
 
-write-objects-requires : tie.Need-write-objects-requires
-write-objects-requires c κs = search needs
+slice-aggregate-save : tie.Need-slice-aggregate-save
+slice-aggregate-save c = search needs
+
+save-requires : tie.Need-save-requires
+save-requires c κs = search needs
 
 same-length : tie.Need-same-length
 same-length c = search needs
 
-returns-2 : tie.Need-returns-2
-unfolding imageOf imageBits
-returns-2 c =
-    let objects = c .before .before .write-objects in
-    let subjects = c .before .before .before .before .before .before .write-subjects in
-    let a = c .before .before .before .before .before .before .before .before .before .before .before .before .args in
-    let s = a .out .now in
-    let t = objects .last .0 in
-    let all : Appends s 0 0 (imageBits (a .m)) t (8 * 1274) (objects .result) =
-    next _ _ (omega arith) (subjects .ensures) (objects .ensures) in
-    long (a .m) s t (omega arith)
-    (whole 1274 s t (imageBits (a .m)) (objects .result) (λ i. omega (arith, c .slice-known3 .given i)) (omega arith) all)
+returns : tie.Need-returns
+returns c =
+    let start = c .before .before .before .before .before .before .before .before .before in
+    let m = start .args .m in
+    let says = ap stateIn (c .before .before .before .before .before .before .fill .ensures) ∙ unit-says m (subjects-length start) (objects-length start) in
+    (c .before .before .save .ensures .0, c .before .before .save .ensures .1 ∙ ap (λ (k : Monitor). written k (start .args .out .now)) says)
 
 pub write-image-spec : {M : Type 1} → statement M
 write-image-spec =
     tie.close
-    (tie.spec returns write-subjects-requires write-objects-requires same-length returns-2)
+    (tie.spec
+    slice-aggregate-fill
+    fill-requires
+    slice-aggregate-save
+    save-requires
+    same-length
+    returns)

@@ -1,3 +1,5 @@
+-- `writing::write_label` meets its contract.
+-- Assumes nothing.
 -- Three appends, of 5, 8 and 8 bits, append the 21 bits of the label's record.
 -- Assumes nothing.
 use mathlib.Core.Path.{_∙_}

@@ -1,3 +1,5 @@
+-- `writing::write_object` meets its contract.
+-- Assumes nothing.
 -- Five bits, the label and the sets, one behind the other, are the object's record; where there is no object, its bits are all 0.
 -- Assumes nothing.
 use mathlib.Core.Path.{refl, sym, ap, _∙_}

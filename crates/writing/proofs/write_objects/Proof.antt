@@ -1,39 +1,43 @@
--- After o turns the records of the objects below o are appended, behind the table's 336 bits.
+-- `writing::write_objects` meets its contract.
 -- Assumes nothing.
-use mathlib.Core.Path.{_≡_, refl}
-use mathlib.Core.List.{[]}
+use mathlib.Core.Path.{refl, ap, _∙_}
+use mathlib.Core.List.{[], _++_}
 use Prim.Native.Nat.{_+_, _-_, _*_, _≤_}
 use native.Mathlib.Omega.{arith}
-use borrow.Author.Needs.{needs}
-use lib.ListN.{length, take}
+use lib.ListN.{take}
 use Rattle.bits.specs.Stream.{Appends, stay, next, ends}
-use Rattle.model.specs.Layout.{objectBits, objectsBits}
+use Rattle.unit.proofs.Tabulated.{tabulate-length}
 use Rattle.writing.proofs.Streams.{join-more, join-all, no-records}
+use Rattle.model.specs.declared.Object.{Object}
+use Rattle.model.specs.State.{noObject}
+use Rattle.model.specs.Layout.{objectBits, objectsBits}
+use Rattle.unit.specs.Rows.{objectIn, objectsIn}
+use borrow.Author.Needs.{needs}
 use Rattle.writing.proofs.write_objects.Statement.{statement}
 use Rattle.writing.proofs.write_objects.Tie as tie
 
 abbrev Inv-loop : tie.InvT-loop
-Inv-loop out₀ acc objects waiting₀ o₀ out waiting o = (o ≤ 64) × (length objects ≡ 64) × Appends out₀ 336 acc (objectsBits (take o objects)) out (336 + 154 * o) waiting
+Inv-loop out₀ acc unit waiting₀ o₀ out waiting o = (o ≤ 64) × Appends out₀ 336 acc (objectsBits (take o (objectsIn unit))) out (336 + 154 * o) waiting
 
 abbrev μ-loop : tie.MeasureT-loop
-μ-loop out₀ acc objects waiting₀ o₀ out waiting o = 64 - o
+μ-loop out₀ acc unit waiting₀ o₀ out waiting o = 64 - o
 
 loop-holds : tie.Need-loop-holds Inv-loop μ-loop
 loop-holds c =
     let a = c .before .args in
-    (omega arith, omega arith, ends [] (objectsBits []) no-records refl (stay (a .out .now) 336 (a .acc) (omega arith)))
+    (omega arith, ends [] (objectsBits []) no-records refl (stay (a .out .now) 336 (a .acc) (omega arith)))
+
+cast-object-in : tie.Need-cast-object-in Inv-loop μ-loop
+cast-object-in c = search needs
+
+object-in-requires : tie.Need-object-in-requires Inv-loop μ-loop
+object-in-requires c κs = search needs
 
 mul-write-object : tie.Need-mul-write-object Inv-loop μ-loop
 mul-write-object c = search needs
 
 add-write-object : tie.Need-add-write-object Inv-loop μ-loop
 add-write-object c = search needs
-
-mul-write-object-2 : tie.Need-mul-write-object-2 Inv-loop μ-loop
-mul-write-object-2 c = search needs
-
-array-copy-out-write-object : tie.Need-array-copy-out-write-object Inv-loop μ-loop
-array-copy-out-write-object c = search needs
 
 write-object-requires : tie.Need-write-object-requires Inv-loop μ-loop
 write-object-requires c κs = search needs
@@ -46,19 +50,20 @@ loop-less c = search needs
 
 loop-again : tie.Need-loop-again Inv-loop μ-loop
 loop-again c =
-    let put = c .before .before in
-    let loop = put .before .before .before .before .loop in
-    let l = put .before .before .before .before .before .before .args .t3 in
-    (omega arith, loop .inv .1, ends _ _ (join-more objectBits (loop .o) l _ (omega (arith, loop .inv .1))) (omega arith) (next _ _ refl (loop .inv .2) (put .write-object .ensures)))
+    let loop = c .before .before .before .before .before .before .loop in
+    let u = c .before .before .before .before .before .before .before .before .args .unit .now in
+    let l = objectsIn u in
+    let one = ap (λ (k : Object). objectsBits (take (loop .o) l) ++ objectBits k) (c .before .before .before .before .object-in .ensures) in
+    (omega arith, ends _ _ (one ∙ join-more objectBits (loop .o) l noObject (omega (arith, c .before .before .before .before .before .loop-test .taken, tabulate-length 64 (objectIn u)))) (omega arith) (next _ _ refl (loop .inv .1) (c .before .before .write-object .ensures)))
 
 same-length : tie.Need-same-length Inv-loop μ-loop
 same-length c = search needs
 
 returns : tie.Need-returns Inv-loop μ-loop
 returns c =
-    let l = c .before .before .before .args .t3 in
+    let u = c .before .before .before .args .unit .now in
     let loop = c .before .loop in
-    ends _ _ (join-all objectBits (loop .o) 64 l (omega arith) (loop .inv .1)) (omega arith) (c .before .loop .inv .2)
+    ends _ _ (join-all objectBits (loop .o) 64 (objectsIn u) (omega arith) (tabulate-length 64 (objectIn u))) (omega arith) (loop .inv .1)
 
 pub write-objects-spec : {M : Type 1} → statement M
 write-objects-spec =
@@ -67,10 +72,10 @@ write-objects-spec =
     Inv-loop
     μ-loop
     loop-holds
+    cast-object-in
+    object-in-requires
     mul-write-object
     add-write-object
-    mul-write-object-2
-    array-copy-out-write-object
     write-object-requires
     add-o
     loop-less

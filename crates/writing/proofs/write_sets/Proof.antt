@@ -1,3 +1,5 @@
+-- `writing::write_sets` meets its contract.
+-- Assumes nothing.
 -- After s turns the sets of the subjects below s are appended.
 -- Assumes nothing.
 use mathlib.Core.Path.{_≡_, refl, ap, ap₂, _∙_}

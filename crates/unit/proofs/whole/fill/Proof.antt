@@ -3,7 +3,8 @@
 use Prim.Native.Nat.{_-_}
 use native.Mathlib.Omega.{arith}
 use mathlib.Core.Path.{sym}
-use Rattle.unit.proofs.Units.{ObjectsStored, objects-none, objects-more, SubjectsStored, subjects-none, subjects-more, subjects-all}
+use Rattle.unit.specs.Stored.{ObjectsStored}
+use Rattle.unit.proofs.Units.{objects-none, objects-more, SubjectsStored, subjects-none, subjects-more, subjects-all}
 use Prim.Native.Nat.{_+_}
 use mathlib.Core.Path.{_≡_, subst}
 use lib.ListN.{length}
@@ -14,7 +15,7 @@ use Rattle.unit.proofs.whole.fill.Statement.{statement}
 use Rattle.unit.proofs.whole.fill.Tie as tie
 
 abbrev Inv-loop : tie.InvT-loop
-Inv-loop unit₀ m o₀ unit o = ObjectsStored m unit o
+Inv-loop unit₀ m o₀ unit o = ObjectsStored (m .objects) unit o
 
 abbrev μ-loop : tie.MeasureT-loop
 μ-loop unit₀ m o₀ unit o = 64 - o
@@ -50,7 +51,7 @@ loop-less : tie.Need-loop-less Inv-loop μ-loop Inv-loop2 μ-loop2
 loop-less c = search needs
 
 loop-again : tie.Need-loop-again Inv-loop μ-loop Inv-loop2 μ-loop2
-loop-again c = subst (λ u. ObjectsStored (c .before .before .before .before .before .before .args .t2) u (c .before .before .before .before .before .loop .o + 1)) (sym (c .before .set-object .ensures)) (objects-more _ _ _ _ (c .before .before .before .before .before .loop .inv) (c .before .before .before .before .loop-test .taken) (read-object (c .before .before .before .before .before .before .args .t2 .objects) (c .before .before .before .before .before .loop .o) (objects-length (c .before .before .before .before .before .before)) (c .before .before .before .before .loop-test .taken)))
+loop-again c = subst (λ u. ObjectsStored (c .before .before .before .before .before .before .args .t2 .objects) u (c .before .before .before .before .before .loop .o + 1)) (sym (c .before .set-object .ensures)) (objects-more _ _ _ _ (c .before .before .before .before .before .loop .inv) (c .before .before .before .before .loop-test .taken) (read-object (c .before .before .before .before .before .before .args .t2 .objects) (c .before .before .before .before .before .loop .o) (objects-length (c .before .before .before .before .before .before)) (c .before .before .before .before .loop-test .taken)))
 
 loop2-holds : tie.Need-loop2-holds Inv-loop μ-loop Inv-loop2 μ-loop2
 loop2-holds c = subjects-none _ _ _ (c .before .loop .inv) (c .loop-test .left)

@@ -1,0 +1,49 @@
+-- Every beginning, refused ones too, has sixteen subjects and sixty-four objects; so the rows of its monitor say it.
+-- Assumes nothing.
+use mathlib.Core.Path.{_≡_, refl, ap, _∙_}
+use Prim.Native.Nat.{ℕ}
+use mathlib.Core.List.{List}
+use lib.ListN.{length, length-map}
+use Rattle.bits.specs.Records.{length-cut}
+use Rattle.model.specs.declared.Monitor.{Monitor}
+use Rattle.model.specs.declared.Decision.{Decision}
+use Rattle.model.specs.State.{fresh, emptyMonitor}
+use Rattle.model.specs.Decisions.{refuses}
+use Rattle.model.specs.Reading.{begin, tableFrom, objectsFrom, monitorFrom, tableChecks, imageChecks, readTable, readImage}
+use Rattle.model.specs.Beginnings.{Beginning, table, image, begun}
+use Rattle.model.proofs.Tests.{cond-all}
+use Rattle.unit.specs.Rows.{Rows, stateIn}
+use Rattle.unit.specs.Stored.{unitOf}
+use Rattle.unit.proofs.Units.{unit-says}
+
+record Sized (m : Monitor) : Type 0 where
+  subjects : length (m .subjects) ≡ 16
+  objects : length (m .objects) ≡ 64
+
+begin-sized : (d : Decision) (m : Monitor) → Sized m → Sized (begin d m .monitor)
+unfolding begin
+begin-sized d m z = cond-all Sized (refuses d) emptyMonitor m (λ e. record { subjects = refl; objects = refl }) (λ e. z)
+
+table-sized : (b : List ℕ) → Sized (fresh (tableFrom b))
+unfolding tableFrom
+table-sized b = record { subjects = simp (length-map, length-cut); objects = refl }
+
+image-sized : (b : List ℕ) → Sized (monitorFrom b)
+unfolding monitorFrom tableFrom objectsFrom
+image-sized b = record { subjects = simp (length-map, length-cut); objects = simp (length-map, length-cut) }
+
+begun-sized : (b : Beginning) → Sized (begun b .monitor)
+unfolding readTable readImage
+begun-sized (table b) = begin-sized (tableChecks b) (fresh (tableFrom b)) (table-sized b)
+begun-sized (image b) = begin-sized (imageChecks b) (monitorFrom b) (image-sized b)
+
+pub begun-says : (b : Beginning) → stateIn (unitOf (begun b .monitor)) ≡ begun b .monitor
+begun-says b = unit-says (begun b .monitor) (begun-sized b .subjects) (begun-sized b .objects)
+
+-- what the bytes of an image say, accepted or not
+pub read-says : (b : List ℕ) → stateIn (unitOf (monitorFrom b)) ≡ monitorFrom b
+read-says b = unit-says (monitorFrom b) (image-sized b .subjects) (image-sized b .objects)
+
+-- the decision and the rows that are left, as the reader's response
+pub table-begun : (b : List ℕ) (d : Decision) (u : Rows) → d ≡ readTable b .decision → u ≡ unitOf (readTable b .monitor) → record { decision = d; monitor = stateIn u } ≡ readTable b
+table-begun b d u e f = let m = ap stateIn f ∙ begun-says (table b) in λ i. record { decision = e i; monitor = m i }
