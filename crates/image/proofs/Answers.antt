@@ -63,7 +63,7 @@ module _ (s : List ℕ) (size : length s ≡ 1274) (t : TableRead) (t-is : t ≡
         ∙ ap₂ (λ (r : TableRead) (part : List ℕ). unitOf (record { subjects = r .subjects; objects = objectsFrom part })) table-is rest
 
     pub image-answer : (k d : Decision) → k ≡ stateChecks (stateIn w) → d ≡ unless (t .formed && formed) StrayBits k → d ≡ imageChecks s
-    unfolding imageForm imageChecks
+    unfolding imageForm imageChecks stateChecks
     image-answer k d e f =
         right-length s 1274 (unless (imageForm s) StrayBits (stateChecks (monitorFrom s))) d size
         (f
