@@ -22,7 +22,6 @@ pub mod refusal;
 pub mod request;
 mod save;
 pub mod script;
-pub mod shortest;
 pub mod show;
 pub mod view;
 pub mod words;
