@@ -68,7 +68,5 @@ pub fn replay(table: &[u8], requests: &[u8], replies: &mut [u8]) -> u8 {
 /// is refused with n, then 192 + n where the image b is, then 13 where the buffer has under 24 bytes, and every byte left.
 pub fn distinguish(a: &[u8], b: &[u8], requests: &mut [u8]) -> u8 {
     // Safety: each pointer comes with the length of its slice, and no slice overlaps the one that is written.
-    unsafe {
-        raw::circmon_distinguish(a.as_ptr(), size(a), b.as_ptr(), size(b), requests.as_mut_ptr(), size(requests))
-    }
+    unsafe { raw::circmon_distinguish(a.as_ptr(), size(a), b.as_ptr(), size(b), requests.as_mut_ptr(), size(requests)) }
 }

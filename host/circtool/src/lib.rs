@@ -13,6 +13,7 @@ pub mod explain;
 pub mod fault;
 pub mod help;
 pub mod input;
+mod kinds;
 pub mod layout;
 pub mod level;
 pub mod mode;

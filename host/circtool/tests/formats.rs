@@ -4,7 +4,7 @@
 mod shared;
 
 use circmon::Unit;
-use circtool::words::{hex, request_words};
+use circtool::words::hex;
 use load::Random;
 use reference::{Kind, Monitor, Request};
 use sidebyside::{compiled, image, root, SHAPES};
@@ -220,7 +220,7 @@ fn the_worked_examples_are_what_the_library_reads_and_writes() {
     let [request, table, in_image] = <[Vec<u8>; 3]>::try_from(examples()).unwrap();
     let decoded = Request::decode(&request).unwrap();
     let circtool = circtool::request::Request::decode(&request).unwrap();
-    assert_eq!(request_words(&circtool), "s1 changes the level of o1 to class 2 needs {0}");
+    assert_eq!(circtool.sentence(), "s1 changes the level of o1 to class 2 needs {0}");
     let table = [table, vec![0; 34]].concat();
     let mut unit = Unit::from_table(&table).unwrap();
     let subjects: Vec<_> = Monitor::from_table(&table).unwrap().subjects.into_iter().flatten().collect();
@@ -245,7 +245,7 @@ fn the_program_written_from_the_page_makes_each_kind() {
     for line in lines.by_ref().take_while(|line| !line.contains("of the image")) {
         let request = circtool::request::Request::decode(&bytes(line)).unwrap();
         let reply = monitor.request(&bytes(line));
-        assert_eq!(line[19..], format!("{}: {reply}", request_words(&request)), "{text}");
+        assert_eq!(line[19..], format!("{}: {reply}", request.sentence()), "{text}");
         kinds.push(bytes(line)[0] >> 4);
     }
     kinds.sort_unstable();

@@ -51,7 +51,7 @@ fn state() -> Monitor {
     let mut monitor = Monitor::empty();
     monitor.subjects[0] = Some(LOW);
     monitor.subjects[1] = Some(HIGH);
-    let mut object = Object { owner: 1, label: Some(LOW), rights: [0; 16], held: [0; 16] };
+    let mut object = Object { label: Some(LOW), ..Object::new(1) };
     object.rights[1] = 0b1110;
     object.held[1] = 0b1000;
     monitor.objects[2] = Some(object);

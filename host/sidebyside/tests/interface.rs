@@ -111,7 +111,10 @@ fn library() -> Functions {
     let mut functions = Functions::new();
     for entry in std::fs::read_dir(folder).unwrap().map(Result::unwrap) {
         let text = plain(&std::fs::read_to_string(entry.path()).unwrap(), &[("//", "\n")]);
-        assert_eq!(text.matches("#[no_mangle]").count(), text.matches("#[no_mangle] pub extern \"C\" fn circmon_").count());
+        assert_eq!(
+            text.matches("#[no_mangle]").count(),
+            text.matches("#[no_mangle] pub extern \"C\" fn circmon_").count()
+        );
         functions.extend(declared(&text, "#[no_mangle] pub extern \"C\" fn ", " -> u8 ", in_rattle));
     }
     functions

@@ -20,7 +20,8 @@ fn documented() -> Rows {
 }
 
 fn measured() -> Rows {
-    let output = Command::new(compiled_here("stack", env!("CARGO_TARGET_TMPDIR"), &["-O1", "-pthread"])).output().unwrap();
+    let output =
+        Command::new(compiled_here("stack", env!("CARGO_TARGET_TMPDIR"), &["-O1", "-pthread"])).output().unwrap();
     let text = String::from_utf8(output.stdout).unwrap();
     let row = |line: &str| {
         let words: Vec<&str> = line.split(' ').collect();
