@@ -141,3 +141,13 @@ fn replies_and_images_are_those_of_the_state_that_the_rows_say() {
     }
     assert!((0..=9).all(|reply| count.of(reply) > 100), "{count:?}");
 }
+
+#[test]
+fn a_number_that_is_too_large_for_the_image_is_saved_by_its_low_bits() {
+    let mut rows = *Unit::from_table(&reference::table_w()).unwrap().rows();
+    rows[CLEARANCES + 1][3] += 16;
+    let unit = Unit::from_rows(rows);
+    // the unit replies by class 19, which the image does not hold
+    assert_eq!(unit.image(), Unit::from_table(&reference::table_w()).unwrap().image());
+    assert_eq!(monitor_said(&rows).subjects[1], Some(Level { class: 19, needs: 3 }));
+}
