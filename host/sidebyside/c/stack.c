@@ -97,13 +97,13 @@ static size_t depth(void *(*work)(void *)) {
 
 int main(void) {
     const struct { const char *name; void *(*work)(void *); } rows[] = {
-        {"circmon_save", save}, {"circmon_ask", ask}, {"circmon_open", open_unit}, {"circmon_start", start},
+        {"circmon_open", open_unit}, {"circmon_start", start}, {"circmon_ask", ask}, {"circmon_save", save},
         {"circmon_begin", begin}, {"circmon_read", reading}, {"circmon_request", level}, {"circmon_replay", replay},
         {"circmon_distinguish", distinguish}};
-    fill();
     depth(nothing);
     size_t least = depth(nothing);
     for (size_t i = 0; i < sizeof rows / sizeof *rows; i++) {
+        fill();
         size_t used = depth(rows[i].work) - least;
         printf("%s %zu %d\n", rows[i].name, used, answer);
     }

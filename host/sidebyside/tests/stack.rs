@@ -8,15 +8,14 @@ const UNDER: [(&str, usize); 1] = [("circmon_ask", 1024)];
 
 type Rows = Vec<(String, usize)>;
 
-/// The table of docs/EMBEDDING.md: each function and its bytes of stack.
+/// The heading of the table in docs/EMBEDDING.md: each function and its bytes of stack.
+const HEADING: &str = "| function | bytes of stack |";
+
 fn documented() -> Rows {
     let text = std::fs::read_to_string(root().join("docs/EMBEDDING.md")).unwrap();
-    let rows = text.lines().filter_map(|line| line.strip_prefix("| `circmon_"));
-    rows.map(|row| {
-        let (name, bytes) = row.split_once("` | ").unwrap();
-        (format!("circmon_{name}"), bytes.trim_end_matches(" |").replace(',', "").parse().unwrap())
-    })
-    .collect()
+    let table = text.lines().skip_while(|line| *line != HEADING).skip(2).take_while(|line| line.starts_with('|'));
+    let rows = table.map(|line| line.trim_matches(['|', ' ']).split_once(" | ").unwrap());
+    rows.map(|(name, bytes)| (name.replace('`', ""), bytes.replace(',', "").parse().unwrap())).collect()
 }
 
 fn measured() -> Rows {
