@@ -1,5 +1,5 @@
-/* A unit in C: it begins from an enrolment table, carries out requests, keeps its state as an image and shows that a copy
- * of the image goes on alike. docs/EMBEDDING.md builds and runs it. */
+/* A unit in C: it starts from an enrolment table, answers requests in memory, saves its state as an image and opens it
+ * again; and a request on an image alone. docs/EMBEDDING.md builds and runs it. */
 #include "circmon.h"
 #include <stdio.h>
 #include <string.h>
@@ -16,22 +16,24 @@ static const struct {
     {"s1 labels o0 class 0 needs {}", {0x70, 0x80, 0x00, 0x00, 0x00, 0x00}},
     {"s1 gets r on o0", {0x10, 0x80, 0x01, 0x00, 0x00, 0x00}},
 };
+static const uint8_t release[CIRCMON_REQUEST_BYTES] = {0x20, 0x80, 0x01, 0x00, 0x00, 0x00};
 
 int main(void) {
-    uint8_t image[CIRCMON_IMAGE_BYTES], saved[CIRCMON_IMAGE_BYTES];
-    uint8_t difference[4 * CIRCMON_REQUEST_BYTES];
-    printf("begin: %d\n", circmon_begin(table, sizeof table, image, sizeof image));
+    circmon_unit unit, again;
+    uint8_t saved[CIRCMON_IMAGE_BYTES], image[CIRCMON_IMAGE_BYTES], telling[CIRCMON_DISTINGUISH_BYTES];
+    printf("start: %d\n", circmon_start(&unit, table, sizeof table));
     for (size_t i = 0; i < sizeof requests / sizeof *requests; i++) {
-        uint8_t reply = circmon_request(image, sizeof image, requests[i].bytes, CIRCMON_REQUEST_BYTES);
-        printf("%s: %d\n", requests[i].words, reply);
+        uint8_t reply = circmon_ask(&unit, requests[i].bytes, CIRCMON_REQUEST_BYTES);
+        printf("%s: %d, %s\n", requests[i].words, reply, reply < 2 ? "granted" : "refused");
     }
-    /* the image is the whole state: save it, and begin again from it */
-    memcpy(saved, image, sizeof saved);
-    printf("the saved image is read: %d\n", circmon_read(saved, sizeof saved));
-    printf("requests that tell the two apart: %d\n",
-           circmon_distinguish(image, sizeof image, saved, sizeof saved, difference, sizeof difference));
-    circmon_request(image, sizeof image, requests[0].bytes, CIRCMON_REQUEST_BYTES - 1);
-    printf("after a refused request: %d\n",
-           circmon_distinguish(image, sizeof image, saved, sizeof saved, difference, sizeof difference));
+    /* the image is the whole state */
+    printf("save: %d\n", circmon_save(&unit, saved, sizeof saved));
+    printf("open: %d\n", circmon_open(&again, saved, sizeof saved));
+    printf("the two units are %s\n", memcmp(&unit, &again, sizeof unit) == 0 ? "equal" : "different");
+    /* without a unit: the image is read, checked and written by the call */
+    memcpy(image, saved, sizeof image);
+    printf("s1 releases r on o0, on an image: %d\n", circmon_request(image, sizeof image, release, sizeof release));
+    printf("requests that tell it from the one saved: %d\n",
+           circmon_distinguish(image, sizeof image, saved, sizeof saved, telling, sizeof telling));
     return 0;
 }

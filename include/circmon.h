@@ -1,9 +1,11 @@
-/* circmon: a Bell-LaPadula reference monitor. Link with libcapi.a, which `rt staticlib capi` writes to target/staticlib.
+/* circmon: a Bell-LaPadula reference monitor, for C11 and C++11. Link with libcapi.a, which `rt staticlib capi` writes to
+ * target/staticlib.
  *
- * Each function is proved to meet its contract for every pointer that comes with the length of what it points to. A
- * buffer that a call may write must not overlap another one of that call; two that it only reads may be the same. An
- * empty buffer may have any pointer, also NULL, with length 0. No function keeps a pointer, allocates, or has a state of
- * its own.
+ * Each function is proved to meet its contract for every content of every buffer, where a pointer comes with the length of
+ * what it points to, and the pointer to a unit points to a whole one. A buffer or unit that a call may write must not
+ * overlap another one of that call; two that it only reads may be the same. An empty buffer may have any pointer, also
+ * NULL, with length 0. No function keeps a pointer, allocates, or has a state of its own: calls that share nothing
+ * that one of them writes may run at once.
  *
  * Numbers: 0 granted and changed, or accepted, or written; 1 granted and so already; 2 malformed; 3 not enrolled;
  * 4 object not live; 5 create on a live object; 6 right or ownership missing, of an image: an access is held without the
@@ -13,7 +15,6 @@
 #ifndef CIRCMON_H
 #define CIRCMON_H
 
-#include <stddef.h>
 #include <stdint.h>
 
 #ifdef __cplusplus
@@ -24,25 +25,68 @@ extern "C" {
 #define CIRCMON_IMAGE_BYTES 1274
 #define CIRCMON_REQUEST_BYTES 6
 #define CIRCMON_DISTINGUISH_BYTES 24
+#define CIRCMON_UNIT_BYTES 3328
+
+/* The length of a buffer, in bytes. It has 64 bits on every machine, so that this header need not change with one. */
+typedef uint64_t circmon_size;
+
+/* ---- A unit: one monitor that stays in memory which the caller owns */
+
+/* 208 rows of sixteen bytes: rows 0 to 63 the rights of the objects, 64 to 127 the accesses held, 128 to 191 the rest of
+ * each object's record, 192 to 207 the clearances of the subjects; docs/FORMATS.md says what each byte is. There is no
+ * pointer and no padding in it, and its alignment is 1: it may be copied as it stands, also between machines.
+ * Every content of these bytes is a state, and what the functions below do with it is defined and proved: no content makes
+ * them do anything undefined, read or write elsewhere, or not end. That a unit is secure is proved where it was opened or
+ * started with 0 and then only asked; so keep it where nobody else writes. */
+typedef struct {
+    uint8_t row[208][16];
+} circmon_unit;
+
+#ifdef __cplusplus
+static_assert(sizeof(circmon_unit) == CIRCMON_UNIT_BYTES, "a unit has no padding");
+#else
+_Static_assert(sizeof(circmon_unit) == CIRCMON_UNIT_BYTES, "a unit has no padding");
+#endif
+
+/* Begins from an image.
+ * Returns 0, and the unit is the monitor of the image; or the first refusal of 10, 11, 12, 6, 7, 8, 9, and the unit is the
+ * empty monitor, nobody enrolled. Every byte of the unit is written; what was in it before does not matter. */
+uint8_t circmon_open(circmon_unit *unit, const uint8_t *image, circmon_size image_len);
+
+/* Begins from an enrolment table, with no live object.
+ * Returns 0, and the unit is the monitor of the table; or 10 or 11, and the unit is the empty monitor, nobody enrolled.
+ * Every byte of the unit is written; what was in it before does not matter. */
+uint8_t circmon_start(circmon_unit *unit, const uint8_t *table, circmon_size table_len);
+
+/* Carries out a request: bytes of any length and content, of which exactly six can say one.
+ * Returns the reply. Below 2 it is granted: 0 and the state changed, 1 and it was so already. 2 to 9 is the first check that
+ * refuses, and every byte of the unit is left. */
+uint8_t circmon_ask(circmon_unit *unit, const uint8_t *request, circmon_size request_len);
+
+/* Writes the image of the state into the first 1,274 bytes of the buffer and leaves any later byte.
+ * Returns 0; or 13 where the buffer has under 1,274 bytes, and leaves every byte of it. The unit is only read. */
+uint8_t circmon_save(const circmon_unit *unit, uint8_t *image, circmon_size image_len);
+
+/* ---- Calls on images: the state is the image itself, which each call reads, checks and writes */
 
 /* Begins a monitor from an enrolment table and writes its image.
  * Returns 10 or 11 where the table is refused; then 13 where the buffer has under 1,274 bytes; else 0.
  * A refusal leaves every byte of the buffer. 0 fills its first 1,274 bytes and leaves any later byte. */
-uint8_t circmon_begin(const uint8_t *table, size_t table_len, uint8_t *image, size_t image_len);
+uint8_t circmon_begin(const uint8_t *table, circmon_size table_len, uint8_t *image, circmon_size image_len);
 
 /* Reads an image. Returns 0 where it is accepted, else the first refusal of 10, 11, 12, 6, 7, 8, 9. */
-uint8_t circmon_read(const uint8_t *image, size_t image_len);
+uint8_t circmon_read(const uint8_t *image, circmon_size image_len);
 
 /* Carries out a request on the state in the buffer, which is exactly an image.
  * Where the image is refused with n, returns 128 + n and leaves every byte.
  * Else returns the reply, 0 to 9, and writes the image of the state after the request in place. */
-uint8_t circmon_request(uint8_t *image, size_t image_len, const uint8_t *request, size_t request_len);
+uint8_t circmon_request(uint8_t *image, circmon_size image_len, const uint8_t *request, circmon_size request_len);
 
 /* Runs requests of six bytes in a row, from a monitor begun from a table; a short last piece counts and gets 2.
  * Returns 10 or 11 where the table is refused; then 13 where replies is shorter than the number of pieces; else 0.
  * A refusal leaves every byte of replies. 0 writes one reply byte for each piece and leaves any later byte. */
-uint8_t circmon_replay(const uint8_t *table, size_t table_len, const uint8_t *requests, size_t requests_len,
-                       uint8_t *replies, size_t replies_len);
+uint8_t circmon_replay(const uint8_t *table, circmon_size table_len, const uint8_t *requests, circmon_size requests_len,
+                       uint8_t *replies, circmon_size replies_len);
 
 /* Writes requests on which the states of two images reply differently.
  * Returns 128 + n where image a is refused with n; then 192 + n where image b is refused with n; then 13 where requests has
@@ -50,8 +94,8 @@ uint8_t circmon_replay(const uint8_t *table, size_t table_len, const uint8_t *re
  * Else returns the number of requests: 0 where the images are equal, and 1 to 4 where they differ. They stand at the front of
  * requests, six bytes for each, and any later byte is left. Carried out in this order from a and from b, they get different
  * replies at some place. */
-uint8_t circmon_distinguish(const uint8_t *a, size_t a_len, const uint8_t *b, size_t b_len,
-                            uint8_t *requests, size_t requests_len);
+uint8_t circmon_distinguish(const uint8_t *a, circmon_size a_len, const uint8_t *b, circmon_size b_len,
+                            uint8_t *requests, circmon_size requests_len);
 
 #ifdef __cplusplus
 }

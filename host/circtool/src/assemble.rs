@@ -1,8 +1,9 @@
 //! A script to the bytes that the program `circmon` reads: 42 bytes of table, then six for each request.
 
+use crate::kinds::{Row, Takes};
 use crate::level::Level;
 use crate::mode::Mode;
-use crate::request::{Kind, Request};
+use crate::request::{Kind, Parts, Request};
 use crate::script::{number, Line, ScriptError, MARK};
 use crate::view::{View, OBJECTS, SUBJECTS};
 use circmon::{REQUEST_BYTES, TABLE_BYTES};
@@ -164,32 +165,30 @@ fn hex_byte(word: &str) -> Option<u8> {
 
 const VERBS: &str = "a request (create, get, release, give, rescind, delete or level)";
 
-/// `s1 get r o0` and the others.
+/// `s1 get r o0` and the others: the parts that the kind uses, each in its place.
 fn request(line: &mut Line) -> Result<Request, ScriptError> {
     let first = "a subject (s0 to s15), 'subject', 'bytes' or 'table-bytes'";
     let actor = line.take(first, |word| numbered(word, 's', SUBJECTS))?;
-    let verb = line.take(VERBS, |word| verb(word).map(|_| word.to_string()))?;
-    let request = match verb.as_str() {
-        "get" | "release" => {
-            let kind = if verb == "get" { Kind::Get(mode(line)?) } else { Kind::Release(mode(line)?) };
-            Request { actor, object: object(line)?, kind }
-        }
-        "give" | "rescind" => {
-            let other = line.take("a subject (s0 to s15)", |word| numbered(word, 's', SUBJECTS))?;
-            let mode = mode(line)?;
-            let kind = if verb == "give" { Kind::Give(other, mode) } else { Kind::Rescind(other, mode) };
-            Request { actor, object: object(line)?, kind }
-        }
-        "create" => Request { actor, object: object(line)?, kind: Kind::Create { execute: with_execute(line)? } },
-        "delete" => Request { actor, object: object(line)?, kind: Kind::Delete },
-        _ => Request { actor, object: object(line)?, kind: Kind::ChangeLevel(level(line)?) },
-    };
+    let row = line.take(VERBS, Row::of_name)?;
+    let mut parts = Parts::NONE;
+    if row.other {
+        parts.other = line.take("a subject (s0 to s15)", |word| numbered(word, 's', SUBJECTS))?;
+    }
+    if row.mode == Takes::OneMode {
+        parts.mode = Some(mode(line)?);
+    }
+    let object = object(line)?;
+    if row.mode == Takes::Execute {
+        parts.mode = with_execute(line)?.then_some(Mode::Execute);
+    }
+    if row.class || row.needs {
+        parts.level = level(line)?;
+    }
     line.finish()?;
-    Ok(request)
-}
-
-fn verb(word: &str) -> Option<&str> {
-    ["create", "get", "release", "give", "rescind", "delete", "level"].into_iter().find(|&verb| verb == word)
+    match Kind::new(row.number, parts) {
+        Some(kind) => Ok(Request { actor, object, kind }),
+        None => Err(line.error_at_start(format!("no request of the kind {}; please report it", row.name))),
+    }
 }
 
 fn numbered(word: &str, letter: char, count: usize) -> Option<usize> {
@@ -259,5 +258,17 @@ fn without_braces(line: &Line) -> Option<String> {
             Some(format!("{{{}}}", words.join(",")))
         }
         _ => None,
+    }
+}
+
+#[cfg(test)]
+mod tests {
+    use super::VERBS;
+    use crate::kinds::KINDS;
+
+    #[test]
+    fn the_error_names_every_kind() {
+        let named: Vec<&str> = VERBS.split(['(', ')', ',', ' ']).collect();
+        assert!(KINDS.iter().all(|row| named.contains(&row.name)), "{VERBS}");
     }
 }

@@ -4,7 +4,7 @@
 use crate::mode::{Mode, Modes};
 use crate::properties::{self, Holding, Pair};
 use crate::request::{Kind, Malformed, Request};
-use crate::view::{Object, View, SUBJECTS};
+use crate::view::{Object, View};
 use crate::words::malformed_words;
 use std::fmt;
 
@@ -178,11 +178,11 @@ pub fn after(view: &View, request: &Request) -> View {
 }
 
 fn created(actor: usize, execute: bool) -> Object {
-    let mut rights = [Modes::default(); SUBJECTS];
+    let mut object = Object::new(actor);
     for mode in Mode::ALL.into_iter().filter(|&mode| execute || mode != Mode::Execute) {
-        rights[actor] = rights[actor].with(mode);
+        object.rights[actor] = object.rights[actor].with(mode);
     }
-    Object { owner: actor, label: None, rights, held: [Modes::default(); SUBJECTS] }
+    object
 }
 
 fn change(it: &mut Object, actor: usize, kind: Kind) {

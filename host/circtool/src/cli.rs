@@ -209,9 +209,9 @@ fn run(arguments: &Arguments, standard_input: &mut dyn Read) -> Step<Outcome> {
         may_write(out, arguments.file())?;
     }
     let Begun { mut unit, requests, .. } = begin(arguments, standard_input)?;
-    let replies: String = requests.chunks(REQUEST_BYTES).map(|piece| format!("{}\n", unit.request(piece))).collect();
+    let replies: String = requests.chunks(REQUEST_BYTES).map(|piece| format!("{}\n", unit.ask(piece))).collect();
     if let Some(out) = out {
-        save::whole(out, unit.image()).map_err(|error| {
+        save::whole(out, &unit.image()).map_err(|error| {
             let name = out.to_string_lossy();
             trouble(format!("circtool: cannot write {name}: {error}\n"))
         })?;

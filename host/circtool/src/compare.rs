@@ -4,13 +4,12 @@ use crate::difference::differences;
 use crate::explain::{step, Step};
 use crate::paint::Paint;
 use crate::refusal;
-use crate::shortest::shortest;
 use crate::view::View;
 use crate::words::{count, reply_words, wrapped};
 use circmon::{distinguish, Unit, DISTINGUISH_BYTES, REQUEST_BYTES};
 
 /// Over the list of requests.
-const HEADING: &str = "the shortest list of requests on which the two reply differently";
+const HEADING: &str = "requests on which the two reply differently (at most four requests, proved)";
 
 /// An image with the name of its file.
 pub struct Named<'a> {
@@ -25,7 +24,7 @@ pub enum Comparison {
     Trouble(String),
 }
 
-/// Both texts, and the list of requests: the library's, or a shorter one that the library answers differently too.
+/// What the library finds: equal, or a list of requests with what each of the two replies.
 pub fn compare(a: &Named, b: &Named, paint: Paint) -> Comparison {
     let mut requests = [0; DISTINGUISH_BYTES];
     match distinguish(a.bytes, b.bytes, &mut requests) {
@@ -47,7 +46,7 @@ fn equal(a: &Named, b: &Named) -> String {
     )
 }
 
-fn different(a: &Named, b: &Named, proved: &[u8], paint: Paint) -> Comparison {
+fn different(a: &Named, b: &Named, requests: &[u8], paint: Paint) -> Comparison {
     let (Ok(mut first), Ok(mut second)) = (Unit::from_image(a.bytes), Unit::from_image(b.bytes)) else {
         return Comparison::Trouble("an image that was accepted is refused; please report it\n".to_string());
     };
@@ -59,7 +58,6 @@ fn different(a: &Named, b: &Named, proved: &[u8], paint: Paint) -> Comparison {
         text.push_str(&format!("  {place}\n"));
     }
     text.push_str(&format!("\n{}\n", paint.heading(HEADING)));
-    let requests = shortest(&first, &second, proved);
     let mut told = false;
     for (at, request) in requests.chunks(REQUEST_BYTES).enumerate() {
         let (in_a, in_b) = (step(&mut first, request), step(&mut second, request));

@@ -1,7 +1,7 @@
 //! Bytes back to a script, exactly: assembling it gives the same bytes, for every byte string.
 
 use crate::fault;
-use crate::request::{reasons_words, Kind, Request};
+use crate::request::{reasons_words, Request};
 use crate::view::View;
 use crate::words::{hex, refusal_words};
 use circmon::{Unit, REQUEST_BYTES, TABLE_BYTES};
@@ -43,22 +43,7 @@ fn table_lines(table: &[u8]) -> String {
 
 fn piece_line(piece: &[u8]) -> String {
     match Request::decode(piece) {
-        Ok(request) => request_line(&request),
+        Ok(request) => request.script_words(),
         Err(reasons) => format!("bytes {}  # {}", hex(piece), reasons_words(&reasons)),
-    }
-}
-
-/// A request as scripts write it.
-pub fn request_line(request: &Request) -> String {
-    let (actor, object) = (request.actor, request.object);
-    match request.kind {
-        Kind::Get(mode) => format!("s{actor} get {mode} o{object}"),
-        Kind::Release(mode) => format!("s{actor} release {mode} o{object}"),
-        Kind::Give(other, mode) => format!("s{actor} give s{other} {mode} o{object}"),
-        Kind::Rescind(other, mode) => format!("s{actor} rescind s{other} {mode} o{object}"),
-        Kind::Create { execute: false } => format!("s{actor} create o{object}"),
-        Kind::Create { execute: true } => format!("s{actor} create o{object} with e"),
-        Kind::Delete => format!("s{actor} delete o{object}"),
-        Kind::ChangeLevel(level) => format!("s{actor} level o{object} {level}"),
     }
 }

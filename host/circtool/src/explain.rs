@@ -18,8 +18,8 @@ pub struct Step {
 
 /// Carries out the request on the unit; the reply is the unit's, the reason is found in the state before it.
 pub fn step(unit: &mut Unit, bytes: &[u8]) -> Step {
-    let before = View::new(unit.image());
-    let reply = unit.request(bytes);
+    let before = View::new(&unit.image());
+    let reply = unit.ask(bytes);
     let reason = match judge(&before, bytes) {
         _ if reply <= 1 => None,
         Verdict::Refused(cause) if cause.number() == reply => Some(cause.to_string()),
@@ -37,7 +37,7 @@ pub fn steps(unit: &mut Unit, requests: &[u8]) -> Vec<Step> {
 /// The whole text: the subjects, a row for each step with its reason below, and a count. Where the requests come from a
 /// script, the line of each stands beside the step; else there are no lines.
 pub fn explain(unit: &mut Unit, requests: &[u8], lines: &[usize], paint: Paint) -> String {
-    let subjects = subject_lines(&View::new(unit.image()));
+    let subjects = subject_lines(&View::new(&unit.image()));
     let steps = steps(unit, requests);
     let width = steps.iter().map(|step| step.request.chars().count()).max().unwrap_or(0).max("request".len());
     let line_heading = if lines.is_empty() { "" } else { "  line" };

@@ -2,8 +2,8 @@
 //! library's; the tests compare it with the one found here.
 
 use crate::bits::bit;
-use crate::layout::SUBJECT_BITS;
-use crate::layout::{bit_name, object_at, place, record_of, subject_at, Record, LABEL_AT, OBJECT_BITS, ROWS_AT};
+use crate::layout::{bit_name, object_at, place, record_of, subject_at, Record};
+use crate::layout::{LABEL_AT, LABEL_BITS, OBJECT_BITS, SUBJECT_BITS};
 use crate::mode::Modes;
 use crate::properties::{self, Holding, Pair};
 use crate::view::{View, OBJECTS, SUBJECTS};
@@ -74,7 +74,7 @@ fn stray_in_subject(bytes: &[u8], subject: usize) -> Option<Fault> {
 fn stray_in_object(bytes: &[u8], object: usize) -> Option<Fault> {
     let at = object_at(object);
     let (absent, bits) = if bit(bytes, at) {
-        (Absent::LabelOf(object), stray_bits(bytes, at + LABEL_AT, ROWS_AT - LABEL_AT)?)
+        (Absent::LabelOf(object), stray_bits(bytes, at + LABEL_AT, LABEL_BITS)?)
     } else {
         (Absent::Object(object), stray_bits(bytes, at, OBJECT_BITS)?)
     };

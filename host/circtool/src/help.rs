@@ -109,8 +109,8 @@ pub const COMPARE: &str = "\
 Usage: circtool compare A B
 
 Compares two images. Equal: every further list of requests draws the same replies from both, which is proved. Different:
-where, in words, and the shortest list of requests on which the two reply differently, with both replies to each. It has
-at most four requests, which is proved.
+where, in words, and requests on which the two reply differently, with both replies to each: at most four requests,
+proved.
 
 Example: circtool compare before.img after.img
 

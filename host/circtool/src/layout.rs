@@ -1,15 +1,72 @@
 //! Where the fields of a table and an image lie, in bits, and what each bit is called.
 
 use crate::mode::Mode;
-use circmon::TABLE_BYTES;
+use circmon::{IMAGE_BYTES, OBJECTS, SUBJECTS, TABLE_BYTES};
 
-/// enrolled 1, class 4, needs 16
-pub const SUBJECT_BITS: usize = 21;
-/// live 1, owner 4, label present 1, class 4, needs 16, then eight bits for each of sixteen subjects
-pub const OBJECT_BITS: usize = 154;
-pub const OWNER_AT: usize = 1;
-pub const LABEL_AT: usize = 5;
-pub const ROWS_AT: usize = 26;
+/// Fields one behind the other, each with its name and its bits.
+type Fields = [(&'static str, usize)];
+
+/// A subject's record, and a label, which has the same form.
+const LEVEL: [(&str, usize); 3] = [("present", 1), ("class", 4), ("need", 16)];
+/// The rights and the accesses of one subject on an object.
+const SETS: [(&str, usize); 2] = [("right", 4), ("access", 4)];
+/// An object's record.
+const OBJECT: [(&str, usize); 4] =
+    [("live", 1), ("owner", 4), ("label", LABEL_BITS), ("sets", SUBJECTS * width(&SETS))];
+
+pub const LABEL_BITS: usize = width(&LEVEL);
+pub const SUBJECT_BITS: usize = LABEL_BITS;
+pub const OBJECT_BITS: usize = width(&OBJECT);
+
+/// Where each field stands, from the start of its record: those of a level, of the sets of a subject and of an object.
+pub const CLASS: Place = place_of(&LEVEL, 1);
+pub const NEEDS: Place = place_of(&LEVEL, 2);
+pub const RIGHTS: Place = place_of(&SETS, 0);
+pub const HELD: Place = place_of(&SETS, 1);
+pub const OWNER: Place = place_of(&OBJECT, 1);
+pub const LABEL_AT: usize = place_of(&OBJECT, 2).at;
+const SETS_AT: usize = place_of(&OBJECT, 3).at;
+
+// the library and the fields say the same sizes
+const _: () = assert!(8 * TABLE_BYTES == SUBJECTS * SUBJECT_BITS);
+const _: () = assert!(8 * (IMAGE_BYTES - TABLE_BYTES) == OBJECTS * OBJECT_BITS);
+
+/// Some bits in a row.
+#[derive(Clone, Copy)]
+pub struct Place {
+    pub at: usize,
+    pub width: usize,
+}
+
+impl Place {
+    /// The same bits of a record that begins here.
+    pub fn behind(self, start: usize) -> Place {
+        Place { at: start + self.at, ..self }
+    }
+}
+
+const fn width(fields: &Fields) -> usize {
+    let (mut sum, mut at) = (0, 0);
+    while at < fields.len() {
+        sum += fields[at].1;
+        at += 1;
+    }
+    sum
+}
+
+const fn place_of(fields: &Fields, field: usize) -> Place {
+    Place { at: width(fields.split_at(field).0), width: fields[field].1 }
+}
+
+/// The name of the field that a bit lies in, and how many of the field's bits stand behind it.
+fn field_of(fields: &Fields, bit: usize) -> (&'static str, usize) {
+    let mut end = 0;
+    let found = fields.iter().find(|(_, width)| {
+        end += width;
+        bit < end
+    });
+    found.map_or(("no field", 0), |(name, _)| (name, end - 1 - bit))
+}
 
 pub fn subject_at(subject: usize) -> usize {
     SUBJECT_BITS * subject
@@ -17,6 +74,11 @@ pub fn subject_at(subject: usize) -> usize {
 
 pub fn object_at(object: usize) -> usize {
     8 * TABLE_BYTES + OBJECT_BITS * object
+}
+
+/// Where the sets of a subject begin in the record of an object.
+pub fn sets_at(subject: usize) -> usize {
+    SETS_AT + width(&SETS) * subject
 }
 
 /// The record that a bit lies in.
@@ -41,27 +103,28 @@ pub fn bit_name(bit: usize) -> String {
     }
 }
 
-/// A bit of a subject's record or of a label, which have the same form.
+/// A bit of a subject's record or of a label; its first one has a name of its own in each.
 fn level_bit(bit: usize, first: &str) -> String {
-    match bit {
-        0 => first.to_string(),
-        1..=4 => "class".to_string(),
+    match field_of(&LEVEL, bit) {
+        ("present", _) => first.to_string(),
         // the most significant bit, need 15, comes first
-        _ => format!("need {}", 20 - bit),
+        ("need", behind) => format!("need {behind}"),
+        (name, _) => name.to_string(),
     }
 }
 
 fn object_bit(bit: usize) -> String {
-    match bit {
-        0 => "live".to_string(),
-        OWNER_AT..LABEL_AT => "owner".to_string(),
-        LABEL_AT..ROWS_AT => level_bit(bit - LABEL_AT, "label present"),
-        _ => {
-            let (subject, place) = ((bit - ROWS_AT) / 8, (bit - ROWS_AT) % 8);
-            let row = if place < 4 { "right" } else { "access" };
-            format!("{row} {} of s{subject}", Mode::ALL[place % 4])
-        }
+    match field_of(&OBJECT, bit) {
+        ("label", _) => level_bit(bit - LABEL_AT, "label present"),
+        ("sets", _) => set_bit(bit - SETS_AT),
+        (name, _) => name.to_string(),
     }
+}
+
+fn set_bit(bit: usize) -> String {
+    let (subject, place) = (bit / width(&SETS), bit % width(&SETS));
+    let (name, behind) = field_of(&SETS, place);
+    format!("{name} {} of s{subject}", Mode::ALL[Mode::ALL.len() - 1 - behind])
 }
 
 /// A bit as one finds it in a dump of the bytes: `byte 61, mask 0x10`.

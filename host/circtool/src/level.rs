@@ -10,21 +10,6 @@ pub struct Level {
 }
 
 impl Level {
-    /// Every level dominates it.
-    pub const LOWEST: Level = Level { class: 0, needs: 0 };
-    /// It dominates every level.
-    pub const HIGHEST: Level = Level { class: 15, needs: 0xFFFF };
-
-    /// The greatest level that both dominate.
-    pub fn meet(self, other: Level) -> Level {
-        Level { class: self.class.min(other.class), needs: self.needs & other.needs }
-    }
-
-    /// The least level that dominates both.
-    pub fn join(self, other: Level) -> Level {
-        Level { class: self.class.max(other.class), needs: self.needs | other.needs }
-    }
-
     /// The class is at least the other's, and every need of the other is here.
     pub fn dominates(self, other: Level) -> bool {
         self.class >= other.class && other.needs & !self.needs == 0
@@ -75,19 +60,6 @@ mod tests {
                 let (level, other) = (Level { class, needs }, Level { class: other_class, needs: other_needs });
                 assert_eq!(level.dominates(other), level.shortfall(other).is_none(), "{level} over {other}");
             }
-        }
-    }
-
-    #[test]
-    fn the_meet_is_the_greatest_below_both_and_the_join_the_least_above_both() {
-        let levels = [(0, 0), (1, 1), (1, 2), (3, 3), (2, 0x8001), (15, 0xFFFF)];
-        let levels = levels.map(|(class, needs)| Level { class, needs });
-        for (a, b) in levels.into_iter().flat_map(|a| levels.map(|b| (a, b))) {
-            for other in levels {
-                assert_eq!(a.meet(b).dominates(other), a.dominates(other) && b.dominates(other), "{a}, {b}, {other}");
-                assert_eq!(other.dominates(a.join(b)), other.dominates(a) && other.dominates(b), "{a}, {b}, {other}");
-            }
-            assert!(Level::HIGHEST.dominates(a) && a.dominates(Level::LOWEST), "{a}");
         }
     }
 

@@ -1,6 +1,7 @@
 //! The six bytes of a request: what they say, or why they say nothing.
 
 use crate::bits::{field, put};
+use crate::kinds::{Row, KINDS, WITH_MODE};
 use crate::level::Level;
 use crate::mode::Mode;
 use crate::view::{OBJECTS, SUBJECTS};
@@ -18,6 +19,49 @@ pub enum Kind {
     ChangeLevel(Level),
 }
 
+/// What a kind says beside actor and object; a field that it does not use is 0, none or this level.
+#[derive(Clone, Copy)]
+pub struct Parts {
+    pub other: usize,
+    pub mode: Option<Mode>,
+    pub level: Level,
+}
+
+impl Parts {
+    pub const NONE: Parts = Parts { other: 0, mode: None, level: Level { class: 0, needs: 0 } };
+}
+
+impl Kind {
+    /// The kind with this number; nothing where it needs a mode and has none.
+    pub fn new(number: u32, parts: Parts) -> Option<Kind> {
+        let Parts { other, mode, level } = parts;
+        Some(match number {
+            1 => Kind::Get(mode?),
+            2 => Kind::Release(mode?),
+            3 => Kind::Give(other, mode?),
+            4 => Kind::Rescind(other, mode?),
+            5 => Kind::Create { execute: mode == Some(Mode::Execute) },
+            6 => Kind::Delete,
+            7 => Kind::ChangeLevel(level),
+            _ => return None,
+        })
+    }
+
+    /// Its number and its parts.
+    fn parts(self) -> (u32, Parts) {
+        let with = |mode| Parts { mode: Some(mode), ..Parts::NONE };
+        match self {
+            Kind::Get(mode) => (1, with(mode)),
+            Kind::Release(mode) => (2, with(mode)),
+            Kind::Give(other, mode) => (3, Parts { other, ..with(mode) }),
+            Kind::Rescind(other, mode) => (4, Parts { other, ..with(mode) }),
+            Kind::Create { execute } => (5, if execute { with(Mode::Execute) } else { Parts::NONE }),
+            Kind::Delete => (6, Parts::NONE),
+            Kind::ChangeLevel(level) => (7, Parts { level, ..Parts::NONE }),
+        }
+    }
+}
+
 #[derive(Clone, Copy, Debug, PartialEq, Eq)]
 pub struct Request {
     pub actor: usize,
@@ -33,12 +77,10 @@ pub enum Malformed {
     Actor(u32),
     Other(u32),
     Object(u32),
-    Mode(u32, u32),
+    /// a mode that the kind of this name does not allow
+    Mode(u32, &'static str),
     Unused(&'static str, u32),
 }
-
-/// The names of kinds 1 to 7.
-const KINDS: [&str; 8] = ["", "get", "release", "give", "rescind", "create", "delete", "level"];
 
 /// The fields as numbers, in their order.
 struct Fields {
@@ -74,55 +116,38 @@ impl Fields {
         bytes
     }
 
-    fn has_other(&self) -> bool {
-        matches!(self.kind, 3 | 4)
-    }
-
-    fn mode_allowed(&self) -> bool {
-        match self.kind {
-            1..=4 => matches!(self.mode, 1..=4),
-            5 => matches!(self.mode, 0 | 4),
-            _ => self.mode == 0,
-        }
-    }
-
     /// Every reason against these fields, in the order in which docs/FORMATS.md names them.
     fn reasons(&self) -> Vec<Malformed> {
         let mut reasons = Vec::new();
-        let known = (1..=7).contains(&self.kind);
+        let row = Row::of_number(self.kind);
         let mut note = |bad: bool, reason: Malformed| {
             if bad {
                 reasons.push(reason);
             }
         };
-        note(!known, Malformed::Kind(self.kind));
+        note(row.is_none(), Malformed::Kind(self.kind));
         note(self.actor as usize >= SUBJECTS, Malformed::Actor(self.actor));
-        note(self.has_other() && self.other as usize >= SUBJECTS, Malformed::Other(self.other));
+        note(row.is_some_and(|row| row.other) && self.other as usize >= SUBJECTS, Malformed::Other(self.other));
         note(self.object as usize >= OBJECTS, Malformed::Object(self.object));
         // what a mode or a field is for depends on the kind, so an unknown kind has nothing to say about them
-        if known {
-            note(!self.mode_allowed(), Malformed::Mode(self.mode, self.kind));
-            note(!self.has_other() && self.other != 0, Malformed::Unused("other subject", self.other));
-            note(self.kind != 7 && self.class != 0, Malformed::Unused("class", self.class));
-            note(self.kind != 7 && self.needs != 0, Malformed::Unused("needs", self.needs));
-            note(self.spare != 0, Malformed::Unused("spare", self.spare));
+        if let Some(row) = row {
+            note(!row.allows(self.mode), Malformed::Mode(self.mode, row.name));
+            let unused = [
+                ("other subject", row.other, self.other),
+                ("class", row.class, self.class),
+                ("needs", row.needs, self.needs),
+                ("spare", false, self.spare),
+            ];
+            for (name, used, number) in unused {
+                note(!used && number != 0, Malformed::Unused(name, number));
+            }
         }
         reasons
     }
 
     fn kind(&self) -> Option<Kind> {
-        let mode = Mode::from_number(self.mode);
-        let other = self.other as usize;
-        Some(match self.kind {
-            1 => Kind::Get(mode?),
-            2 => Kind::Release(mode?),
-            3 => Kind::Give(other, mode?),
-            4 => Kind::Rescind(other, mode?),
-            5 => Kind::Create { execute: mode == Some(Mode::Execute) },
-            6 => Kind::Delete,
-            7 => Kind::ChangeLevel(Level { class: self.class as u8, needs: self.needs as u16 }),
-            _ => return None,
-        })
+        let level = Level { class: self.class as u8, needs: self.needs as u16 };
+        Kind::new(self.kind, Parts { other: self.other as usize, mode: Mode::from_number(self.mode), level })
     }
 }
 
@@ -143,18 +168,40 @@ impl Request {
     }
 
     pub fn encode(&self) -> [u8; REQUEST_BYTES] {
-        let (kind, other, mode, level) = match self.kind {
-            Kind::Get(mode) => (1, 0, mode.number(), None),
-            Kind::Release(mode) => (2, 0, mode.number(), None),
-            Kind::Give(other, mode) => (3, other, mode.number(), None),
-            Kind::Rescind(other, mode) => (4, other, mode.number(), None),
-            Kind::Create { execute } => (5, 0, if execute { 4 } else { 0 }, None),
-            Kind::Delete => (6, 0, 0, None),
-            Kind::ChangeLevel(level) => (7, 0, 0, Some(level)),
+        let (kind, Parts { other, mode, level }) = self.kind.parts();
+        Fields {
+            kind,
+            actor: self.actor as u32,
+            other: other as u32,
+            object: self.object as u32,
+            mode: mode.map_or(0, Mode::number),
+            class: level.class.into(),
+            needs: level.needs.into(),
+            spare: 0,
+        }
+        .bytes()
+    }
+
+    /// As scripts write it: `s1 give s0 r o1`.
+    pub fn script_words(&self) -> String {
+        self.filled(|row| row.script)
+    }
+
+    /// As a sentence: `s1 gives s0 r on o1`.
+    pub fn sentence(&self) -> String {
+        self.filled(|row| row.sentence)
+    }
+
+    /// The actor, and the words of the kind with the fields in their places.
+    fn filled(&self, words: fn(&Row) -> &str) -> String {
+        let (number, Parts { other, mode, level }) = self.kind.parts();
+        let words = Row::of_number(number).map_or("", words);
+        let words = match mode {
+            Some(mode) => words.replace("MODE", &mode.to_string()),
+            None => words.replace(WITH_MODE, ""),
         };
-        let (class, needs) = level.map_or((0, 0), |level| (level.class.into(), level.needs.into()));
-        let (actor, object) = (self.actor as u32, self.object as u32);
-        Fields { kind, actor, other: other as u32, object, mode, class, needs, spare: 0 }.bytes()
+        let words = words.replace("OTHER", &format!("s{other}")).replace("LEVEL", &level.to_string());
+        format!("s{} {}", self.actor, words.replace("OBJECT", &format!("o{}", self.object)))
     }
 }
 
@@ -163,11 +210,11 @@ impl fmt::Display for Malformed {
         match self {
             Malformed::Length(1) => write!(out, "1 byte, not 6"),
             Malformed::Length(found) => write!(out, "{found} bytes, not 6"),
-            Malformed::Kind(kind) => write!(out, "kind {kind} is not 1 to 7"),
+            Malformed::Kind(kind) => write!(out, "kind {kind} is not 1 to {}", KINDS.len()),
             Malformed::Actor(actor) => write!(out, "actor {actor} is above 15"),
             Malformed::Other(other) => write!(out, "other subject {other} is above 15"),
             Malformed::Object(object) => write!(out, "object {object} is above 63"),
-            Malformed::Mode(mode, kind) => write!(out, "mode {mode} is not allowed in {}", KINDS[*kind as usize]),
+            Malformed::Mode(mode, kind) => write!(out, "mode {mode} is not allowed in {kind}"),
             Malformed::Unused(name, number) => write!(out, "the unused field {name} is {number}, not 0"),
         }
     }

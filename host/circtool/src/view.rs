@@ -2,13 +2,12 @@
 //! looked at too. What the monitor decides about it is asked of the library.
 
 use crate::bits::{bit, field, put};
-use crate::layout::{object_at, subject_at, LABEL_AT, OWNER_AT, ROWS_AT};
+use crate::layout::{object_at, sets_at, subject_at, Place, CLASS, HELD, LABEL_AT, NEEDS, OWNER, RIGHTS};
 use crate::level::Level;
 use crate::mode::Modes;
 use circmon::TABLE_BYTES;
 
-pub const SUBJECTS: usize = 16;
-pub const OBJECTS: usize = 64;
+pub use circmon::{OBJECTS, SUBJECTS};
 
 #[derive(Clone, Debug, PartialEq, Eq)]
 pub struct Object {
@@ -16,6 +15,14 @@ pub struct Object {
     pub label: Option<Level>,
     pub rights: [Modes; SUBJECTS],
     pub held: [Modes; SUBJECTS],
+}
+
+impl Object {
+    /// Without label, right or access.
+    pub fn new(owner: usize) -> Object {
+        let none = [Modes::default(); SUBJECTS];
+        Object { owner, label: None, rights: none, held: none }
+    }
 }
 
 #[derive(Clone, Debug, PartialEq, Eq)]
@@ -39,10 +46,11 @@ impl View {
     pub fn table(subjects: &[Option<Level>; SUBJECTS]) -> [u8; TABLE_BYTES] {
         let mut table = [0; TABLE_BYTES];
         for (subject, clearance) in subjects.iter().enumerate() {
-            if let Some(level) = clearance {
-                put(&mut table, subject_at(subject), 1, 1);
-                put(&mut table, subject_at(subject) + 1, 4, level.class.into());
-                put(&mut table, subject_at(subject) + 5, 16, level.needs.into());
+            let Some(level) = clearance else { continue };
+            let at = subject_at(subject);
+            let fields = [(Place { at: 0, width: 1 }, 1), (CLASS, level.class.into()), (NEEDS, level.needs.into())];
+            for (place, number) in fields.map(|(place, number)| (place.behind(at), number)) {
+                put(&mut table, place.at, place.width, number);
             }
         }
         table
@@ -59,16 +67,22 @@ impl View {
     }
 }
 
+/// The number in a field of the record that begins here.
+fn number(bytes: &[u8], start: usize, place: Place) -> u32 {
+    let place = place.behind(start);
+    field(bytes, place.at, place.width)
+}
+
 fn level_at(bytes: &[u8], at: usize) -> Option<Level> {
-    bit(bytes, at).then(|| Level { class: field(bytes, at + 1, 4) as u8, needs: field(bytes, at + 5, 16) as u16 })
+    bit(bytes, at).then(|| Level { class: number(bytes, at, CLASS) as u8, needs: number(bytes, at, NEEDS) as u16 })
 }
 
 fn object_in(bytes: &[u8], at: usize) -> Option<Object> {
-    let modes = |place| Modes(field(bytes, place, 4) as u8);
+    let modes = |subject, place| Modes(number(bytes, at + sets_at(subject), place) as u8);
     bit(bytes, at).then(|| Object {
-        owner: field(bytes, at + OWNER_AT, 4) as usize,
+        owner: number(bytes, at, OWNER) as usize,
         label: level_at(bytes, at + LABEL_AT),
-        rights: std::array::from_fn(|subject| modes(at + ROWS_AT + 8 * subject)),
-        held: std::array::from_fn(|subject| modes(at + ROWS_AT + 8 * subject + 4)),
+        rights: std::array::from_fn(|subject| modes(subject, RIGHTS)),
+        held: std::array::from_fn(|subject| modes(subject, HELD)),
     })
 }

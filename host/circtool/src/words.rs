@@ -1,26 +1,11 @@
 //! Requests, replies and numbers in words.
 
-use crate::request::{reasons_words, Kind, Malformed, Request};
-
-/// A request as a sentence: `s1 gives s0 r on o1`.
-pub fn request_words(request: &Request) -> String {
-    let (actor, object) = (request.actor, request.object);
-    match request.kind {
-        Kind::Get(mode) => format!("s{actor} gets {mode} on o{object}"),
-        Kind::Release(mode) => format!("s{actor} releases {mode} on o{object}"),
-        Kind::Give(other, mode) => format!("s{actor} gives s{other} {mode} on o{object}"),
-        Kind::Rescind(other, mode) => format!("s{actor} rescinds {mode} on o{object} from s{other}"),
-        Kind::Create { execute: false } => format!("s{actor} creates o{object}"),
-        Kind::Create { execute: true } => format!("s{actor} creates o{object} with e"),
-        Kind::Delete => format!("s{actor} deletes o{object}"),
-        Kind::ChangeLevel(level) => format!("s{actor} changes the level of o{object} to {level}"),
-    }
-}
+use crate::request::{reasons_words, Malformed, Request};
 
 /// Any byte string as a request: a sentence, or the bytes where they say none.
 pub fn bytes_words(bytes: &[u8]) -> String {
     match Request::decode(bytes) {
-        Ok(request) => request_words(&request),
+        Ok(request) => request.sentence(),
         Err(_) => format!("bytes {}", hex(bytes)),
     }
 }
@@ -34,38 +19,37 @@ pub fn hex(bytes: &[u8]) -> String {
     bytes.iter().map(|byte| format!("{byte:02X}")).collect::<Vec<_>>().join(" ")
 }
 
+/// Each number, its words as the reply to a request, and as that of a refused table or image; nothing where it is none.
+const NUMBERS: [(u8, &str, &str); 14] = [
+    (0, "granted, the state changed", ""),
+    (1, "granted, it was so already", ""),
+    (2, "refused: malformed", ""),
+    (3, "refused: not enrolled", ""),
+    (4, "refused: the object is not live", ""),
+    (5, "refused: the object is live already", ""),
+    (6, "refused: right or ownership missing", "an access is held outside the matrix"),
+    (7, "refused: no label", "r, w or a is held on an object without a label"),
+    (8, "refused: the simple property would break", "the simple property is broken"),
+    (9, "refused: the star property would break", "the star property is broken"),
+    (10, "", "another length"),
+    (11, "", "a bit is set in what is absent"),
+    (12, "", "an absent subject owns, has a right or holds"),
+    (13, "", "the buffer is too short"),
+];
+
+/// The words of a number in one column of the table.
+fn words_of(number: u8, column: fn(&(u8, &'static str, &'static str)) -> &'static str) -> Option<&'static str> {
+    NUMBERS.iter().find(|row| row.0 == number).map(column).filter(|words| !words.is_empty())
+}
+
 /// A reply to a request with its number: `7 refused: no label`.
 pub fn reply_words(reply: u8) -> String {
-    let words = match reply {
-        0 => "granted, the state changed",
-        1 => "granted, it was so already",
-        2 => "refused: malformed",
-        3 => "refused: not enrolled",
-        4 => "refused: the object is not live",
-        5 => "refused: the object is live already",
-        6 => "refused: right or ownership missing",
-        7 => "refused: no label",
-        8 => "refused: the simple property would break",
-        9 => "refused: the star property would break",
-        _ => "a number that no request gets",
-    };
-    format!("{reply} {words}")
+    format!("{reply} {}", words_of(reply, |row| row.1).unwrap_or("a number that no request gets"))
 }
 
 /// The cause of a refused table or image with its number: `11 (a bit is set in what is absent)`.
 pub fn refusal_words(number: u8) -> String {
-    let words = match number {
-        6 => "an access is held outside the matrix",
-        7 => "r, w or a is held on an object without a label",
-        8 => "the simple property is broken",
-        9 => "the star property is broken",
-        10 => "another length",
-        11 => "a bit is set in what is absent",
-        12 => "an absent subject owns, has a right or holds",
-        13 => "the buffer is too short",
-        _ => "a number that no table or image gets",
-    };
-    format!("{number} ({words})")
+    format!("{number} ({})", words_of(number, |row| row.2).unwrap_or("a number that no table or image gets"))
 }
 
 /// `1 object`, `2 objects`.
@@ -104,7 +88,11 @@ mod tests {
 
     #[test]
     fn every_number_has_words() {
-        assert!((0..=9).all(|reply| !reply_words(reply).contains("a number that")));
-        assert!((6..=13).all(|number| !refusal_words(number).contains("a number that")));
+        assert!(NUMBERS.iter().enumerate().all(|(at, row)| usize::from(row.0) == at));
+        let numbers = |words: fn(u8) -> String| -> Vec<u8> {
+            (0..=255).filter(|&number| !words(number).contains("a number that")).collect()
+        };
+        assert_eq!(numbers(reply_words), (0..=9).collect::<Vec<u8>>());
+        assert_eq!(numbers(refusal_words), (6..=13).collect::<Vec<u8>>());
     }
 }

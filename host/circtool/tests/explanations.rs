@@ -104,7 +104,7 @@ fn explain_run(seed: u64, length: usize, count: &mut [usize; 10]) {
     let mut unit = Unit::from_table(&run.table).unwrap();
     let mut monitor = Monitor::from_table(&run.table).unwrap();
     for (at, bytes) in run.requests.iter().enumerate() {
-        let before = View::new(unit.image());
+        let before = View::new(&unit.image());
         let verdict = judge(&before, bytes);
         let step = step(&mut unit, bytes);
         let place = format!("seed {seed}, request {at}: {bytes:02x?}");
@@ -121,7 +121,7 @@ fn explain_run(seed: u64, length: usize, count: &mut [usize; 10]) {
                 assert_eq!(step.reason, None, "{place}");
                 // the state after it, in which star and simple are looked for, is the one that the library leaves
                 let request = circtool::request::Request::decode(bytes).unwrap();
-                assert_eq!(after(&before, &request), View::new(unit.image()), "{place}");
+                assert_eq!(after(&before, &request), View::new(&unit.image()), "{place}");
             }
         }
         monitor.request(bytes);

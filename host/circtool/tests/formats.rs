@@ -4,7 +4,7 @@
 mod shared;
 
 use circmon::Unit;
-use circtool::words::{hex, request_words};
+use circtool::words::hex;
 use load::Random;
 use reference::{Kind, Monitor, Request};
 use sidebyside::{compiled, image, root, SHAPES};
@@ -77,7 +77,7 @@ fn requests_are_packed_as_the_page_says() {
             for (name, number) in numbers(&request) {
                 assert_eq!(read(bytes, 0, fields[name]), number, "{name} of {request:?}");
             }
-            assert_eq!(unit.request(bytes), monitor.step(request), "{request:?}");
+            assert_eq!(unit.ask(bytes), monitor.step(request), "{request:?}");
         }
         assert_eq!(unit.image()[..], image(&monitor)[..]);
     }
@@ -107,7 +107,7 @@ fn kinds_modes_and_unused_fields_are_those_of_the_page() {
         let (kind, mode, bits) = (at % 16, at / 16 % 8, at / 128);
         let [other, class, needs, spare] = [0, 1, 2, 3].map(|bit| bits >> bit & 1);
         let word = kind << 44 | other << 34 | mode << 24 | class << 20 | needs << 4 | spare;
-        let reply = unit.clone().request(&word.to_be_bytes()[2..]);
+        let reply = unit.clone().ask(&word.to_be_bytes()[2..]);
         let expected = allowed(&rows, kind, mode, other, class, needs, spare);
         assert_eq!(reply != 2, expected, "kind {kind}, mode {mode}, {other} {class} {needs} {spare}");
         well_formed += usize::from(expected);
@@ -123,7 +123,7 @@ fn each_kind_gets_exactly_the_replies_of_its_checks() {
         let run = shared::run(seed, SHAPES[seed as usize % SHAPES.len()], 1000);
         let mut unit = Unit::from_table(&run.table).unwrap();
         for bytes in run.requests.iter().filter(|bytes| bytes.len() == 6) {
-            seen.entry(u64::from(bytes[0] >> 4)).or_default().push(unit.request(bytes));
+            seen.entry(u64::from(bytes[0] >> 4)).or_default().push(unit.ask(bytes));
         }
     }
     for row in rows {
@@ -163,14 +163,14 @@ fn tables_and_images_have_the_fields_of_the_page() {
         let run = shared::run(seed, SHAPES[seed as usize % SHAPES.len()], 300);
         let mut unit = Unit::from_table(&run.table).unwrap();
         for bytes in &run.requests {
-            unit.request(bytes);
+            unit.ask(bytes);
         }
         for subject in 0..16 {
-            let found = level(unit.image(), 21 * subject, of_subject["enrolled"], &of_subject);
+            let found = level(&unit.image(), 21 * subject, of_subject["enrolled"], &of_subject);
             assert_eq!(found, run.monitor.subjects[subject], "seed {seed}, subject {subject}");
         }
         for slot in 0..64 {
-            let found = object(unit.image(), 336 + 154 * slot, &of_object);
+            let found = object(&unit.image(), 336 + 154 * slot, &of_object);
             assert_eq!(found, run.monitor.objects[slot], "seed {seed}, object {slot}");
         }
     }
@@ -220,14 +220,14 @@ fn the_worked_examples_are_what_the_library_reads_and_writes() {
     let [request, table, in_image] = <[Vec<u8>; 3]>::try_from(examples()).unwrap();
     let decoded = Request::decode(&request).unwrap();
     let circtool = circtool::request::Request::decode(&request).unwrap();
-    assert_eq!(request_words(&circtool), "s1 changes the level of o1 to class 2 needs {0}");
+    assert_eq!(circtool.sentence(), "s1 changes the level of o1 to class 2 needs {0}");
     let table = [table, vec![0; 34]].concat();
     let mut unit = Unit::from_table(&table).unwrap();
     let subjects: Vec<_> = Monitor::from_table(&table).unwrap().subjects.into_iter().flatten().collect();
     assert_eq!(subjects.iter().map(|it| (it.class, it.needs)).collect::<Vec<_>>(), [(1, 1), (3, 3), (0, 0)]);
     let by = |kind| Request { kind, ..decoded }.encode();
     for bytes in [by(Kind::Create { execute: true }), by(decoded.kind), by(Kind::Get(reference::Mode::Write))] {
-        assert_eq!(unit.request(&bytes), 0);
+        assert_eq!(unit.ask(&bytes), 0);
     }
     assert_eq!(unit.image()[61..67], in_image);
 }
@@ -245,7 +245,7 @@ fn the_program_written_from_the_page_makes_each_kind() {
     for line in lines.by_ref().take_while(|line| !line.contains("of the image")) {
         let request = circtool::request::Request::decode(&bytes(line)).unwrap();
         let reply = monitor.request(&bytes(line));
-        assert_eq!(line[19..], format!("{}: {reply}", request_words(&request)), "{text}");
+        assert_eq!(line[19..], format!("{}: {reply}", request.sentence()), "{text}");
         kinds.push(bytes(line)[0] >> 4);
     }
     kinds.sort_unstable();

@@ -162,7 +162,7 @@ fn bytes_are_a_request_exactly_where_the_library_does_not_reply_2() {
         let (actor, other, object) = (draw(&[0, 15, 16, 31]), draw(&[0, 15, 16]), draw(&[0, 63, 64, 127]));
         let (class, needs, spare) = (draw(&[0, 9]), draw(&[0, 0x8001]), draw(&[0, 1]));
         let bytes = packed([kind, actor, other, object, mode, class, needs, spare]);
-        let reply = unit.clone().request(&bytes);
+        let reply = unit.clone().ask(&bytes);
         let decoded = Request::decode(&bytes);
         assert_eq!(decoded.is_err(), reply == 2, "{bytes:02x?}");
         match decoded {

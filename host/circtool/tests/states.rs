@@ -13,7 +13,7 @@ fn text(monitor: &Monitor) -> String {
 }
 
 fn object(owner: usize, label: Option<Level>) -> Object {
-    Object { owner, label, rights: [0; 16], held: [0; 16] }
+    Object { label, ..Object::new(owner) }
 }
 
 /// Three subjects and one object in the slot.

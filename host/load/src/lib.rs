@@ -77,20 +77,37 @@ pub fn request(random: &mut Random, shape: Shape, monitor: &Monitor) -> Request 
     };
     let mode = random.mode();
     let other = random.below(SUBJECTS);
-    let kind = if owner.is_none() && !random.once_in(8) {
-        Kind::Create { execute: random.once_in(2) }
-    } else {
-        match random.below(20) {
-            0..=7 => Kind::Get(mode),
-            8..=9 => Kind::Release(mode),
-            10..=12 => Kind::Give(other, mode),
-            13 => Kind::Rescind(other, mode),
-            14 => Kind::Create { execute: random.once_in(2) },
-            15 => Kind::Delete,
-            _ => Kind::ChangeLevel(level(random, shape)),
+    let kind = if owner.is_none() && !random.once_in(8) { create } else { drawn(random) };
+    Request { actor, object, kind: kind(random, shape, other, mode) }
+}
+
+/// Makes a request of one kind, with another subject and a mode where it has them.
+type Make = fn(&mut Random, Shape, usize, Mode) -> Kind;
+
+fn create(random: &mut Random, _: Shape, _: usize, _: Mode) -> Kind {
+    Kind::Create { execute: random.once_in(2) }
+}
+
+/// How often each kind is drawn.
+const WEIGHTS: [(Make, usize); 7] = [
+    (|_, _, _, mode| Kind::Get(mode), 8),
+    (|_, _, _, mode| Kind::Release(mode), 2),
+    (|_, _, other, mode| Kind::Give(other, mode), 3),
+    (|_, _, other, mode| Kind::Rescind(other, mode), 1),
+    (create, 1),
+    (|_, _, _, _| Kind::Delete, 1),
+    (|random, shape, _, _| Kind::ChangeLevel(level(random, shape)), 4),
+];
+
+fn drawn(random: &mut Random) -> Make {
+    let mut left = random.below(WEIGHTS.iter().map(|(_, weight)| weight).sum());
+    for (make, weight) in WEIGHTS {
+        if left < weight {
+            return make;
         }
-    };
-    Request { actor, object, kind }
+        left -= weight;
+    }
+    create
 }
 
 /// The bytes of the next request; sometimes a damaged one, or one of any length from 0 to 8.

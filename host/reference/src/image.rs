@@ -3,14 +3,20 @@
 use crate::bits::{BitReader, BitWriter};
 use crate::level::Level;
 use crate::monitor::Monitor;
-use crate::record::{Object, SUBJECTS};
+use crate::record::{Object, OBJECTS, SUBJECTS};
 use crate::{reply, star};
 
-pub const TABLE_BYTES: usize = 42;
-pub const IMAGE_BYTES: usize = 1274;
+const CLASS_BITS: usize = 4;
+const NEEDS_BITS: usize = 16;
+/// present or enrolled, class, needs
+const LABEL_BITS: usize = 1 + CLASS_BITS + NEEDS_BITS;
+const OWNER_BITS: usize = 4;
+const SET_BITS: usize = 4;
+/// live, owner, label, then rights and accesses of each subject
+const OBJECT_BITS: usize = 1 + OWNER_BITS + LABEL_BITS + SUBJECTS * 2 * SET_BITS;
 
-const LABEL_BITS: usize = 21;
-const OBJECT_BITS: usize = 154;
+pub const TABLE_BYTES: usize = SUBJECTS * LABEL_BITS / 8;
+pub const IMAGE_BYTES: usize = TABLE_BYTES + OBJECTS * OBJECT_BITS / 8;
 
 impl Monitor {
     /// A monitor begun from a table: checks 10, 11.
@@ -113,8 +119,8 @@ fn read_subjects(bits: &mut BitReader, form: &mut bool) -> [Option<Level>; SUBJE
 /// What is absent has all its other bits 0.
 fn read_label(bits: &mut BitReader, form: &mut bool) -> Option<Level> {
     let present = bits.bit();
-    let class = bits.number(4) as u8;
-    let needs = bits.number(16) as u16;
+    let class = bits.number(CLASS_BITS) as u8;
+    let needs = bits.number(NEEDS_BITS) as u16;
     if present {
         return Some(Level { class, needs });
     }
@@ -129,12 +135,11 @@ fn read_object(bits: &mut BitReader, form: &mut bool) -> Option<Object> {
         }
         return None;
     }
-    let owner = bits.number(4) as usize;
-    let label = read_label(bits, form);
-    let mut object = Object { owner, label, rights: [0; SUBJECTS], held: [0; SUBJECTS] };
+    let mut object = Object::new(bits.number(OWNER_BITS) as usize);
+    object.label = read_label(bits, form);
     for s in 0..SUBJECTS {
-        object.rights[s] = bits.number(4) as u8;
-        object.held[s] = bits.number(4) as u8;
+        object.rights[s] = bits.number(SET_BITS) as u8;
+        object.held[s] = bits.number(SET_BITS) as u8;
     }
     Some(object)
 }
@@ -144,8 +149,8 @@ fn write_label(bits: &mut BitWriter, label: &Option<Level>) {
         None => bits.number(0, LABEL_BITS),
         Some(level) => {
             bits.bit(true);
-            bits.number(level.class.into(), 4);
-            bits.number(level.needs.into(), 16);
+            bits.number(level.class.into(), CLASS_BITS);
+            bits.number(level.needs.into(), NEEDS_BITS);
         }
     }
 }
@@ -158,10 +163,10 @@ fn write_object(bits: &mut BitWriter, object: &Option<Object>) {
         return;
     };
     bits.bit(true);
-    bits.number(object.owner as u32, 4);
+    bits.number(object.owner as u32, OWNER_BITS);
     write_label(bits, &object.label);
     for s in 0..SUBJECTS {
-        bits.number(object.rights[s].into(), 4);
-        bits.number(object.held[s].into(), 4);
+        bits.number(object.rights[s].into(), SET_BITS);
+        bits.number(object.held[s].into(), SET_BITS);
     }
 }

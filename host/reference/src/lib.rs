@@ -4,6 +4,7 @@
 mod bits;
 mod image;
 mod level;
+mod marked;
 mod mode;
 mod monitor;
 mod program;
@@ -13,6 +14,7 @@ mod star;
 
 pub use image::{IMAGE_BYTES, TABLE_BYTES};
 pub use level::Level;
+pub use marked::{marked_run, table_w};
 pub use mode::Mode;
 pub use monitor::Monitor;
 pub use program::{program, MOST_REQUESTS};

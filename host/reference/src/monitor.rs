@@ -132,9 +132,9 @@ impl Monitor {
         if self.objects[object].is_some() {
             return reply::LIVE;
         }
-        let mut rights = [0; SUBJECTS];
-        rights[actor] = if execute { 15 } else { 14 };
-        self.objects[object] = Some(Object { owner: actor, label: None, rights, held: [0; SUBJECTS] });
+        let mut new = Object::new(actor);
+        new.rights[actor] = if execute { 15 } else { 14 };
+        self.objects[object] = Some(new);
         reply::CHANGED
     }
 

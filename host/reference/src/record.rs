@@ -18,6 +18,11 @@ pub struct Object {
 }
 
 impl Object {
+    /// Without label, right or access.
+    pub fn new(owner: usize) -> Object {
+        Object { owner, label: None, rights: [0; SUBJECTS], held: [0; SUBJECTS] }
+    }
+
     pub fn reads(&self, subject: usize) -> bool {
         self.held[subject] & READS != 0
     }

@@ -18,6 +18,47 @@ pub enum Kind {
     ChangeLevel(Level),
 }
 
+/// Which modes a kind takes.
+#[derive(Clone, Copy)]
+enum Takes {
+    /// r, w, a or e
+    OneMode,
+    /// e or none
+    Execute,
+    NoMode,
+}
+
+impl Takes {
+    fn allows(self, mode: u32) -> bool {
+        match self {
+            Takes::OneMode => matches!(mode, 1..=4),
+            Takes::Execute => matches!(mode, 0 | 4),
+            Takes::NoMode => mode == 0,
+        }
+    }
+}
+
+/// The fields that a kind uses beside actor and object.
+struct Row {
+    other: bool,
+    class: bool,
+    needs: bool,
+    mode: Takes,
+}
+
+/// The row of each kind. A match and no array: looked up in one, a give took some five percent longer, and this is what the
+/// proved monitor is compared with.
+fn row(kind: u32) -> Option<Row> {
+    Some(match kind {
+        1 | 2 => Row { other: false, class: false, needs: false, mode: Takes::OneMode },
+        3 | 4 => Row { other: true, class: false, needs: false, mode: Takes::OneMode },
+        5 => Row { other: false, class: false, needs: false, mode: Takes::Execute },
+        6 => Row { other: false, class: false, needs: false, mode: Takes::NoMode },
+        7 => Row { other: false, class: true, needs: true, mode: Takes::NoMode },
+        _ => return None,
+    })
+}
+
 /// A well-formed request.
 #[derive(Clone, Copy, Debug, PartialEq, Eq)]
 pub struct Request {
@@ -44,22 +85,22 @@ impl Request {
         if actor >= SUBJECTS || other >= SUBJECTS || object >= OBJECTS || spare != 0 {
             return None;
         }
-        if !matches!(kind, 3 | 4) && other != 0 {
+        let row = row(kind)?;
+        if (!row.other && other != 0) || (!row.class && class != 0) || (!row.needs && needs != 0) {
             return None;
         }
-        if kind != 7 && (class != 0 || needs != 0) {
+        if !row.mode.allows(mode) {
             return None;
         }
         let moded = Mode::from_number(mode);
-        let kind = match (kind, mode) {
-            (1, _) => Kind::Get(moded?),
-            (2, _) => Kind::Release(moded?),
-            (3, _) => Kind::Give(other, moded?),
-            (4, _) => Kind::Rescind(other, moded?),
-            (5, 0) => Kind::Create { execute: false },
-            (5, 4) => Kind::Create { execute: true },
-            (6, 0) => Kind::Delete,
-            (7, 0) => Kind::ChangeLevel(Level { class, needs }),
+        let kind = match kind {
+            1 => Kind::Get(moded?),
+            2 => Kind::Release(moded?),
+            3 => Kind::Give(other, moded?),
+            4 => Kind::Rescind(other, moded?),
+            5 => Kind::Create { execute: moded.is_some() },
+            6 => Kind::Delete,
+            7 => Kind::ChangeLevel(Level { class, needs }),
             _ => return None,
         };
         Some(Request { actor, object, kind })

@@ -1,22 +1,39 @@
-/* The header compiles in C, and the five functions answer the marked run's first steps: prints what they return. */
+/* The header compiles in C and in C++, and its functions answer the marked run's first steps: prints what they return. */
 #include "circmon.h"
 #include <stdio.h>
 #include <string.h>
 
-int main(void) {
-    uint8_t table[CIRCMON_TABLE_BYTES] = {0x88, 0x00, 0x0C, 0xC0, 0x00, 0xE0};
-    uint8_t image[CIRCMON_IMAGE_BYTES];
-    const uint8_t requests[3][CIRCMON_REQUEST_BYTES] = {
-        {0x50, 0x80, 0, 0, 0, 0}, {0x10, 0x80, 0x01, 0, 0, 0}, {0x70, 0x80, 0, 0, 0, 0}};
-    uint8_t replies[4] = {0xEE, 0xEE, 0xEE, 0xEE};
-    uint8_t fresh[CIRCMON_IMAGE_BYTES];
-    uint8_t telling[CIRCMON_DISTINGUISH_BYTES];
-    printf("begin %d\n", circmon_begin(table, sizeof table, image, sizeof image));
+static const uint8_t table[CIRCMON_TABLE_BYTES] = {0x88, 0x00, 0x0C, 0xC0, 0x00, 0xE0};
+static const uint8_t requests[3][CIRCMON_REQUEST_BYTES] = {
+    {0x50, 0x80, 0, 0, 0, 0}, {0x10, 0x80, 0x01, 0, 0, 0}, {0x70, 0x80, 0, 0, 0, 0}};
+
+static void on_a_unit(uint8_t *image, circmon_size length) {
+    circmon_unit unit;
+    printf("start %d\n", circmon_start(&unit, table, sizeof table));
     for (int i = 0; i < 3; i++) {
-        printf("request %d\n", circmon_request(image, sizeof image, requests[i], sizeof requests[i]));
+        printf("ask %d\n", circmon_ask(&unit, requests[i], sizeof requests[i]));
     }
-    printf("read %d\n", circmon_read(image, sizeof image));
-    printf("short %d\n", circmon_begin(table, sizeof table, image, sizeof image - 1));
+    printf("short %d\n", circmon_save(&unit, image, length - 1));
+    printf("save %d\n", circmon_save(&unit, image, length));
+    printf("open %d\n", circmon_open(&unit, image, length));
+    printf("ask %d\n", circmon_ask(&unit, requests[2], sizeof requests[2]));
+}
+
+static void on_an_image(uint8_t *image, circmon_size length) {
+    printf("begin %d\n", circmon_begin(table, sizeof table, image, length));
+    for (int i = 0; i < 3; i++) {
+        printf("request %d\n", circmon_request(image, length, requests[i], sizeof requests[i]));
+    }
+    printf("read %d\n", circmon_read(image, length));
+    printf("short %d\n", circmon_begin(table, sizeof table, image, length - 1));
+}
+
+int main(void) {
+    uint8_t saved[CIRCMON_IMAGE_BYTES], image[CIRCMON_IMAGE_BYTES], fresh[CIRCMON_IMAGE_BYTES];
+    uint8_t replies[4] = {0xEE, 0xEE, 0xEE, 0xEE}, telling[CIRCMON_DISTINGUISH_BYTES];
+    on_a_unit(saved, sizeof saved);
+    on_an_image(image, sizeof image);
+    printf("the same image %d\n", memcmp(saved, image, sizeof image) == 0);
     printf("replay %d\n", circmon_replay(table, sizeof table, requests[0], sizeof requests, replies, sizeof replies));
     printf("replies %d %d %d %d\n", replies[0], replies[1], replies[2], replies[3]);
     memset(telling, 0xEE, sizeof telling);

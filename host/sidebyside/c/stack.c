@@ -9,49 +9,71 @@
 enum { STACK = 1 << 20, OBJECTS = 64, SUBJECTS = 16, PIECES = 4096, MARK = 0xA5 };
 
 static uint8_t table[CIRCMON_TABLE_BYTES];
+static circmon_unit unit;
 static uint8_t image[CIRCMON_IMAGE_BYTES];
 static uint8_t other[CIRCMON_IMAGE_BYTES];
-static uint8_t requests[PIECES * CIRCMON_REQUEST_BYTES];
+static uint8_t written[CIRCMON_IMAGE_BYTES];
+static uint8_t requests[PIECES][CIRCMON_REQUEST_BYTES];
 static uint8_t replies[PIECES];
-static uint8_t told[4 * CIRCMON_REQUEST_BYTES];
+static uint8_t told[CIRCMON_DISTINGUISH_BYTES];
 static volatile uint8_t answer;
 
 /* The six bytes of a request: kind 4 bits, actor 5, other 5, object 7, mode 3, class 4, needs 16, spare 4. */
-static void request(uint8_t *to, uint64_t kind, uint64_t actor, uint64_t object, uint64_t mode, uint64_t class, uint64_t needs) {
-    uint64_t word = kind << 44 | actor << 39 | object << 27 | mode << 24 | class << 20 | needs << 4;
+static void request(uint8_t *to, uint64_t kind, uint64_t actor, uint64_t other, uint64_t object, uint64_t mode, uint64_t level) {
+    uint64_t word = kind << 44 | actor << 39 | other << 34 | object << 27 | mode << 24 | level << 4;
     for (int i = 0; i < CIRCMON_REQUEST_BYTES; i++) {
         to[i] = (uint8_t)(word >> (40 - 8 * i));
     }
 }
 
-/* All subjects enrolled with class 15 and all needs, all objects live, labelled and written by their owner. */
-static void fill(void) {
-    memset(table, 0xFF, sizeof table);
-    circmon_begin(table, sizeof table, image, sizeof image);
+/* All kinds in turn on every object: the first three times all objects become live, labelled and written by their owner. */
+static void draw(void) {
     for (int i = 0; i < PIECES; i++) {
-        uint64_t object = (uint64_t)(i % OBJECTS), actor = object % SUBJECTS;
-        uint8_t *place = requests + i * CIRCMON_REQUEST_BYTES;
-        switch (i / OBJECTS % 4) {
-        case 0: request(place, 5, actor, object, 4, 0, 0); break;
-        case 1: request(place, 7, actor, object, 0, 3, 1); break;
-        case 2: request(place, 1, actor, object, 2, 0, 0); break;
-        default: request(place, 7, actor, object, 0, 4, 1); break;
-        }
-        if (i < 3 * OBJECTS) {
-            circmon_request(image, sizeof image, place, CIRCMON_REQUEST_BYTES);
+        uint64_t object = (uint64_t)(i % OBJECTS), actor = object % SUBJECTS, last = (actor + 1) % SUBJECTS;
+        switch (i / OBJECTS % 8) {
+        case 0: request(requests[i], 5, actor, 0, object, 4, 0); break;
+        case 1: request(requests[i], 7, actor, 0, object, 0, 0x30001); break;
+        case 2: request(requests[i], 1, actor, 0, object, 2, 0); break;
+        case 3: request(requests[i], 7, actor, 0, object, 0, 0x40001); break;
+        case 4: request(requests[i], 3, actor, last, object, 1, 0); break;
+        case 5: request(requests[i], 4, actor, last, object, 1, 0); break;
+        case 6: request(requests[i], 2, actor, 0, object, 2, 0); break;
+        default: request(requests[i], 6, actor, 0, object, 0, 0); break;
         }
     }
+}
+
+/* All subjects enrolled with class 15 and all needs, and a full state in the unit and in the images, the two of which differ. */
+static void fill(void) {
+    memset(table, 0xFF, sizeof table);
+    draw();
+    circmon_start(&unit, table, sizeof table);
+    for (int i = 0; i < 3 * OBJECTS; i++) {
+        circmon_ask(&unit, requests[i], CIRCMON_REQUEST_BYTES);
+    }
+    circmon_save(&unit, image, sizeof image);
     memcpy(other, image, sizeof other);
-    request(told, 2, 15, 63, 2, 0, 0);
+    request(told, 2, 15, 0, 63, 2, 0);
     circmon_request(other, sizeof other, told, CIRCMON_REQUEST_BYTES);
 }
 
 static void *nothing(void *unused) { return unused; }
-static void *begin(void *unused) { answer = circmon_begin(table, sizeof table, replies, sizeof replies); return unused; }
+static void *open_unit(void *unused) { answer = circmon_open(&unit, image, sizeof image); return unused; }
+static void *start(void *unused) { answer = circmon_start(&unit, table, sizeof table); return unused; }
+static void *save(void *unused) { answer = circmon_save(&unit, written, sizeof written); return unused; }
+static void *begin(void *unused) { answer = circmon_begin(table, sizeof table, written, sizeof written); return unused; }
 static void *reading(void *unused) { answer = circmon_read(image, sizeof image); return unused; }
-static void *level(void *unused) { answer = circmon_request(image, sizeof image, requests + 3 * OBJECTS * CIRCMON_REQUEST_BYTES, CIRCMON_REQUEST_BYTES); return unused; }
-static void *replay(void *unused) { answer = circmon_replay(table, sizeof table, requests, sizeof requests, replies, sizeof replies); return unused; }
+static void *level(void *unused) { answer = circmon_request(image, sizeof image, requests[3 * OBJECTS], CIRCMON_REQUEST_BYTES); return unused; }
+static void *replay(void *unused) { answer = circmon_replay(table, sizeof table, requests[0], sizeof requests, replies, sizeof replies); return unused; }
 static void *distinguish(void *unused) { answer = circmon_distinguish(image, sizeof image, other, sizeof other, told, sizeof told); return unused; }
+
+/* Every kind, from the full state on: what the deepest of them needs. */
+static void *ask(void *unused) {
+    for (int i = 3 * OBJECTS; i < PIECES; i++) {
+        answer = circmon_ask(&unit, requests[i], CIRCMON_REQUEST_BYTES);
+    }
+    return unused;
+}
 
 /* How many bytes of the stack the work changes. */
 static size_t depth(void *(*work)(void *)) {
@@ -75,11 +97,13 @@ static size_t depth(void *(*work)(void *)) {
 
 int main(void) {
     const struct { const char *name; void *(*work)(void *); } rows[] = {
-        {"circmon_begin", begin}, {"circmon_read", reading}, {"circmon_request", level}, {"circmon_replay", replay}, {"circmon_distinguish", distinguish}};
-    fill();
+        {"circmon_open", open_unit}, {"circmon_start", start}, {"circmon_ask", ask}, {"circmon_save", save},
+        {"circmon_begin", begin}, {"circmon_read", reading}, {"circmon_request", level}, {"circmon_replay", replay},
+        {"circmon_distinguish", distinguish}};
     depth(nothing);
     size_t least = depth(nothing);
     for (size_t i = 0; i < sizeof rows / sizeof *rows; i++) {
+        fill();
         size_t used = depth(rows[i].work) - least;
         printf("%s %zu %d\n", rows[i].name, used, answer);
     }

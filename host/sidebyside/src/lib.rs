@@ -1,9 +1,10 @@
 //! What the tests share: both monitors on one run, the program `circmon`, C programs over the header, and a program with
 //! bytes on its standard input.
 
-use circmon::Unit;
+use circmon::{Rows, Unit, ROWS, ROW_BYTES};
 use load::{Random, Shape};
 use reference::{Monitor, IMAGE_BYTES, TABLE_BYTES};
+use std::collections::BTreeMap;
 use std::io::Write;
 use std::path::{Path, PathBuf};
 use std::process::{Command, Output, Stdio};
@@ -52,9 +53,28 @@ pub fn drawn(seed: u64, shape: Shape, requests: usize) -> ([u8; TABLE_BYTES], Ve
     (table, (0..requests).map(draw).collect())
 }
 
-/// How often each reply was given.
+/// How often each number was given, whatever numbers there are.
 #[derive(Default, Debug)]
-pub struct Count(pub [usize; 16]);
+pub struct Count(BTreeMap<u8, usize>);
+
+impl Count {
+    pub fn note(&mut self, number: u8) {
+        *self.0.entry(number).or_default() += 1;
+    }
+
+    pub fn of(&self, number: u8) -> usize {
+        self.0.get(&number).copied().unwrap_or(0)
+    }
+
+    pub fn all(&self) -> usize {
+        self.0.values().sum()
+    }
+
+    /// How many different numbers were given.
+    pub fn numbers(&self) -> usize {
+        self.0.len()
+    }
+}
 
 /// Runs both on one load, comparing every reply, and the image at every `every` requests and at the end.
 pub fn compare_run(seed: u64, shape: Shape, requests: usize, every: usize, count: &mut Count) {
@@ -63,13 +83,24 @@ pub fn compare_run(seed: u64, shape: Shape, requests: usize, every: usize, count
     let mut unit = Unit::from_table(&table).unwrap_or_else(|n| panic!("seed {seed}: table refused with {n}"));
     for (at, bytes) in list.iter().enumerate() {
         let reply = monitor.request(bytes);
-        assert_eq!(unit.request(bytes), reply, "seed {seed}, request {at}: {bytes:02x?}");
-        count.0[usize::from(reply)] += 1;
+        assert_eq!(unit.ask(bytes), reply, "seed {seed}, request {at}: {bytes:02x?}");
+        count.note(reply);
         if at % every == 0 || at + 1 == requests {
             assert_eq!(unit.image()[..], image(&monitor)[..], "seed {seed}: images after request {at}");
         }
     }
     round_trip(seed, &monitor, &unit);
+}
+
+/// Any content of a unit. Bytes that stand for true, and the numbers at the borders of a range, are frequent.
+pub fn random_rows(random: &mut Random) -> Rows {
+    let frequent = [0, 1, 1, 1, 2, 3, 4, 8, 14, 15, 16, 255];
+    let often = 1 + random.below(8);
+    let mut rows = [[0; ROW_BYTES]; ROWS];
+    for byte in rows.iter_mut().flatten() {
+        *byte = if random.once_in(often) { random.number() as u8 } else { frequent[random.below(frequent.len())] };
+    }
+    rows
 }
 
 /// The program `circmon`, proved and linked, whatever stands in target/.
@@ -93,11 +124,16 @@ pub fn program() -> &'static Path {
 pub fn compiled(source: &Path, folder: &Path, words: &[&str]) -> PathBuf {
     let binary = folder.join(source.file_stem().expect("a file"));
     let mut cc = Command::new("cc");
-    cc.args(["-std=gnu11", "-Wall", "-Wextra", "-Werror"]).args(words).arg("-I").arg(root().join("include"));
+    cc.args(["-std=gnu11", "-Wall", "-Wextra", "-Wpedantic", "-Werror", "-I"]).arg(root().join("include")).args(words);
     cc.args([source, Path::new(circmon::ARCHIVE), Path::new("-o"), &binary]);
     let output = cc.output().expect("a C compiler is on the path");
     assert!(output.status.success(), "{cc:?}: {}", String::from_utf8_lossy(&output.stderr));
     binary
+}
+
+/// The same, of a program in c/ of this package.
+pub fn compiled_here(name: &str, folder: &str, words: &[&str]) -> PathBuf {
+    compiled(&root().join(format!("host/sidebyside/c/{name}.c")), Path::new(folder), words)
 }
 
 /// What a program prints with these bytes on its standard input.

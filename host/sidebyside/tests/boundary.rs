@@ -2,31 +2,53 @@
 
 use load::Random;
 use reference::{program, MOST_REQUESTS};
-use sidebyside::{fed, root, SHAPES};
+use sidebyside::{compiled_here, fed, root, SHAPES};
 use std::path::{Path, PathBuf};
 use std::process::Command;
 
-/// A C program of c/ over the header and the library.
-fn compiled(name: &str, words: &[&str]) -> PathBuf {
-    let source = root().join(format!("host/sidebyside/c/{name}.c"));
-    sidebyside::compiled(&source, Path::new(env!("CARGO_TARGET_TMPDIR")), words)
-}
+const FOLDER: &str = env!("CARGO_TARGET_TMPDIR");
+
+/// What `smoke` prints. The last line: subject 1 releases r on object 0, which is live in the first image only, and a byte
+/// that is left.
+const SMOKE: &str = "start 0\nask 0\nask 7\nask 0\nshort 13\nsave 0\nopen 0\nask 1\n\
+    begin 0\nrequest 0\nrequest 7\nrequest 0\nread 0\nshort 13\nthe same image 1\n\
+    replay 0\nreplies 0 7 0 238\nbegin 0\ndistinguish 1\ntelling 20 80 01 00 00 00 ee\n";
 
 #[test]
 fn a_c_program_over_the_header() {
-    let binary = compiled("smoke", &[]);
-    let output = Command::new(&binary).output().unwrap();
-    // the last line: subject 1 releases r on object 0, which is live in the first image only, and a byte that is left
-    let expected = "begin 0\nrequest 0\nrequest 7\nrequest 0\nread 0\nshort 13\nreplay 0\nreplies 0 7 0 238\n\
-                    begin 0\ndistinguish 1\ntelling 20 80 01 00 00 00 ee\n";
-    assert_eq!(String::from_utf8_lossy(&output.stdout), expected);
+    for words in [&["-std=c11", "-O0"][..], &["-std=c11", "-O2"]] {
+        let output = Command::new(compiled_here("smoke", FOLDER, words)).output().unwrap();
+        assert_eq!(String::from_utf8_lossy(&output.stdout), SMOKE);
+    }
+}
+
+/// The same program, in C++.
+fn compiled_as_cpp() -> PathBuf {
+    let binary = Path::new(FOLDER).join("smoke-cpp");
+    let mut cpp = Command::new("c++");
+    cpp.args(["-std=c++11", "-Wall", "-Wextra", "-Wpedantic", "-Werror", "-I"]).arg(root().join("include"));
+    cpp.args(["-x", "c++"]).arg(root().join("host/sidebyside/c/smoke.c"));
+    cpp.args(["-x", "none", circmon::ARCHIVE, "-o"]).arg(&binary);
+    let output = cpp.output().unwrap();
+    assert!(output.status.success(), "{cpp:?}: {}", String::from_utf8_lossy(&output.stderr));
+    binary
+}
+
+#[test]
+fn a_cpp_program_over_the_header() {
+    if Command::new("c++").arg("--version").output().is_err() {
+        println!("left out, since there is no c++ on the path");
+        return;
+    }
+    let output = Command::new(compiled_as_cpp()).output().unwrap();
+    assert_eq!(String::from_utf8_lossy(&output.stdout), SMOKE);
 }
 
 #[test]
 fn a_null_pointer_with_length_0_is_an_empty_buffer() {
     for words in [&["-O0"][..], &["-O2"]] {
-        let output = Command::new(compiled("empty", words)).output().unwrap();
-        let expected = "begin 10 13 0\nread 10\nrequest 138 2\nreplay 10 0 13\ndistinguish 138 202 13\n";
+        let output = Command::new(compiled_here("empty", FOLDER, words)).output().unwrap();
+        let expected = "open 10\nstart 10 0\nask 2\nsave 13\nbegin 10 13 0\nread 10\nrequest 138 2\nreplay 10 0 13\ndistinguish 138 202 13\n";
         assert_eq!(String::from_utf8_lossy(&output.stdout), expected);
     }
 }
@@ -91,31 +113,4 @@ fn w_with_steps_1_3_and_4_prints_0_0_1() {
         input.extend(request);
     }
     assert_eq!(circmon(&input), "0\n0\n1\n");
-}
-
-/// The table of docs/EMBEDDING.md: each function and its bytes of stack.
-fn stack_as_documented() -> Vec<(String, usize)> {
-    let text = std::fs::read_to_string(root().join("docs/EMBEDDING.md")).unwrap();
-    let rows = text.lines().filter_map(|line| line.strip_prefix("| `circmon_"));
-    rows.map(|row| {
-        let (name, bytes) = row.split_once("` | ").unwrap();
-        (format!("circmon_{name}"), bytes.trim_end_matches(" |").replace(',', "").parse().unwrap())
-    })
-    .collect()
-}
-
-#[test]
-fn the_stack_is_as_documented() {
-    let binary = compiled("stack", &["-O1", "-pthread"]);
-    let output = Command::new(&binary).output().unwrap();
-    let text = String::from_utf8(output.stdout).unwrap();
-    let documented = stack_as_documented();
-    assert_eq!(text.lines().count(), documented.len(), "{text}");
-    for (line, (name, bytes)) in text.lines().zip(documented) {
-        let words: Vec<&str> = line.split(' ').collect();
-        let used: usize = words[1].parse().unwrap();
-        assert_eq!(words[0], name);
-        // what is said suffices, and is not much more than is used
-        assert!(used <= bytes && bytes <= used + used / 8 + 256, "{name}: {used} used, {bytes} in docs/EMBEDDING.md");
-    }
 }

@@ -1,9 +1,8 @@
 //! Images and tables, damaged: both give the same number.
 
-use circmon::Unit;
 use load::Random;
 use reference::{Monitor, IMAGE_BYTES, TABLE_BYTES};
-use sidebyside::{image, SHAPES};
+use sidebyside::{image, Count, SHAPES};
 
 fn same_image_number(bytes: &[u8], what: &str) -> u8 {
     let number = Monitor::from_image(bytes).err().unwrap_or(0);
@@ -23,25 +22,24 @@ fn same_table_number(bytes: &[u8], what: &str) -> u8 {
 
 #[test]
 fn each_single_bit_of_rich_images() {
-    let mut seen = [0usize; 16];
+    let mut seen = Count::default();
     for (seed, objects) in [(1, 64), (2, 8), (3, 30)] {
         let bytes = image(&load::rich(seed, objects, 3000));
-        assert_eq!(bytes.len() * 8, 10_192);
         for bit in 0..bytes.len() * 8 {
             let mut damaged = bytes.clone();
             damaged[bit / 8] ^= 0x80 >> (bit % 8);
-            seen[usize::from(same_image_number(&damaged, &format!("seed {seed}, bit {bit}")))] += 1;
+            seen.note(same_image_number(&damaged, &format!("seed {seed}, bit {bit}")));
         }
     }
     // some bits make another accepted image, and each later check refuses some
     for number in [0, 6, 8, 9, 11, 12] {
-        assert!(seen[number] > 0, "{number} was not met: {seen:?}");
+        assert!(seen.of(number) > 0, "{number} was not met: {seen:?}");
     }
 }
 
 #[test]
 fn images_damaged_in_random_ways() {
-    let mut seen = [0usize; 16];
+    let mut seen = Count::default();
     for seed in 100..1100 {
         let random = &mut Random::new(seed);
         let mut bytes = image(&load::rich(seed, 1 + random.below(64), 400));
@@ -56,9 +54,9 @@ fn images_damaged_in_random_ways() {
                 }
             }
         }
-        seen[usize::from(same_image_number(&bytes, &format!("seed {seed}")))] += 1;
+        seen.note(same_image_number(&bytes, &format!("seed {seed}")));
     }
-    assert!(seen.iter().filter(|&&n| n > 0).count() >= 5, "{seen:?}");
+    assert!(seen.numbers() >= 5, "{seen:?}");
 }
 
 #[test]
@@ -78,11 +76,11 @@ fn images_without_label_where_something_is_held() {
 }
 
 #[test]
-fn every_length_from_0_to_1300() {
+fn every_length_up_to_some_bytes_more_than_an_image() {
     let bytes = image(&load::rich(7, 20, 2000));
     let mut long = bytes.clone();
-    long.resize(1300, 0);
-    for length in 0..=1300 {
+    long.resize(IMAGE_BYTES + 26, 0);
+    for length in 0..=long.len() {
         let number = same_image_number(&long[..length], &format!("length {length}"));
         assert_eq!(number, if length == IMAGE_BYTES { 0 } else { 10 });
         same_table_number(&long[..length], &format!("length {length}"));
@@ -135,11 +133,4 @@ fn requests_on_refused_images_leave_every_byte() {
             assert!(answer < 128, "seed {seed}");
         }
     }
-}
-
-#[test]
-fn units_refuse_what_the_library_refuses() {
-    assert_eq!(Unit::from_table(&[0; 41]), Err(10));
-    assert_eq!(Unit::from_image(&[0; 42]), Err(10));
-    assert!(Unit::from_image(&[0; IMAGE_BYTES]).is_ok());
 }

@@ -3,7 +3,7 @@
 use circmon::{distinguish, DISTINGUISH_BYTES, REQUEST_BYTES};
 use load::Random;
 use reference::{Kind, Monitor, Object, Request, IMAGE_BYTES, OBJECTS, SUBJECTS};
-use sidebyside::{image, SHAPES};
+use sidebyside::{image, Count, SHAPES};
 
 const LEFT: u8 = 0xEE;
 
@@ -142,12 +142,7 @@ fn change(random: &mut Random, monitor: &Monitor, thing: Thing) -> Option<Monito
         Thing::Life => {
             other.objects[slot] = match monitor.objects[slot] {
                 Some(_) => None,
-                None => Some(Object {
-                    owner: anyone(random, monitor)?,
-                    label: None,
-                    rights: [0; SUBJECTS],
-                    held: [0; SUBJECTS],
-                }),
+                None => Some(Object::new(anyone(random, monitor)?)),
             }
         }
         Thing::Owner => other.objects[slot].as_mut()?.owner = subject,
@@ -264,8 +259,7 @@ fn damaged(random: &mut Random, image: &[u8]) -> Vec<u8> {
 
 #[test]
 fn refused_images_give_their_number_and_leave_every_byte() {
-    let mut first = [0usize; 16];
-    let mut second = [0usize; 16];
+    let (mut first, mut second) = (Count::default(), Count::default());
     for seed in 50_000..52_000 {
         let random = &mut Random::new(seed);
         let objects = 1 + random.below(64);
@@ -281,18 +275,18 @@ fn refused_images_give_their_number_and_leave_every_byte() {
             }
             assert_eq!(distinguish(&good, &one, &mut buffer), 192 + n, "seed {seed}: the second is refused");
             assert_eq!(buffer, kept, "seed {seed}: every byte is left");
-            first[usize::from(n)] += 1;
+            first.note(n);
         } else if let Err(n) = Monitor::from_image(&two) {
             // two bits may cancel out, and the first may be an accepted image other than the good one
             assert_eq!(distinguish(&one, &two, &mut buffer), 192 + n, "seed {seed}: the second is refused");
             assert_eq!(buffer, kept, "seed {seed}: every byte is left");
-            second[usize::from(n)] += 1;
+            second.note(n);
         } else if one != good {
             tells(&one, &good, &format!("seed {seed}"));
         }
     }
     for number in [6, 8, 10, 11, 12] {
-        assert!(first[number] > 0, "{number} was not met: {first:?}");
+        assert!(first.of(number) > 0, "{number} was not met: {first:?}");
     }
-    assert!(second.iter().filter(|&&n| n > 0).count() >= 3, "{second:?}");
+    assert!(second.numbers() >= 3, "{second:?}");
 }

@@ -30,7 +30,7 @@ impl Both {
     /// The reply of both, which leave the same state.
     fn request(&mut self, bytes: &[u8]) -> u8 {
         let reply = self.monitor.request(bytes);
-        assert_eq!(self.unit.request(bytes), reply, "{bytes:02x?}");
+        assert_eq!(self.unit.ask(bytes), reply, "{bytes:02x?}");
         assert_eq!(self.unit.image()[..], image(&self.monitor)[..], "{bytes:02x?}");
         reply
     }

@@ -11,10 +11,10 @@ fn a_million_requests_draw_the_same_replies_and_images() {
     for seed in 0..RUNS {
         compare_run(seed, shape(seed), RUN_REQUESTS, 40, &mut count);
     }
-    assert!(count.0.iter().sum::<usize>() >= 1_000_000);
+    assert!(count.all() >= 1_000_000);
     // the loads reach every reply that a request can get
     for reply in 0..=9 {
-        assert!(count.0[reply] > 1000, "reply {reply} was seen {} times: {count:?}", count.0[reply]);
+        assert!(count.of(reply) > 1000, "reply {reply}: {count:?}");
     }
 }
 
@@ -62,7 +62,7 @@ fn a_deleted_object_leaves_nothing_for_the_next_in_its_slot() {
     for seed in 5000..5050 {
         compare_run(seed, shape, 2000, 1, &mut count);
     }
-    assert!(count.0[4] > 0 && count.0[5] > 0 && count.0[0] > 0, "{count:?}");
+    assert!(count.of(4) > 0 && count.of(5) > 0 && count.of(0) > 0, "{count:?}");
 }
 
 #[test]
@@ -76,14 +76,14 @@ fn a_unit_that_ran_and_one_begun_from_its_image_go_on_alike() {
         for _ in 0..random.below(400) {
             let request = load::bytes(random, shape, &monitor);
             monitor.request(&request);
-            ran.request(&request);
+            ran.ask(&request);
         }
         let mut begun = Unit::from_image(&image(&monitor)).unwrap();
         for at in 0..400 {
             let request = load::bytes(random, shape, &monitor);
             let reply = monitor.request(&request);
-            assert_eq!(ran.request(&request), reply, "seed {seed}, request {at}");
-            assert_eq!(begun.request(&request), reply, "seed {seed}, request {at}");
+            assert_eq!(ran.ask(&request), reply, "seed {seed}, request {at}");
+            assert_eq!(begun.ask(&request), reply, "seed {seed}, request {at}");
         }
         assert_eq!(ran.image()[..], image(&monitor)[..], "seed {seed}");
         assert_eq!(begun, ran, "seed {seed}");

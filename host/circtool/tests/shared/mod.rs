@@ -1,8 +1,7 @@
-//! What the tests share: runs from seeds, the folder of the repository, calls of the command, and lists of requests.
+//! What the tests share: runs from seeds, the folder of the repository, and calls of the command.
 #![allow(dead_code)] // each test program uses a part
 
 pub mod clone;
-pub mod lists;
 
 use load::{Random, Shape};
 use reference::Monitor;

@@ -1,0 +1,79 @@
+//! Whole states: begun, opened, saved, and one request on an image, beside the second implementation.
+
+use crate::loads::{prepare, shape};
+use crate::timing::{each, median, ROUNDS};
+use circmon::Unit;
+use load::Random;
+use reference::{Kind, Mode, Monitor, Request, IMAGE_BYTES};
+
+/// The microseconds of the proved monitor and of the second implementation, taken in turns.
+fn row(work: &str, proved: &mut dyn FnMut(), reference: &mut dyn FnMut()) {
+    let (mut ours, mut theirs) = (Vec::new(), Vec::new());
+    for _ in 0..ROUNDS {
+        ours.push(each(proved));
+        theirs.push(each(reference));
+    }
+    let (ours, theirs) = (median(ours), median(theirs));
+    println!("{work:<40} {ours:>9.2} {theirs:>9.2} {:>7.2}", theirs / ours);
+}
+
+/// Beginnings from a table, begun as a unit and begun as an image, and the states with so many objects.
+pub fn images() {
+    println!("images: microseconds, and the ratio to the second implementation");
+    println!("{:<40} {:>9} {:>9} {:>7}", "work", "circmon", "reference", "ratio");
+    tables();
+    for (objects, dense) in [(4, false), (16, false), (64, false), (4, true), (16, true), (64, true)] {
+        let (monitor, _) = prepare(&mut Random::new(7), objects, dense);
+        let what = format!("{objects} objects, {}", if dense { "dense" } else { "sparse" });
+        let mut image = [0; IMAGE_BYTES];
+        monitor.write_image(&mut image);
+        units(&monitor, &image, &what);
+        calls(&image, &what);
+    }
+}
+
+/// The table is short and the image long: a beginning that is written is nearly the time of writing alone.
+fn tables() {
+    let table = load::table(&mut Random::new(7), shape(4));
+    let mut unit = Unit::from_table(&table).expect("a table that was written");
+    row("start from a table", &mut || assert_eq!(unit.start(&table), 0), &mut || {
+        assert!(Monitor::from_table(&table).is_ok())
+    });
+    let (mut one, mut two) = ([0; IMAGE_BYTES], [0; IMAGE_BYTES]);
+    row("begin from a table, write", &mut || assert_eq!(circmon::begin(&table, &mut one), 0), &mut || {
+        assert_eq!(Monitor::from_table(&table).expect("a table that was written").write_image(&mut two), 0)
+    });
+    assert_eq!(one, two);
+}
+
+/// A unit opened from the image and saved.
+fn units(monitor: &Monitor, image: &[u8; IMAGE_BYTES], what: &str) {
+    let mut unit = Unit::from_image(image).expect("an image that was written");
+    row(&format!("open, {what}"), &mut || assert_eq!(unit.open(image), 0), &mut || {
+        assert!(Monitor::from_image(image).is_ok())
+    });
+    let (mut one, mut two) = ([0; IMAGE_BYTES], [0; IMAGE_BYTES]);
+    row(&format!("save, {what}"), &mut || assert_eq!(unit.save(&mut one), 0), &mut || {
+        assert_eq!(monitor.write_image(&mut two), 0)
+    });
+    assert_eq!(one, two);
+}
+
+/// Calls on images: one is read, and one is read, changed and written.
+fn calls(image: &[u8; IMAGE_BYTES], what: &str) {
+    row(&format!("read, {what}"), &mut || assert_eq!(circmon::read(image), 0), &mut || {
+        assert!(Monitor::from_image(image).is_ok())
+    });
+    let release = Request { actor: 0, object: 0, kind: Kind::Release(Mode::Execute) }.encode();
+    let (mut one, mut two) = (*image, *image);
+    row(
+        &format!("read, request, write, {what}"),
+        &mut || assert!(circmon::request(&mut one, &release) < 128),
+        &mut || {
+            let mut monitor = Monitor::from_image(&two).expect("an image that was written");
+            monitor.request(&release);
+            monitor.write_image(&mut two);
+        },
+    );
+    assert_eq!(one, two);
+}

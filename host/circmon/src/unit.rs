@@ -1,0 +1,79 @@
+//! A unit: the monitor that stays in memory.
+
+use crate::{raw, size, IMAGE_BYTES, OBJECTS, SUBJECTS};
+
+/// Bytes of a row: one for each subject.
+pub const ROW_BYTES: usize = SUBJECTS;
+/// Three rows for each object, one for each subject.
+pub const ROWS: usize = 3 * OBJECTS + SUBJECTS;
+pub const UNIT_BYTES: usize = ROWS * ROW_BYTES;
+
+/// What a unit is made of; docs/FORMATS.md says what each byte is. Every content is a state.
+pub type Rows = [[u8; ROW_BYTES]; ROWS];
+
+/// One monitor in memory. Units that were begun and then only asked are equal exactly where their images are.
+#[repr(transparent)]
+#[derive(Clone, PartialEq, Eq, Debug)]
+pub struct Unit {
+    rows: Rows,
+}
+
+impl Unit {
+    /// Begun from an enrolment table, or refused with a number.
+    pub fn from_table(table: &[u8]) -> Result<Unit, u8> {
+        let mut unit = Unit::from_rows([[0; ROW_BYTES]; ROWS]);
+        match unit.start(table) {
+            0 => Ok(unit),
+            number => Err(number),
+        }
+    }
+
+    /// Begun from an image, or refused with a number.
+    pub fn from_image(image: &[u8]) -> Result<Unit, u8> {
+        let mut unit = Unit::from_rows([[0; ROW_BYTES]; ROWS]);
+        match unit.open(image) {
+            0 => Ok(unit),
+            number => Err(number),
+        }
+    }
+
+    /// The state that these rows say, which need not be secure.
+    pub fn from_rows(rows: Rows) -> Unit {
+        Unit { rows }
+    }
+
+    pub fn rows(&self) -> &Rows {
+        &self.rows
+    }
+
+    /// Begins from an enrolment table: 0; or 10 or 11, and this is the empty monitor.
+    pub fn start(&mut self, table: &[u8]) -> u8 {
+        // Safety: the unit is whole and apart from the slice, whose pointer comes with its length.
+        unsafe { raw::circmon_start(&mut self.rows, table.as_ptr(), size(table)) }
+    }
+
+    /// Begins from an image: 0; or the first refusal of 10, 11, 12, 6, 7, 8, 9, and this is the empty monitor.
+    pub fn open(&mut self, image: &[u8]) -> u8 {
+        // Safety: the unit is whole and apart from the slice, whose pointer comes with its length.
+        unsafe { raw::circmon_open(&mut self.rows, image.as_ptr(), size(image)) }
+    }
+
+    /// The reply to a byte string of any length and content, below 2 where it is granted; this is the state after it.
+    pub fn ask(&mut self, request: &[u8]) -> u8 {
+        // Safety: the unit is whole and apart from the slice, whose pointer comes with its length.
+        unsafe { raw::circmon_ask(&mut self.rows, request.as_ptr(), size(request)) }
+    }
+
+    /// The image into the first 1,274 bytes of the buffer: 0, or 13 and every byte left where it is shorter.
+    pub fn save(&self, image: &mut [u8]) -> u8 {
+        // Safety: the unit is whole and apart from the slice, whose pointer comes with its length.
+        unsafe { raw::circmon_save(&self.rows, image.as_mut_ptr(), size(image)) }
+    }
+
+    pub fn image(&self) -> [u8; IMAGE_BYTES] {
+        let mut image = [0; IMAGE_BYTES];
+        let number = self.save(&mut image);
+        assert_eq!(number, 0, "it is proved that a buffer of this size is filled");
+        image
+    }
+}

@@ -1,0 +1,153 @@
+//! Units with any bytes in them. What the rows say is computed here once more, from docs/FORMATS.md: byte 0 of the rest of an
+//! object's record is 1 where it is live, byte 1 is its owner, byte 2 is 1 where a level stands in bytes 3 to 5.
+
+use circmon::{Rows, Unit, IMAGE_BYTES, OBJECTS, SUBJECTS};
+use load::Random;
+use reference::{reply, Level, Monitor, Object};
+use sidebyside::{image, random_rows, shape, Count};
+
+const LEFT: u8 = 0xEE;
+const HELD: usize = OBJECTS;
+const REST: usize = 2 * OBJECTS;
+const CLEARANCES: usize = 3 * OBJECTS;
+
+/// The image as bits, the first of the highest weight. A number that does not fit a field gives its low bits.
+#[derive(Default)]
+struct Bits(Vec<bool>);
+
+impl Bits {
+    fn number(&mut self, width: u32, number: u32) {
+        self.0.extend((0..width).rev().map(|k| number >> k & 1 == 1));
+    }
+
+    fn level(&mut self, level: Option<Level>) {
+        let Level { class, needs } = level.unwrap_or(Level { class: 0, needs: 0 });
+        self.number(1, level.is_some().into());
+        self.number(4, class.into());
+        self.number(16, needs.into());
+    }
+
+    fn bytes(&self) -> Vec<u8> {
+        self.0.chunks(8).map(|bits| bits.iter().fold(0, |byte, &bit| byte << 1 | u8::from(bit))).collect()
+    }
+}
+
+fn level_in(row: &[u8; 16]) -> Option<Level> {
+    (row[2] == 1).then(|| Level { class: row[3], needs: u16::from_be_bytes([row[4], row[5]]) })
+}
+
+/// The image of the state that the rows say, with what an object that is not live has.
+fn image_said(rows: &Rows) -> Vec<u8> {
+    let mut bits = Bits::default();
+    rows[CLEARANCES..].iter().for_each(|row| bits.level(level_in(row)));
+    for object in 0..OBJECTS {
+        let rest = &rows[REST + object];
+        bits.number(1, (rest[0] == 1).into());
+        bits.number(4, rest[1].into());
+        bits.level(level_in(rest));
+        for (rights, held) in rows[object].iter().zip(&rows[HELD + object]) {
+            bits.number(4, (*rights).into());
+            bits.number(4, (*held).into());
+        }
+    }
+    bits.bytes()
+}
+
+/// The state that the rows say, where what is not live has nothing.
+fn monitor_said(rows: &Rows) -> Monitor {
+    let mut monitor = Monitor::begin(std::array::from_fn(|subject| level_in(&rows[CLEARANCES + subject])));
+    for (object, place) in monitor.objects.iter_mut().enumerate() {
+        let rest = &rows[REST + object];
+        let said = Object {
+            label: level_in(rest),
+            rights: rows[object],
+            held: rows[HELD + object],
+            ..Object::new(rest[1].into())
+        };
+        *place = (rest[0] == 1).then_some(said);
+    }
+    monitor
+}
+
+/// Any bytes but where an object is not live: there they say no owner, label, right or access.
+fn rows_of_a_monitor(random: &mut Random) -> Rows {
+    let mut rows = random_rows(random);
+    for object in 0..OBJECTS {
+        let rest = &mut rows[REST + object];
+        if rest[0] != 1 {
+            rest[1] = 0;
+            rest[2] = rest[2].max(2) * u8::from(random.once_in(2));
+            rows[object] = [0; SUBJECTS];
+            rows[HELD + object] = [0; SUBJECTS];
+        }
+    }
+    rows
+}
+
+#[test]
+fn saving_writes_what_the_rows_say_and_nothing_behind_it() {
+    for seed in 0..1500 {
+        let random = &mut Random::new(seed);
+        let unit = Unit::from_rows(random_rows(random));
+        let mut buffer = vec![LEFT; IMAGE_BYTES + random.below(20)];
+        let kept = unit.clone();
+        assert_eq!(unit.save(&mut buffer), 0, "seed {seed}");
+        assert!(unit == kept, "seed {seed}: the unit is only read");
+        assert_eq!(buffer[..IMAGE_BYTES], image_said(unit.rows())[..], "seed {seed}");
+        assert!(buffer[IMAGE_BYTES..].iter().all(|&byte| byte == LEFT), "seed {seed}: later bytes are left");
+        for length in [random.below(IMAGE_BYTES), IMAGE_BYTES - 1] {
+            let mut short = random.bytes(length);
+            let kept = short.clone();
+            assert_eq!(unit.save(&mut short), reply::SHORT_BUFFER, "seed {seed}, {length} bytes");
+            assert_eq!(short, kept, "seed {seed}: every byte is left");
+        }
+    }
+}
+
+#[test]
+fn a_refusal_leaves_every_byte_and_a_1_the_state() {
+    let mut count = Count::default();
+    for seed in 0..600 {
+        let random = &mut Random::new(seed);
+        let mut unit = Unit::from_rows(random_rows(random));
+        for at in 0..300 {
+            let request = load::bytes(random, shape(seed), &monitor_said(unit.rows()));
+            let before = unit.clone();
+            let reply = unit.ask(&request);
+            count.note(reply);
+            let what = format!("seed {seed}, request {at}: {request:02x?} gets {reply}");
+            assert!(reply < 2 || unit == before, "{what}, and a byte is changed");
+            assert!(reply != 1 || unit.image() == before.image(), "{what}, and the state is changed");
+        }
+    }
+    assert!(count.numbers() == 10 && (0..=9).all(|reply| count.of(reply) > 100), "{count:?}");
+}
+
+#[test]
+fn replies_and_images_are_those_of_the_state_that_the_rows_say() {
+    let mut count = Count::default();
+    for seed in 10_000..10_600 {
+        let random = &mut Random::new(seed);
+        let mut unit = Unit::from_rows(rows_of_a_monitor(random));
+        let mut monitor = monitor_said(unit.rows());
+        for at in 0..300 {
+            let request = load::bytes(random, shape(seed), &monitor);
+            let reply = monitor.request(&request);
+            count.note(reply);
+            assert_eq!(unit.ask(&request), reply, "seed {seed}, request {at}: {request:02x?}");
+        }
+        assert!(monitor_said(unit.rows()) == monitor, "seed {seed}: the state after the requests");
+        assert_eq!(unit.image()[..], image(&monitor)[..], "seed {seed}");
+    }
+    assert!((0..=9).all(|reply| count.of(reply) > 100), "{count:?}");
+}
+
+#[test]
+fn a_number_that_is_too_large_for_the_image_is_saved_by_its_low_bits() {
+    let mut rows = *Unit::from_table(&reference::table_w()).unwrap().rows();
+    rows[CLEARANCES + 1][3] += 16;
+    let unit = Unit::from_rows(rows);
+    // the unit replies by class 19, which the image does not hold
+    assert_eq!(unit.image(), Unit::from_table(&reference::table_w()).unwrap().image());
+    assert_eq!(monitor_said(&rows).subjects[1], Some(Level { class: 19, needs: 3 }));
+}
