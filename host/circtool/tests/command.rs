@@ -78,7 +78,11 @@ fn accepted_tables_never_look_like_scripts() {
     for first in 1..0x80 {
         let mut table = [0; 42];
         table[0] = first;
-        assert_eq!((form(&table), circmon::begin(&table, &mut [0; 1274])), (Form::Script, 11), "{first:02x}");
+        assert_eq!(
+            (form(&table), circmon::begin(&table, &mut [0; circmon::IMAGE_BYTES])),
+            (Form::Script, 11),
+            "{first:02x}"
+        );
     }
     for file in shared::examples() {
         assert_eq!(form(&std::fs::read(&file).unwrap()), Form::Script, "{}", file.display());
@@ -97,7 +101,7 @@ fn run_writes_the_image_and_show_reads_it() {
         assert_eq!(out(&output), "0\n7\n");
     }
     let bytes = std::fs::read(&image).unwrap();
-    assert_eq!((bytes.len(), circmon::read(&bytes)), (1274, 0));
+    assert_eq!((bytes.len(), circmon::read(&bytes)), (circmon::IMAGE_BYTES, 0));
     for shown in [circtool(&["show", name], b""), circtool(&["show"], &bytes), circtool(&["show", "-"], &bytes)] {
         ended(&shown, 0);
         assert!(out(&shown).contains("  o0   owner s1   no label"), "{}", out(&shown));
@@ -132,7 +136,7 @@ fn nothing_is_written_where_the_input_is_bad() {
 
 #[test]
 fn a_refused_image_has_status_1_and_its_place() {
-    let mut bytes = vec![0; 1274];
+    let mut bytes = vec![0; circmon::IMAGE_BYTES];
     bytes[42] = 0x80;
     let output = circtool(&["show"], &bytes);
     ended(&output, 1);

@@ -11,7 +11,7 @@ use circtool::paint::Paint;
 use circtool::properties::{Holding, Pair};
 use circtool::view::View;
 use reference::{Kind, Monitor, Request};
-use sidebyside::SHAPES;
+use sidebyside::{Count, SHAPES};
 
 fn level(level: reference::Level) -> Level {
     Level { class: level.class, needs: level.needs }
@@ -99,7 +99,7 @@ fn cause_is_so(cause: &Cause, before: &Monitor, bytes: &[u8]) {
 }
 
 /// One run; counts the replies.
-fn explain_run(seed: u64, length: usize, count: &mut [usize; 10]) {
+fn explain_run(seed: u64, length: usize, count: &mut Count) {
     let run = shared::run(seed, SHAPES[seed as usize % SHAPES.len()], length);
     let mut unit = Unit::from_table(&run.table).unwrap();
     let mut monitor = Monitor::from_table(&run.table).unwrap();
@@ -125,18 +125,18 @@ fn explain_run(seed: u64, length: usize, count: &mut [usize; 10]) {
             }
         }
         monitor.request(bytes);
-        count[usize::from(step.reply)] += 1;
+        count.note(step.reply);
     }
 }
 
 #[test]
 fn causes_found_along_runs_are_the_library_s_and_are_so() {
-    let mut count = [0; 10];
+    let mut count = Count::default();
     for seed in 0..60 {
         explain_run(seed, 1000, &mut count);
     }
-    assert!(count.iter().sum::<usize>() >= 20_000);
-    assert!(count[2..].iter().all(|&it| it > 200), "each refusal is met often: {count:?}");
+    assert!(count.all() >= 20_000);
+    assert!((2..=9).all(|reply| count.of(reply) > 200), "each refusal is met often: {count:?}");
 }
 
 /// The steps of a script with their replies and reasons.

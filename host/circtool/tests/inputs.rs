@@ -33,7 +33,7 @@ fn an_accepted_table_that_begins_like_a_mark_is_a_table() {
             table[21 * subject / 8] |= 0x80 >> (21 * subject % 8);
         }
         table[..3].copy_from_slice(MARK.as_bytes());
-        let number = circmon::begin(&table, &mut [0; 1274]);
+        let number = circmon::begin(&table, &mut [0; circmon::IMAGE_BYTES]);
         accepted += usize::from(number == 0);
         assert_eq!(form(&table), if number == 0 { Form::Bytes } else { Form::Script }, "seed {seed}");
         // text behind the mark: the table's record 8 begins a byte of its own, and there no letter of a script may stand
@@ -97,7 +97,7 @@ fn an_image_is_not_run_as_requests() {
 #[test]
 fn a_text_of_the_length_of_an_image_is_a_text() {
     let spaced = format!("\u{a0}{SCRIPT}");
-    let text = format!("{spaced}{}", "#".repeat(1274 - spaced.len()));
+    let text = format!("{spaced}{}", "#".repeat(circmon::IMAGE_BYTES - spaced.len()));
     let refused = circtool(&["run"], text.as_bytes());
     ended(&refused, 1);
     assert!(err(&refused).contains("  it looks like a script; with --script"), "{}", err(&refused));

@@ -2,12 +2,13 @@
 
 mod shared;
 
+use circmon::IMAGE_BYTES;
 use circtool::fault::{self, Absent, Fault};
 use circtool::layout::record_of;
 use circtool::refusal;
 use load::Random;
 use reference::{Monitor, Object};
-use sidebyside::{image, SHAPES};
+use sidebyside::{image, Count, SHAPES};
 
 fn number_of(faults: &[Fault], what: &str) -> u8 {
     let number = faults.first().map_or(0, Fault::number);
@@ -23,7 +24,7 @@ fn flipped(bytes: &[u8], bit: usize) -> Vec<u8> {
 
 #[test]
 fn each_single_bit_of_rich_images_is_located() {
-    let mut seen = [0; 16];
+    let mut seen = Count::default();
     for (seed, objects) in [(1, 64), (2, 8), (3, 30)] {
         let bytes = image(&load::rich(seed, objects, 3000));
         for bit in 0..bytes.len() * 8 {
@@ -32,7 +33,7 @@ fn each_single_bit_of_rich_images_is_located() {
             let faults = fault::of_image(&damaged);
             let number = circmon::read(&damaged);
             assert_eq!(number_of(&faults, &what), number, "{what}");
-            seen[usize::from(number)] += 1;
+            seen.note(number);
             // the image was accepted before, so whatever is wrong now has to do with the record of that bit
             for fault in &faults {
                 assert!(fault.records().contains(&record_of(bit)), "{what}: {fault}");
@@ -44,13 +45,13 @@ fn each_single_bit_of_rich_images_is_located() {
         }
     }
     for number in [0, 6, 8, 9, 11, 12] {
-        assert!(seen[number] > 0, "{number} was not met: {seen:?}");
+        assert!(seen.of(number) > 0, "{number} was not met: {seen:?}");
     }
 }
 
 #[test]
 fn images_damaged_in_random_ways() {
-    let mut seen = [0; 16];
+    let mut seen = Count::default();
     for seed in 0..1000 {
         let random = &mut Random::new(seed);
         let mut bytes = image(&load::rich(seed, 1 + random.below(64), 300));
@@ -61,14 +62,14 @@ fn images_damaged_in_random_ways() {
         let what = format!("seed {seed}");
         let number = circmon::read(&bytes);
         assert_eq!(number_of(&fault::of_image(&bytes), &what), number, "{what}");
-        seen[usize::from(number)] += 1;
+        seen.note(number);
     }
-    assert!(seen.iter().filter(|&&it| it > 0).count() >= 4, "{seen:?}");
+    assert!(seen.numbers() >= 4, "{seen:?}");
 }
 
 #[test]
 fn states_that_break_one_property() {
-    let mut seen = [0; 16];
+    let mut seen = Count::default();
     for seed in 0..400 {
         let random = &mut Random::new(seed);
         let mut monitor = load::rich(seed, 10, 500);
@@ -85,10 +86,10 @@ fn states_that_break_one_property() {
         for fault in &faults {
             is_so(fault, &monitor, &what);
         }
-        seen[usize::from(number)] += 1;
+        seen.note(number);
     }
     for number in [6, 7, 8, 9, 12] {
-        assert!(seen[number] > 5, "{number} was not met often: {seen:?}");
+        assert!(seen.of(number) > 5, "{number} was not met often: {seen:?}");
     }
 }
 
@@ -143,14 +144,14 @@ fn lengths_and_tables() {
     let bytes = image(&load::rich(7, 20, 500));
     for length in [0, 1, 41, 42, 43, 1273] {
         assert_eq!(circmon::read(&bytes[..length]), 10);
-        assert_eq!(fault::of_image(&bytes[..length]), [Fault::Length { found: length, expected: 1274 }]);
+        assert_eq!(fault::of_image(&bytes[..length]), [Fault::Length { found: length, expected: IMAGE_BYTES }]);
     }
     for seed in 0..20 {
         let table = load::table(&mut Random::new(seed), SHAPES[seed as usize % SHAPES.len()]);
         for bit in 0..42 * 8 {
             let damaged = flipped(&table, bit);
             let faults = fault::of_table(&damaged);
-            let number = circmon::begin(&damaged, &mut [0; 1274]);
+            let number = circmon::begin(&damaged, &mut [0; IMAGE_BYTES]);
             assert_eq!(number_of(&faults, "table"), number, "seed {seed}, bit {bit}");
             assert!(faults.iter().all(|it| it.records() == [record_of(bit)]), "seed {seed}, bit {bit}");
         }
@@ -164,7 +165,7 @@ fn message(bytes: &[u8]) -> String {
 
 #[test]
 fn messages_name_the_check_and_the_place() {
-    let empty = vec![0; 1274];
+    let empty = vec![0; IMAGE_BYTES];
     let stray = flipped(&empty, 42 * 8 + 154 + 26 + 8 * 2 + 1);
     assert_eq!(
         message(&stray),
@@ -191,7 +192,7 @@ fn messages_name_the_check_and_the_place() {
 
 #[test]
 fn many_places_are_counted() {
-    let mut bytes = vec![0; 1274];
+    let mut bytes = vec![0; IMAGE_BYTES];
     bytes[42..].fill(0x55);
     let lines: Vec<String> = message(&bytes).lines().map(str::to_string).collect();
     assert_eq!(lines.len(), 7, "{lines:?}");

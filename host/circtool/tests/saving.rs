@@ -45,7 +45,7 @@ fn links_permissions_and_pipes_are_kept() {
     fs::set_permissions(&image, fs::Permissions::from_mode(0o640)).unwrap();
     symlink("a.img", &link).unwrap();
     ended(&circtool(&["run", "--image", link.to_str().unwrap()], SCRIPT.as_bytes()), 0);
-    assert!(link.is_symlink() && fs::read(&image).unwrap().len() == 1274);
+    assert!(link.is_symlink() && fs::read(&image).unwrap().len() == circmon::IMAGE_BYTES);
     assert_eq!(fs::metadata(&image).unwrap().permissions().mode() & 0o777, 0o640);
     // a pipe is written to, and not replaced by a file
     let at = folder.display();
