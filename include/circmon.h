@@ -58,7 +58,7 @@ uint8_t circmon_open(circmon_unit *unit, const uint8_t *image, circmon_size imag
  * Every byte of the unit is written; what was in it before does not matter. */
 uint8_t circmon_start(circmon_unit *unit, const uint8_t *table, circmon_size table_len);
 
-/* Carries out a request: bytes of any length and content, of which exactly six can say one.
+/* Carries out a request: bytes of any length and content; what is no request gets 2.
  * Returns the reply. Below 2 it is granted: 0 and the state changed, 1 and it was so already. 2 to 9 is the first check that
  * refuses, and every byte of the unit is left. */
 uint8_t circmon_ask(circmon_unit *unit, const uint8_t *request, circmon_size request_len);
@@ -67,7 +67,7 @@ uint8_t circmon_ask(circmon_unit *unit, const uint8_t *request, circmon_size req
  * Returns 0; or 13 where the buffer has under 1,274 bytes, and leaves every byte of it. The unit is only read. */
 uint8_t circmon_save(const circmon_unit *unit, uint8_t *image, circmon_size image_len);
 
-/* ---- Calls on images: the state is the image itself, which each call reads, checks and writes */
+/* ---- Calls without a unit: on tables, images and lists of requests */
 
 /* Begins a monitor from an enrolment table and writes its image.
  * Returns 10 or 11 where the table is refused; then 13 where the buffer has under 1,274 bytes; else 0.
