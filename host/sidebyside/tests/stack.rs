@@ -4,7 +4,8 @@ use sidebyside::{compiled_here, root};
 use std::process::Command;
 
 /// Less than this the function must need.
-const UNDER: [(&str, usize); 1] = [("circmon_ask", 1024)];
+const UNDER: [(&str, usize); 4] =
+    [("circmon_ask", 1024), ("circmon_open", 8192), ("circmon_start", 8192), ("circmon_save", 8192)];
 
 type Rows = Vec<(String, usize)>;
 
