@@ -42,19 +42,19 @@ turned p = (sym (p .0), sym (p .1))
 -- a refused table: its number, and every byte left
 pub begin-table-refused : (t buffer : List ℕ) → 2 ≤ number (readTable t .decision)
     → (beginNumber t buffer ≡ number (readTable t .decision)) × (beginBytes t buffer ≡ buffer)
-begin-table-refused t buffer h = turned (begin-refused t buffer (readTable t) refl (refusing (readTable t .decision) h) _ refl)
+begin-table-refused t buffer h = turned (begin-refused t buffer (readTable t .decision) refl (refusing (readTable t .decision) h) _ refl)
 
 -- an accepted one and a buffer under 1,274 bytes: 13, and every byte left
 pub begin-13 : (t buffer : List ℕ) → Accepted (table t) → length buffer < 1274 → (beginNumber t buffer ≡ 13) × (beginBytes t buffer ≡ buffer)
 begin-13 t buffer A h =
-    let p = turned (begin-written t buffer (readTable t) refl (ap refuses A) _ (writing buffer) refl refl _ refl) in
+    let p = turned (begin-written t buffer (readTable t .decision) refl (ap refuses A) _ (writing buffer) refl refl _ refl) in
     (p .0 ∙ write-13-exactly buffer .1 h, p .1 ∙ write-13-leaves _ buffer h)
 
 -- else 0: the image of the monitor begun from the table in the first 1,274 bytes, and any later byte left
 pub begin-0 : (t buffer : List ℕ) → Accepted (table t) → 1274 ≤ length buffer
     → (beginNumber t buffer ≡ 0) × (beginBytes t buffer ≡ imageOf (readTable t .monitor) ++ drop 1274 buffer)
 begin-0 t buffer A h =
-    let p = turned (begin-written t buffer (readTable t) refl (ap refuses A) _ (writing buffer) refl refl _ refl) in
+    let p = turned (begin-written t buffer (readTable t .decision) refl (ap refuses A) _ (writing buffer) refl refl _ refl) in
     (p .0 ∙ write-0-exactly buffer .1 h, p .1 ∙ write-0-fills _ buffer h)
 
 -- ---- circmon_request
@@ -62,7 +62,7 @@ begin-0 t buffer A h =
 -- an image that is refused with n: 128 + n, and every byte left
 pub request-128 : (buffer bytes : List ℕ) → 2 ≤ number (readImage buffer .decision)
     → (requestNumber buffer bytes ≡ 128 + number (readImage buffer .decision)) × (requestBytes buffer bytes ≡ buffer)
-request-128 buffer bytes h = turned (request-refused buffer bytes (readImage buffer) refl (refusing (readImage buffer .decision) h) _ refl)
+request-128 buffer bytes h = turned (request-refused buffer bytes (readImage buffer .decision) refl (refusing (readImage buffer .decision) h) _ refl)
 
 -- ---- circmon_replay
 
@@ -124,18 +124,18 @@ replay-0-short t qs short out A h some less room =
 -- image a is refused with n: 128 + n; then image b with n: 192 + n; every byte left
 pub distinguish-128 : (a b buffer : List ℕ) → 2 ≤ number (readImage a .decision)
     → (distinguishNumber a b buffer ≡ 128 + number (readImage a .decision)) × (distinguishBytes a b buffer ≡ buffer)
-distinguish-128 a b buffer h = turned (first-refused a b buffer (readImage a) refl (refusing (readImage a .decision) h) _ refl)
+distinguish-128 a b buffer h = turned (first-refused a b buffer (readImage a .decision) refl (refusing (readImage a .decision) h) _ refl)
 
 pub distinguish-192 : (a b buffer : List ℕ) → Accepted (image a) → 2 ≤ number (readImage b .decision)
     → (distinguishNumber a b buffer ≡ 192 + number (readImage b .decision)) × (distinguishBytes a b buffer ≡ buffer)
-distinguish-192 a b buffer A h = turned (second-refused a b buffer (readImage a) refl (ap refuses A) (readImage b) refl (refusing (readImage b .decision) h) _ refl)
+distinguish-192 a b buffer A h = turned (second-refused a b buffer (readImage a .decision) refl (ap refuses A) (readImage b .decision) refl (refusing (readImage b .decision) h) _ refl)
 
 -- both are accepted, and the buffer has under 24 bytes: 13, and every byte left
 pub distinguish-13 : (a b buffer : List ℕ) → Accepted (image a) → Accepted (image b) → length buffer < 24
     → (distinguishNumber a b buffer ≡ 13) × (distinguishBytes a b buffer ≡ buffer)
 unfolding toldNumber toldBytes noRoom
 distinguish-13 a b buffer A B h =
-    let p = turned (told-apart a b buffer (readImage a) refl (ap refuses A) (readImage b) refl (ap refuses B) _ refl _ refl) in
+    let p = turned (told-apart a b buffer (readImage a .decision) refl (ap refuses A) (readImage b .decision) refl (ap refuses B) _ _ refl refl _ refl _ refl) in
     (p .0 ∙ cond-true (noRoom buffer) _ _ (lt-ltb (length buffer) 24 h), p .1 ∙ cond-true (noRoom buffer) _ _ (lt-ltb (length buffer) 24 h))
 
 -- else the number of requests, which stand in the first bytes, six for each, and any later byte left
@@ -144,5 +144,5 @@ pub distinguish-requests : (a b buffer : List ℕ) → Accepted (image a) → Ac
     (distinguishNumber a b buffer ≡ length qs) × (distinguishBytes a b buffer ≡ join (map encode qs) ++ drop (6 * length qs) buffer)
 unfolding toldNumber toldBytes noRoom bytesOf
 distinguish-requests a b buffer A B h =
-    let p = turned (told-apart a b buffer (readImage a) refl (ap refuses A) (readImage b) refl (ap refuses B) _ refl _ refl) in
+    let p = turned (told-apart a b buffer (readImage a .decision) refl (ap refuses A) (readImage b .decision) refl (ap refuses B) _ _ refl refl _ refl _ refl) in
     (p .0 ∙ cond-false (noRoom buffer) _ _ (le-ltb (length buffer) 24 h), p .1 ∙ cond-false (noRoom buffer) _ _ (le-ltb (length buffer) 24 h))

@@ -7,27 +7,27 @@ ghost use Rattle.model.specs.Decisions.{number};
 ghost use Rattle.model.specs.Reading.{readImage};
 ghost use Rattle.replay.specs.Replay.{replayAnswer, replayed};
 ghost use Rattle.capi.specs.Boundary.{beginNumber, beginBytes, requestNumber, requestBytes, distinguishNumber, distinguishBytes};
+use asking::ask;
+use beginning::check_table;
+use beginning::write_begun;
 use distinguish::distinguish;
-use image::read_image;
-use image::read_table;
+use image::open;
 use labels::number;
 use labels::refuses;
 use replay::replay;
-use rules::request;
-use writing::write_image;
+use unit::ROWS;
+use writing::save;
 
 // The image of a monitor begun from a table, into the buffer.
 #[no_mangle]
 pub extern "C" fn circmon_begin(table: &[u8], image: &mut [u8]) -> u8
     ensures { λ r. ⌜ (r ≡ beginNumber (now (table .entry)) (now (image .entry))) × (now (image .exit) ≡ beginBytes (now (table .entry)) (now (image .entry))) ⌝ }
 {
-    let begun = read_table(table);
-    let decision = begun.decision;
-    if refuses(decision) {
-        return number(decision);
+    let checked = check_table(table);
+    if refuses(checked) {
+        return number(checked);
     }
-    let monitor = begun.monitor;
-    let answer = write_image(monitor, image);
+    let answer = write_begun(table, image);
     number(answer)
 }
 
@@ -36,9 +36,9 @@ pub extern "C" fn circmon_begin(table: &[u8], image: &mut [u8]) -> u8
 pub extern "C" fn circmon_read(image: &[u8]) -> u8
     ensures { λ r. ⌜ r ≡ number (readImage (now (image .entry)) .decision) ⌝ }
 {
-    let begun = read_image(image);
-    let decision = begun.decision;
-    number(decision)
+    let mut unit = [[0u8; 16]; ROWS];
+    let opened = open(&mut unit, image);
+    number(opened)
 }
 
 // One request on the state that the buffer holds as an image; the state after it is written in place.
@@ -46,17 +46,14 @@ pub extern "C" fn circmon_read(image: &[u8]) -> u8
 pub extern "C" fn circmon_request(image: &mut [u8], bytes: &[u8]) -> u8
     ensures { λ r. ⌜ (r ≡ requestNumber (now (image .entry)) (now (bytes .entry))) × (now (image .exit) ≡ requestBytes (now (image .entry)) (now (bytes .entry))) ⌝ }
 {
-    let begun = read_image(image);
-    let decision = begun.decision;
-    if refuses(decision) {
-        return 128 + number(decision);
+    let mut unit = [[0u8; 16]; ROWS];
+    let opened = open(&mut unit, image);
+    if refuses(opened) {
+        return 128 + number(opened);
     }
-    let monitor = begun.monitor;
-    let answer = request(monitor, bytes);
-    let next = answer.monitor;
-    let _ = write_image(next, image);
-    let replied = answer.decision;
-    number(replied)
+    let reply = ask(&mut unit, bytes);
+    save(&unit, image);
+    reply
 }
 
 // One reply byte for each piece of six bytes, from a monitor begun from a table.
@@ -73,17 +70,15 @@ pub extern "C" fn circmon_replay(table: &[u8], requests: &[u8], replies: &mut [u
 pub extern "C" fn circmon_distinguish(a: &[u8], b: &[u8], requests: &mut [u8]) -> u8
     ensures { λ r. ⌜ (r ≡ distinguishNumber (now (a .entry)) (now (b .entry)) (now (requests .entry))) × (now (requests .exit) ≡ distinguishBytes (now (a .entry)) (now (b .entry)) (now (requests .entry))) ⌝ }
 {
-    let first = read_image(a);
-    let one = first.decision;
+    let mut first = [[0u8; 16]; ROWS];
+    let one = open(&mut first, a);
     if refuses(one) {
         return 128 + number(one);
     }
-    let second = read_image(b);
-    let two = second.decision;
+    let mut second = [[0u8; 16]; ROWS];
+    let two = open(&mut second, b);
     if refuses(two) {
         return 192 + number(two);
     }
-    let m = first.monitor;
-    let n = second.monitor;
-    distinguish(m, n, requests)
+    distinguish(&first, &second, requests)
 }

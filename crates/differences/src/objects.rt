@@ -1,5 +1,6 @@
 // The record of one object in two states, and all objects: the first difference gives the request.
 ghost use mathlib.Core.Path.{_≡_};
+ghost use Rattle.unit.specs.Rows.{rowCount, objectsIn};
 ghost use Rattle.differences.specs.Sequences.{requestsOf};
 ghost use Rattle.differences.specs.Records.{lifeApart, ownerApart, labelApart, asked, modeApart, setApart, rowApart, objectApart, objectsApart};
 use crate::sequence::Sequence;
@@ -14,6 +15,7 @@ use model::Mode;
 use model::Monitor;
 use model::Object;
 use model::Request;
+use unit::object_in;
 
 // ---- what a record says of the object itself
 
@@ -114,13 +116,17 @@ fn object_apart(o: u8, a: Object, b: Object) -> Sequence
     or_else(by_life, or_else(by_owner, or_else(by_label, by_sets)))
 }
 
-// The first object whose records differ.
-pub fn objects_apart(a: [Object; 64], b: [Object; 64]) -> Sequence
-    ensures { λ r. ⌜ requestsOf r ≡ objectsApart a b ⌝ }
+// The first object whose records differ, in two units.
+pub fn objects_apart(a: &[[u8; 16]], b: &[[u8; 16]]) -> Sequence
+    requires { do ⌜ (← ⟦a.len()⟧) ≡ rowCount ⌝ }
+    requires { do ⌜ (← ⟦b.len()⟧) ≡ rowCount ⌝ }
+    ensures { λ r. ⌜ requestsOf r ≡ objectsApart (objectsIn (now (a .entry))) (objectsIn (now (b .entry))) ⌝ }
 {
     let mut o: usize = 0;
     while o < Monitor::OBJECTS {
-        let q = object_apart(o as u8, a[o], b[o]);
+        let one = object_in(a, o as u8);
+        let two = object_in(b, o as u8);
+        let q = object_apart(o as u8, one, two);
         if is_found(q) {
             return q;
         }

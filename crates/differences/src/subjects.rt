@@ -1,6 +1,7 @@
 // The clearances of the subjects in two states: who is enrolled, and a level that one clearance dominates and the other does not.
 ghost use mathlib.Core.Path.{_≡_};
 ghost use mathlib.Core.Bool.{cond};
+ghost use Rattle.unit.specs.Rows.{rowCount, subjectsIn, objectsIn};
 ghost use Rattle.differences.specs.Sequences.{requestsOf};
 ghost use Rattle.differences.specs.Records.{enrolmentApart, enrolmentsApart, freePlace, levelApart, clearanceApart, clearancesApart};
 use crate::sequence::Place;
@@ -14,9 +15,10 @@ use labels::is_present;
 use model::Label;
 use model::Level;
 use model::Monitor;
-use model::Object;
 use model::Request;
-use model::Subject;
+use unit::clearance_of;
+use unit::is_live;
+use unit::owner_of;
 
 // Enrolled in one only: any request by that subject, 3 or not.
 fn enrolment_apart(s: u8, a: Label, b: Label) -> Sequence
@@ -25,16 +27,16 @@ fn enrolment_apart(s: u8, a: Label, b: Label) -> Sequence
     when(differ(is_present(a), is_present(b)), Request::Delete(s, 0))
 }
 
-// The first subject that is enrolled in one only.
-pub fn enrolments_apart(a: [Subject; 16], b: [Subject; 16]) -> Sequence
-    ensures { λ r. ⌜ requestsOf r ≡ enrolmentsApart a b ⌝ }
+// The first subject that is enrolled in one unit only.
+pub fn enrolments_apart(a: &[[u8; 16]], b: &[[u8; 16]]) -> Sequence
+    requires { do ⌜ (← ⟦a.len()⟧) ≡ rowCount ⌝ }
+    requires { do ⌜ (← ⟦b.len()⟧) ≡ rowCount ⌝ }
+    ensures { λ r. ⌜ requestsOf r ≡ enrolmentsApart (subjectsIn (now (a .entry))) (subjectsIn (now (b .entry))) ⌝ }
 {
     let mut s: usize = 0;
     while s < Monitor::SUBJECTS {
-        let one = a[s];
-        let two = b[s];
-        let clearance = one.clearance;
-        let other = two.clearance;
+        let clearance = clearance_of(a, s as u8);
+        let other = clearance_of(b, s as u8);
         let q = enrolment_apart(s as u8, clearance, other);
         if is_found(q) {
             return q;
@@ -52,21 +54,21 @@ fn last_free(live: bool, free: usize, o: usize) -> usize
 }
 
 // The last object that is not live; where all are, object 0, which its owner can delete.
-pub fn free_place(objects: [Object; 64]) -> Place
-    ensures { λ r. ⌜ r ≡ freePlace objects ⌝ }
+pub fn free_place(unit: &[[u8; 16]]) -> Place
+    requires { do ⌜ (← ⟦unit.len()⟧) ≡ rowCount ⌝ }
+    ensures { λ r. ⌜ r ≡ freePlace (objectsIn (now (unit .entry))) ⌝ }
 {
     let mut free: usize = 0;
     let mut o: usize = 0;
     while o < Monitor::OBJECTS {
-        let ob = objects[o];
-        free = last_free(ob.live, free, o);
+        free = last_free(is_live(unit, o as u8), free, o);
         o += 1;
     }
-    let there = objects[free];
+    let object = free as u8;
     Place {
-        live: there.live,
-        owner: there.owner,
-        object: free as u8,
+        live: is_live(unit, object),
+        owner: owner_of(unit, object),
+        object,
     }
 }
 
@@ -99,16 +101,16 @@ fn clearance_apart(p: Place, s: u8, a: Label, b: Label) -> Sequence
     }
 }
 
-// The first subject whose clearances differ.
-pub fn clearances_apart(p: Place, a: [Subject; 16], b: [Subject; 16]) -> Sequence
-    ensures { λ r. ⌜ requestsOf r ≡ clearancesApart p a b ⌝ }
+// The first subject whose clearances differ, in two units.
+pub fn clearances_apart(p: Place, a: &[[u8; 16]], b: &[[u8; 16]]) -> Sequence
+    requires { do ⌜ (← ⟦a.len()⟧) ≡ rowCount ⌝ }
+    requires { do ⌜ (← ⟦b.len()⟧) ≡ rowCount ⌝ }
+    ensures { λ r. ⌜ requestsOf r ≡ clearancesApart p (subjectsIn (now (a .entry))) (subjectsIn (now (b .entry))) ⌝ }
 {
     let mut s: usize = 0;
     while s < Monitor::SUBJECTS {
-        let one = a[s];
-        let two = b[s];
-        let clearance = one.clearance;
-        let other = two.clearance;
+        let clearance = clearance_of(a, s as u8);
+        let other = clearance_of(b, s as u8);
         let q = clearance_apart(p, s as u8, clearance, other);
         if is_found(q) {
             return q;

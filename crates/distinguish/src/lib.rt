@@ -1,10 +1,11 @@
-// The requests on which two states reply differently, found and written one behind the other.
+// The requests on which the states of two units reply differently, found and written one behind the other.
 ghost use mathlib.Core.Path.{_≡_};
 ghost use Prim.Native.Nat.{_+_, _≤_};
 ghost use lib.ListN.{length};
 ghost use lib.Seq.{sets};
 ghost use Rattle.model.specs.Requests.{encode};
 ghost use Rattle.security.specs.Distinguish.{distinguish};
+ghost use Rattle.unit.specs.Rows.{rowCount, stateIn};
 ghost use Rattle.differences.specs.Sequences.{readingOf, requestsOf};
 ghost use Rattle.distinguish.specs.Telling.{bytesOf, toldNumber, toldBytes};
 use differences::Sequence;
@@ -18,30 +19,27 @@ use labels::number;
 use model::Decision;
 use model::Level;
 use model::Mode;
-use model::Monitor;
 use model::Request;
 
 // The room for four requests.
 const ROOM: usize = 24;
 
 // First who is enrolled, then the objects, and where these are equal the clearances.
-fn sequence_of(m: Monitor, n: Monitor) -> Sequence
-    ensures { λ r. ⌜ requestsOf r ≡ distinguish m n ⌝ }
+fn sequence_of(a: &[[u8; 16]], b: &[[u8; 16]]) -> Sequence
+    requires { do ⌜ (← ⟦a.len()⟧) ≡ rowCount ⌝ }
+    requires { do ⌜ (← ⟦b.len()⟧) ≡ rowCount ⌝ }
+    ensures { λ r. ⌜ requestsOf r ≡ distinguish (stateIn (now (a .entry))) (stateIn (now (b .entry))) ⌝ }
 {
-    let subjects = m.subjects;
-    let other_subjects = n.subjects;
-    let by_enrolment = enrolments_apart(subjects, other_subjects);
+    let by_enrolment = enrolments_apart(a, b);
     if is_found(by_enrolment) {
         return by_enrolment;
     }
-    let objects = m.objects;
-    let other_objects = n.objects;
-    let by_object = objects_apart(objects, other_objects);
+    let by_object = objects_apart(a, b);
     if is_found(by_object) {
         return by_object;
     }
-    let place = free_place(objects);
-    clearances_apart(place, subjects, other_subjects)
+    let place = free_place(a);
+    clearances_apart(place, a, b)
 }
 
 // ---- the requests, written one behind the other
@@ -94,12 +92,14 @@ fn write_sequence(out: &mut [u8], q: Sequence) -> u8
 }
 
 // The number of requests, which are in the first bytes of out, six for each; 13 where out has no room for four.
-pub fn distinguish(m: Monitor, n: Monitor, out: &mut [u8]) -> u8
-    ensures { λ r. ⌜ (r ≡ toldNumber m n (now (out .entry))) × (now (out .exit) ≡ toldBytes m n (now (out .entry))) ⌝ }
+pub fn distinguish(a: &[[u8; 16]], b: &[[u8; 16]], out: &mut [u8]) -> u8
+    requires { do ⌜ (← ⟦a.len()⟧) ≡ rowCount ⌝ }
+    requires { do ⌜ (← ⟦b.len()⟧) ≡ rowCount ⌝ }
+    ensures { λ r. ⌜ (r ≡ toldNumber (stateIn (now (a .entry))) (stateIn (now (b .entry))) (now (out .entry))) × (now (out .exit) ≡ toldBytes (stateIn (now (a .entry))) (stateIn (now (b .entry))) (now (out .entry))) ⌝ }
 {
     if out.len() < ROOM {
         return number(Decision::ShortBuffer);
     }
-    let sequence = sequence_of(m, n);
+    let sequence = sequence_of(a, b);
     write_sequence(out, sequence)
 }

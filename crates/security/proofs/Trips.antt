@@ -136,7 +136,7 @@ records-back f g form n w b l h e =
     (λ i k. h (getD (cut n w b) i []) (cut-length n w b l i [] (omega (arith, length-cut n w b))) (all-at form [] (cut n w b) e i k)))
     ∙ join-cut n w b l
 
-subjects-written : (b : List ℕ) → length b ≡ tableSize → tableForm b ≡ true → tableBits (tableFrom b) ≡ bytesToBits b
+pub subjects-written : (b : List ℕ) → length b ≡ tableSize → tableForm b ≡ true → tableBits (tableFrom b) ≡ bytesToBits b
 unfolding tableForm tableFrom
 subjects-written b l e = records-back subjectBits subjectFrom labelForm 16 21 (bytesToBits b) (length-bytesToBits b ∙ omega (arith, l)) label-back e
 

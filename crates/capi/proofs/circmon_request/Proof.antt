@@ -8,8 +8,11 @@ use borrow.Author.Needs.{needs}
 use Rattle.capi.proofs.circmon_request.Statement.{statement}
 use Rattle.capi.proofs.circmon_request.Tie as tie
 
-read-image-requires : tie.Need-read-image-requires
-read-image-requires c κs = search needs
+slice-aggregate-open : tie.Need-slice-aggregate-open
+slice-aggregate-open c = search needs
+
+open-requires : tie.Need-open-requires
+open-requires c κs = search needs
 
 refuses-requires : tie.Need-refuses-requires
 refuses-requires c κs = search needs
@@ -18,41 +21,51 @@ number-requires : tie.Need-number-requires
 number-requires c κs = search needs
 
 add-result : tie.Need-add-result
-add-result c = omega (arith, c .number .ensures, number-small (c .before .before .before .read-image .result .decision))
+add-result c = omega (arith, c .number .ensures, number-small (c .before .before .before .before .«open» .result))
 
 same-length : tie.Need-same-length
 same-length c = search needs
 
 returns : tie.Need-returns
-returns c = request-refused _ _ (c .before .before .before .read-image .result) (c .before .before .before .read-image .ensures) (sym (c .before .before .refuses .ensures) ∙ c .before .if1 .taken) _ (c .number .ensures)
+returns c =
+    let opened = c .before .before .before .before .«open» in
+    request-refused _ _ (opened .result) (opened .ensures .0) (sym (c .before .before .refuses .ensures) ∙ c .before .if1 .taken) _ (c .number .ensures)
 
-request-requires : tie.Need-request-requires
-request-requires c κs = search needs
+slice-aggregate-ask : tie.Need-slice-aggregate-ask
+slice-aggregate-ask c = search needs
 
-write-image-requires : tie.Need-write-image-requires
-write-image-requires c κs = search needs
+ask-requires : tie.Need-ask-requires
+ask-requires c κs = search needs
 
-number-requires-2 : tie.Need-number-requires-2
-number-requires-2 c κs = search needs
+slice-aggregate-save : tie.Need-slice-aggregate-save
+slice-aggregate-save c = search needs
+
+save-requires : tie.Need-save-requires
+save-requires c κs = search needs
 
 same-length-2 : tie.Need-same-length-2
 same-length-2 c = search needs
 
 returns-2 : tie.Need-returns-2
-returns-2 c = request-carried _ _ (c .before .before .before .before .before .before .before .before .before .before .read-image .result) (c .before .before .before .before .before .before .before .before .before .before .read-image .ensures) (sym (c .before .before .before .before .before .before .before .before .before .refuses .ensures) ∙ c .before .before .before .before .before .before .before .before .if1 .left) (c .before .before .before .before .before .before .request .result) (c .before .before .before .before .before .before .request .ensures) _ (c .number2 .ensures) _ (c .before .before .before .write-image .ensures .1)
+returns-2 c =
+    let after = c .before .before .before .before .before .before in
+    let opened = after .before .before .before .before .before .«open» in
+    request-carried _ _ (opened .result) (opened .ensures .0) (sym (after .before .before .before .refuses .ensures) ∙ after .before .before .if1 .left) _ (opened .ensures .1) _ (after .ask .ensures .0) _ (after .ask .ensures .1) _ (c .before .before .save .ensures .1)
 
 pub circmon-request-spec : {M : Type 1} → statement M
 circmon-request-spec =
     tie.close
     (tie.spec
-    read-image-requires
+    slice-aggregate-open
+    open-requires
     refuses-requires
     number-requires
     add-result
     same-length
     returns
-    request-requires
-    write-image-requires
-    number-requires-2
+    slice-aggregate-ask
+    ask-requires
+    slice-aggregate-save
+    save-requires
     same-length-2
     returns-2)

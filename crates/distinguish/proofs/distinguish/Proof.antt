@@ -17,6 +17,7 @@ use Rattle.differences.specs.declared.sequence.Sequence.the-variants.{Nothing, 
 use Rattle.differences.specs.Sequences.{requestsOf}
 use Rattle.distinguish.specs.Telling.{bytesOf, noRoom, toldNumber, toldBytes}
 use Rattle.distinguish.proofs.Storing.{sets-front}
+use Rattle.unit.specs.Rows.{stateIn}
 use borrow.Author.Needs.{needs}
 use Rattle.distinguish.proofs.distinguish.Statement.{statement}
 use Rattle.distinguish.proofs.distinguish.Tie as tie
@@ -48,7 +49,7 @@ number-requires c κs = search needs
 returns : tie.Need-returns
 returns c =
     let args = c .before .before .before .args in
-    short (args .m) (args .n) (args .out .now) (c .number .result) (omega (arith, c .before .if1 .taken)) (c .number .ensures)
+    short (stateIn (args .a .now)) (stateIn (args .b .now)) (args .out .now) (c .number .result) (omega (arith, c .before .if1 .taken)) (c .number .ensures)
 
 sequence-of-requires : tie.Need-sequence-of-requires
 sequence-of-requires c κs = search needs
@@ -64,8 +65,15 @@ returns-2 c =
     let args = c .before .before .before .before .before .before .before .args in
     let found = c .before .before .before .before .sequence-of in
     let write = c .before .before .write-sequence in
-    long (args .m) (args .n) (args .out .now) (write .last .0) (write .result) (found .result) (omega arith) (found .ensures) (write .ensures .0) (write .ensures .1)
+    long (stateIn (args .a .now)) (stateIn (args .b .now)) (args .out .now) (write .last .0) (write .result) (found .result) (omega arith) (found .ensures) (write .ensures .0) (write .ensures .1)
 
 pub distinguish-spec : {M : Type 1} → statement M
 distinguish-spec =
-    tie.close (tie.spec number-requires returns sequence-of-requires write-sequence-requires same-length returns-2)
+    tie.close
+    (tie.spec
+    number-requires
+    returns
+    sequence-of-requires
+    write-sequence-requires
+    same-length
+    returns-2)

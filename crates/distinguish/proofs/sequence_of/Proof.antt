@@ -1,6 +1,7 @@
 -- The first part that has a request; where neither of the first two has one, the clearances.
 -- Assumes nothing.
 use mathlib.Core.Path.{sym, ap, _∙_}
+use Rattle.unit.specs.Rows.{stateIn, subjectsIn}
 use Rattle.differences.specs.declared.sequence.Place.{Place}
 use Rattle.differences.specs.Records.{clearancesApart}
 use Rattle.distinguish.proofs.Parts.{told-by-enrolment, told-by-object, told-by-clearance}
@@ -16,9 +17,9 @@ is-found-requires c κs = search needs
 
 returns : tie.Need-returns
 returns c =
-    let args = c .before .before .before .before .before .args in
+    let args = c .before .before .before .args in
     let first = c .before .before .enrolments-apart in
-    told-by-enrolment (args .m) (args .n) (first .result) (first .ensures) (sym (c .before .is-found .ensures) ∙ c .if1 .taken)
+    told-by-enrolment (stateIn (args .a .now)) (stateIn (args .b .now)) (first .result) (first .ensures) (sym (c .before .is-found .ensures) ∙ c .if1 .taken)
 
 objects-apart-requires : tie.Need-objects-apart-requires
 objects-apart-requires c κs = search needs
@@ -28,12 +29,12 @@ is-found-requires-2 c κs = search needs
 
 returns-2 : tie.Need-returns-2
 returns-2 c =
-    let start = c .before .before .before .before .before .before .before in
-    let args = start .before .before .before .args in
+    let start = c .before .before .before .before .before in
+    let args = start .before .args in
     let first = start .enrolments-apart in
     let second = c .before .before .objects-apart in
-    told-by-object (args .m) (args .n) (first .result) (first .ensures) (second .result) (second .ensures)
-    (sym (c .before .before .before .before .before .before .is-found .ensures) ∙ c .before .before .before .before .before .if1 .left)
+    told-by-object (stateIn (args .a .now)) (stateIn (args .b .now)) (first .result) (first .ensures) (second .result) (second .ensures)
+    (sym (c .before .before .before .before .is-found .ensures) ∙ c .before .before .before .if1 .left)
     (sym (c .before .is-found2 .ensures) ∙ c .if2 .taken)
 
 free-place-requires : tie.Need-free-place-requires
@@ -45,15 +46,15 @@ clearances-apart-requires c κs = search needs
 returns-3 : tie.Need-returns-3
 returns-3 c =
     let here = c .before .before in
-    let start = here .before .before .before .before .before .before .before in
-    let args = start .before .before .before .args in
+    let start = here .before .before .before .before .before in
+    let args = start .before .args in
     let first = start .enrolments-apart in
     let second = here .before .before .objects-apart in
-    told-by-clearance (args .m) (args .n) (first .result) (first .ensures) (second .result) (second .ensures)
-    (sym (here .before .before .before .before .before .before .is-found .ensures) ∙ here .before .before .before .before .before .if1 .left)
+    told-by-clearance (stateIn (args .a .now)) (stateIn (args .b .now)) (first .result) (first .ensures) (second .result) (second .ensures)
+    (sym (here .before .before .before .before .is-found .ensures) ∙ here .before .before .before .if1 .left)
     (c .clearances-apart .result)
     (sym (here .before .is-found2 .ensures) ∙ here .if2 .left)
-    (c .clearances-apart .ensures ∙ ap (λ (p : Place). clearancesApart p (args .m .subjects) (args .n .subjects)) (c .before .free-place .ensures))
+    (c .clearances-apart .ensures ∙ ap (λ (p : Place). clearancesApart p (subjectsIn (args .a .now)) (subjectsIn (args .b .now))) (c .before .free-place .ensures))
 
 pub sequence-of-spec : {M : Type 1} → statement M
 sequence-of-spec =

@@ -1,37 +1,45 @@
--- The subjects below s have the same clearances.
+-- The subjects below s have the same clearances in both units.
 -- Assumes nothing.
 use Prim.Native.Nat.{_-_, _≤_}
 use native.Mathlib.Omega.{arith}
-use mathlib.Core.Path.{_≡_, refl, sym, _∙_}
+use mathlib.Core.Path.{_≡_, refl, sym, ap₂, _∙_}
 use mathlib.Core.List.{[]}
 use Rattle.security.specs.Distinguish.{search}
 use Rattle.model.specs.State.{clearanceAt}
+use Rattle.unit.specs.Rows.{subjectsIn}
+use Rattle.differences.specs.Sequences.{requestsOf}
 use Rattle.differences.specs.Records.{clearanceApart, clearancesApart}
 use Rattle.differences.proofs.Searching.{search-more, search-first, search-end}
 use Rattle.differences.proofs.subjects.clearances_apart.Statement.{statement}
 use Rattle.differences.proofs.subjects.clearances_apart.Tie as tie
 
 abbrev Inv-loop : tie.InvT-loop
-Inv-loop p a b s₀ s = (s ≤ 16) × (search s (λ k. clearanceApart p k (clearanceAt a k) (clearanceAt b k)) ≡ [])
+Inv-loop p a b s₀ s = (s ≤ 16) × (search s (λ k. clearanceApart p k (clearanceAt (subjectsIn a) k) (clearanceAt (subjectsIn b) k)) ≡ [])
 
 abbrev μ-loop : tie.MeasureT-loop
 μ-loop p a b s₀ s = 16 - s
+
+-- the two that are read are those of the two units
+at-subject : (c : tie.After-clearance-apart Inv-loop μ-loop)
+    → requestsOf (c .clearance-apart .result)
+    ≡ clearanceApart (c .before .before .before .before .before .args .p) (c .before .before .before .before .loop .s) (clearanceAt (subjectsIn (c .before .before .before .before .before .args .a .now)) (c .before .before .before .before .loop .s)) (clearanceAt (subjectsIn (c .before .before .before .before .before .args .b .now)) (c .before .before .before .before .loop .s))
+at-subject c = c .clearance-apart .ensures ∙ ap₂ (clearanceApart (c .before .before .before .before .before .args .p) (c .before .before .before .before .loop .s)) (c .before .before .clearance-of .ensures) (c .before .clearance-of2 .ensures)
 
 loop-holds : tie.Need-loop-holds Inv-loop μ-loop
 unfolding search
 loop-holds c = (omega arith, refl)
 
-mul-one : tie.Need-mul-one Inv-loop μ-loop
-mul-one c = omega arith
+cast-clearance-of : tie.Need-cast-clearance-of Inv-loop μ-loop
+cast-clearance-of c = omega arith
 
-array-copy-out-one : tie.Need-array-copy-out-one Inv-loop μ-loop
-array-copy-out-one c = omega arith
+clearance-of-requires : tie.Need-clearance-of-requires Inv-loop μ-loop
+clearance-of-requires c κs = (omega arith, omega arith)
 
-mul-two : tie.Need-mul-two Inv-loop μ-loop
-mul-two c = omega arith
+cast-clearance-of-2 : tie.Need-cast-clearance-of-2 Inv-loop μ-loop
+cast-clearance-of-2 c = omega arith
 
-array-copy-out-two : tie.Need-array-copy-out-two Inv-loop μ-loop
-array-copy-out-two c = omega arith
+clearance-of-requires-2 : tie.Need-clearance-of-requires-2 Inv-loop μ-loop
+clearance-of-requires-2 c κs = (omega arith, omega arith)
 
 cast-clearance-apart : tie.Need-cast-clearance-apart Inv-loop μ-loop
 cast-clearance-apart c = omega arith
@@ -46,7 +54,7 @@ returns : tie.Need-returns Inv-loop μ-loop
 unfolding clearancesApart
 returns c =
     let loop = c .before .before .before .before .before .before .loop in
-    search-first 16 (loop .s) _ (c .before .before .clearance-apart .result) (loop .inv .1) (c .before .before .clearance-apart .ensures) (sym (c .before .is-found .ensures) ∙ c .if1 .taken) (omega arith)
+    search-first 16 (loop .s) _ (c .before .before .clearance-apart .result) (loop .inv .1) (at-subject (c .before .before)) (sym (c .before .is-found .ensures) ∙ c .if1 .taken) (omega arith)
 
 add-s : tie.Need-add-s Inv-loop μ-loop
 add-s c = omega arith
@@ -57,7 +65,7 @@ loop-less c = omega arith
 loop-again : tie.Need-loop-again Inv-loop μ-loop
 loop-again c =
     let loop = c .before .before .before .before .before .before .loop in
-    (omega arith, search-more (loop .s) _ (c .before .before .clearance-apart .result) (loop .inv .1) (c .before .before .clearance-apart .ensures) (sym (c .before .is-found .ensures) ∙ c .if1 .left))
+    (omega arith, search-more (loop .s) _ (c .before .before .clearance-apart .result) (loop .inv .1) (at-subject (c .before .before)) (sym (c .before .is-found .ensures) ∙ c .if1 .left))
 
 returns-2 : tie.Need-returns-2 Inv-loop μ-loop
 unfolding clearancesApart
@@ -70,10 +78,10 @@ clearances-apart-spec =
     Inv-loop
     μ-loop
     loop-holds
-    mul-one
-    array-copy-out-one
-    mul-two
-    array-copy-out-two
+    cast-clearance-of
+    clearance-of-requires
+    cast-clearance-of-2
+    clearance-of-requires-2
     cast-clearance-apart
     clearance-apart-requires
     is-found-requires

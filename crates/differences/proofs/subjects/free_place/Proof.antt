@@ -4,45 +4,44 @@ use Prim.Native.Nat.{ℕ, _+_, _-_, _≤_, _<_}
 use native.Mathlib.Numerals.{add-one}
 use native.Mathlib.Omega.{arith}
 use mathlib.Core.Path.{_≡_, refl, sym, ap, ap₂, _∙_}
-use mathlib.Core.Bool.{cond}
+use mathlib.Core.Bool.{Bool, cond}
 use mathlib.Core.List.{List}
-use lib.ListN.{length, getD}
 use Rattle.model.specs.declared.Object.{Object}
 use Rattle.model.specs.State.{objectAt}
 use Rattle.model.proofs.Tests.{cond-all}
+use Rattle.unit.specs.Rows.{objectsIn}
 use Rattle.differences.specs.Records.{freeOf, freePlace}
-use Rattle.model.proofs.Arrays.{blank, read-object}
 use borrow.Author.Needs.{needs}
 use Rattle.differences.proofs.subjects.free_place.Statement.{statement}
 use Rattle.differences.proofs.subjects.free_place.Tie as tie
 
-free-more : (l : List Object) (o free : ℕ) (ob : Object) → ob ≡ objectAt l o → free ≡ freeOf o l → cond (ob .live) free o ≡ freeOf (o + 1) l
+free-more : (l : List Object) (o free : ℕ) (live : Bool) → live ≡ objectAt l o .live → free ≡ freeOf o l → cond live free o ≡ freeOf (o + 1) l
 unfolding freeOf
-free-more l o free ob p e =
-    ap₂ (λ (x : Object) (k : ℕ). cond (x .live) k o) p e ∙ ap (λ (k : ℕ). freeOf k l) (sym (add-one o))
+free-more l o free live p e = ap₂ (λ (b : Bool) (k : ℕ). cond b k o) p e ∙ ap (λ (k : ℕ). freeOf k l) (sym (add-one o))
 
-place-is : (l : List Object) (free : ℕ) (ob : Object) → free ≡ freeOf 64 l → ob ≡ objectAt l free
-    → record { live = ob .live; owner = ob .owner; object = free } ≡ freePlace l
+place-is : (l : List Object) (free : ℕ) (live : Bool) (owner : ℕ) → free ≡ freeOf 64 l → live ≡ objectAt l free .live → owner ≡ objectAt l free .owner
+    → record { live = live; owner = owner; object = free } ≡ freePlace l
 unfolding freePlace
-place-is l free ob e p =
-    let q : ob ≡ objectAt l (freeOf 64 l) = p ∙ ap (objectAt l) e in
-    λ i. record { live = q i .live; owner = q i .owner; object = e i }
+place-is l free live owner e p q =
+    let a = p ∙ ap (λ (k : ℕ). objectAt l k .live) e in
+    let b = q ∙ ap (λ (k : ℕ). objectAt l k .owner) e in
+    λ i. record { live = a i; owner = b i; object = e i }
 
 abbrev Inv-loop : tie.InvT-loop
-Inv-loop objects free₀ o₀ free o = (o ≤ 64) × (free < 64) × (length objects ≡ 64) × (free ≡ freeOf o objects)
+Inv-loop unit free₀ o₀ free o = (o ≤ 64) × (free < 64) × (free ≡ freeOf o (objectsIn unit))
 
 abbrev μ-loop : tie.MeasureT-loop
-μ-loop objects free₀ o₀ free o = 64 - o
+μ-loop unit free₀ o₀ free o = 64 - o
 
 loop-holds : tie.Need-loop-holds Inv-loop μ-loop
 unfolding freeOf
-loop-holds c = (omega arith, omega arith, omega arith, refl)
+loop-holds c = (omega arith, omega arith, refl)
 
-mul-ob : tie.Need-mul-ob Inv-loop μ-loop
-mul-ob c = search needs
+cast-is-live : tie.Need-cast-is-live Inv-loop μ-loop
+cast-is-live c = search needs
 
-array-copy-out-ob : tie.Need-array-copy-out-ob Inv-loop μ-loop
-array-copy-out-ob c = search needs
+is-live-requires : tie.Need-is-live-requires Inv-loop μ-loop
+is-live-requires c κs = search needs
 
 last-free-requires : tie.Need-last-free-requires Inv-loop μ-loop
 last-free-requires c κs = tt
@@ -55,31 +54,29 @@ loop-less c = search needs
 
 loop-again : tie.Need-loop-again Inv-loop μ-loop
 loop-again c =
-    let l = c .before .before .before .before .args .t1 in
     let loop = c .before .before .before .loop in
-    let o = loop .o in
-    let same = read-object l o (loop .inv .2) (c .before .before .loop-test .taken) in (
+    let live = c .before .is-live in
+    let below = c .before .before .loop-test .taken in (
       omega arith,
-      rw (c .last-free .ensures) (cond-all (λ (k : ℕ). k < 64) (getD l o blank .live) (loop .free) o (λ _. loop .inv .1) (λ _. c .before .before .loop-test .taken)),
-      loop .inv .2,
-      c .last-free .ensures ∙ free-more l o (loop .free) (getD l o blank) same (loop .inv .3),
+      rw (c .last-free .ensures) (cond-all (λ (k : ℕ). k < 64) (live .result) (loop .free) (loop .o) (λ _. loop .inv .1) (λ _. below)),
+      c .last-free .ensures ∙ free-more (objectsIn (c .before .before .before .before .args .unit .now)) (loop .o) (loop .free) (live .result) (live .ensures) (loop .inv .2),
     )
 
-mul-there : tie.Need-mul-there Inv-loop μ-loop
-mul-there c = search needs
+cast-object : tie.Need-cast-object Inv-loop μ-loop
+cast-object c = search needs
 
-array-copy-out-there : tie.Need-array-copy-out-there Inv-loop μ-loop
-array-copy-out-there c = search needs
+is-live-requires-2 : tie.Need-is-live-requires-2 Inv-loop μ-loop
+is-live-requires-2 c κs = search needs
 
-cast-t16 : tie.Need-cast-t16 Inv-loop μ-loop
-cast-t16 c = search needs
+owner-of-requires : tie.Need-owner-of-requires Inv-loop μ-loop
+owner-of-requires c κs = search needs
 
 returns : tie.Need-returns Inv-loop μ-loop
 returns c =
-    let l = c .before .before .before .args .t1 in
-    let loop = c .before .before .loop in
-    let all : loop .free ≡ freeOf 64 l = loop .inv .3 ∙ ap (λ (k : ℕ). freeOf k l) (omega arith) in
-    place-is l (loop .free) (getD l (loop .free) blank) all (read-object l (loop .free) (loop .inv .2) (loop .inv .1))
+    let l = objectsIn (c .before .before .before .before .args .unit .now) in
+    let loop = c .before .before .before .loop in
+    let all : loop .free ≡ freeOf 64 l = loop .inv .2 ∙ ap (λ (k : ℕ). freeOf k l) (omega arith) in
+    place-is l (loop .free) _ _ all (c .before .is-live2 .ensures) (c .owner-of .ensures)
 
 pub free-place-spec : {M : Type 1} → statement M
 free-place-spec =
@@ -88,13 +85,13 @@ free-place-spec =
     Inv-loop
     μ-loop
     loop-holds
-    mul-ob
-    array-copy-out-ob
+    cast-is-live
+    is-live-requires
     last-free-requires
     add-o
     loop-less
     loop-again
-    mul-there
-    array-copy-out-there
-    cast-t16
+    cast-object
+    is-live-requires-2
+    owner-of-requires
     returns)

@@ -1,0 +1,100 @@
+-- The image of a monitor begun from an accepted table: the bytes of the table, and zeros.
+-- Assumes nothing.
+use Prim.Native.Nat.{ℕ, zero, suc, _<_, _≤_}
+use mathlib.Core.Path.{_≡_, refl, sym, ap, ap₂, _∙_}
+use mathlib.Core.Logic.{⊎-elim}
+use mathlib.Core.Bool.{Bool, true, false, cond}
+use mathlib.Core.List.{List, [], _∷_, _++_}
+use native.Mathlib.Omega.{arith}
+use borrow.Author.Tests.{lt-ltb, le-ltb, eqb-true}
+use lib.Dec.{eqb, lit<}
+use lib.ListN.{length, getD, take, drop, replicate, length-append, length-replicate}
+use lib.Seq.{take-length}
+use Rattle.bits.specs.Bits.{Bytes, bytesToBits, bitsToBytes, join, toBits, odd}
+use Rattle.bits.specs.Laws.{bytesToBits-append, bitsToBytes-bytesToBits}
+use Rattle.model.specs.declared.Monitor.{Monitor}
+use Rattle.model.specs.declared.Decision.the-variants.{Granted, WrongLength, StrayBits, ShortBuffer}
+use Rattle.model.specs.State.{objectCount, noObject, emptyMonitor, fresh}
+use Rattle.model.specs.Tests.{unless}
+use Rattle.model.specs.Decisions.{refuses}
+use Rattle.model.specs.Layout.{tableSize, objectsSize, imageSize, labelBits, setsBits, objectBits, tableBits, objectsBits, imageBits, imageOf}
+use Rattle.model.specs.Reading.{tableFrom, tableForm, tableChecks, begin, readTable}
+use Rattle.model.specs.Writing.{tooShort, writing, written}
+use Rattle.model.proofs.Tests.{cond-false, passed, apart}
+use Rattle.model.proofs.Checks.{granted-or-refusal}
+use Rattle.image_records.specs.declared.TableRead.{TableRead}
+use Rattle.image_records.specs.Records.{subjectsRead}
+use Rattle.security.proofs.Trips.{subjects-written}
+
+-- the bytes of the object records where no object is live
+abbrev zeros : List ℕ
+zeros = replicate objectsSize 0
+
+no-objects : objectsBits (replicate objectCount noObject) ≡ bytesToBits zeros
+unfolding join bytesToBits objectBits labelBits setsBits toBits odd
+no-objects = refl
+
+-- zeros behind bytes are bytes
+with-zeros : (n : ℕ) (b : List ℕ) → Bytes b → Bytes (b ++ replicate n 0)
+with-zeros n [] h i = none n i
+  where
+    none : (n i : ℕ) → getD (replicate n 0) i 0 < 256
+    none zero i = lit< tt
+    none (suc n) zero = lit< tt
+    none (suc n) (suc i) = none n i
+with-zeros n (x ∷ b) h zero = h 0
+with-zeros n (x ∷ b) h (suc i) = with-zeros n b (λ j. h (suc j)) i
+
+module _ (b : List ℕ) (accepted : refuses (readTable b .decision) ≡ false) where
+  checked : tableChecks b ≡ Granted
+  unfolding readTable begin tableChecks
+  checked = ⊎-elim (λ e. e) (λ r. apart r accepted) (granted-or-refusal ((eqb (length b) tableSize, WrongLength) ∷ (tableForm b, StrayBits) ∷ []) refl)
+
+  pub size : length b ≡ tableSize
+  unfolding tableChecks
+  size = eqb-true (length b) tableSize (passed _ WrongLength _ refl checked .0)
+
+  formed : tableForm b ≡ true
+  unfolding tableChecks
+  formed = passed _ StrayBits _ refl (passed _ WrongLength _ refl checked .1) .0
+
+  begun-monitor : readTable b .monitor ≡ fresh (tableFrom b)
+  unfolding readTable begin
+  begun-monitor = cond-false (refuses (tableChecks b)) emptyMonitor (fresh (tableFrom b)) (ap refuses checked)
+
+  full : length (b ++ zeros) ≡ imageSize
+  full = length-append b zeros ∙ omega (arith, size, length-replicate {A = ℕ} objectsSize 0)
+
+  pub begun-bytes : Bytes b → imageOf (readTable b .monitor) ≡ b ++ zeros
+  unfolding imageOf imageBits
+  begun-bytes hb =
+      let bits : imageBits (fresh (tableFrom b)) ≡ bytesToBits (b ++ zeros) =
+      ap₂ (λ (x y : List Bool). x ++ y) (subjects-written b size formed) no-objects ∙ sym (bytesToBits-append b zeros) in
+      ap imageOf begun-monitor ∙ ap (bitsToBytes imageSize) bits
+      ∙ bitsToBytes-bytesToBits imageSize (b ++ zeros) (with-zeros objectsSize b hb) full
+
+  -- the buffer after the table was copied into zeros, and these to the front of it
+  pub begun-copied : Bytes b → (buffer image last : List ℕ) → imageSize ≤ length buffer → image ≡ take (length b) b ++ drop (length b) (replicate imageSize 0)
+      → last ≡ take (length image) image ++ drop (length image) buffer → (Granted ≡ writing buffer) × (last ≡ written (readTable b .monitor) buffer)
+  unfolding writing written tooShort
+  begun-copied hb buffer image last h e f =
+      let room = le-ltb (length buffer) imageSize h in
+      let whole : image ≡ b ++ zeros = e ∙ ap₂ (λ (x y : List ℕ). x ++ y) (take-length b) (ap (λ (n : ℕ). drop n (replicate {A = ℕ} imageSize 0)) size) in
+      let front = take-length image ∙ whole ∙ sym (begun-bytes hb) in
+      let behind = ap (λ (n : ℕ). drop n buffer) (ap length whole ∙ full) in
+      (rw room, rw room (f ∙ ap₂ (λ (x y : List ℕ). x ++ y) front behind))
+
+-- a buffer that is too short is left
+pub begun-short : (m : Monitor) (buffer : List ℕ) → length buffer < imageSize → (ShortBuffer ≡ writing buffer) × (buffer ≡ written m buffer)
+unfolding writing written tooShort
+begun-short m buffer h = let e = lt-ltb (length buffer) imageSize h in (rw e, rw e)
+
+-- checks 10 and 11, of what was read of the table
+either : (b : Bool) (x y : TableRead) → unless b WrongLength (unless (cond b x y .formed) StrayBits Granted) ≡ unless b WrongLength (unless (x .formed) StrayBits Granted)
+unfolding unless
+either true x y = refl
+either false x y = refl
+
+pub checks-answer : (s : List ℕ) → unless (eqb (length s) tableSize) WrongLength (unless (subjectsRead s .formed) StrayBits Granted) ≡ readTable s .decision
+unfolding readTable begin tableChecks subjectsRead
+checks-answer s = either (eqb (length s) tableSize) _ _

@@ -1,0 +1,2 @@
+-- The bytes of an image without a live object.
+pub mod Begun
