@@ -1,2 +1,2 @@
--- The monitor that a request leaves.
-pub mod Asking
+-- The unit that a request leaves.
+pub mod Trials

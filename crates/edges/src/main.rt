@@ -1,12 +1,14 @@
 // Executes the edges of requests with the proved functions, and prints a line for each: what was tried, and the number that came.
 // The numbers in the file stdout were worked out from the scope by hand; the comment at each request says why.
-mod asking;
 mod requests;
+mod trial;
+
+use unit::ROWS;
 
 fn main() {
     let table = saying::enrolment();
-    let begun = image::read_table(&table[0..42]);
-    let fresh = begun.monitor;
+    let mut fresh = [[0u8; 16]; ROWS];
+    image::start(&mut fresh, &table[0..42]);
     let one = requests::subjects(fresh);
     requests::objects(fresh);
     requests::modes(one);

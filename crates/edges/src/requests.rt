@@ -2,21 +2,21 @@
 // has the reply that the scope gives it, and why.
 ghost use Prim.Native.Nat.{_≤_};
 ghost use mathlib.Core.Path.{_≡_};
-ghost use Rattle.edges.specs.Asking.{left};
-use crate::asking::ask;
-use crate::asking::ask_plain;
-use crate::asking::create;
-use crate::asking::get;
-use crate::asking::give;
-use crate::asking::release;
+ghost use Rattle.edges.specs.Trials.{left};
+use crate::trial::ask;
+use crate::trial::ask_plain;
+use crate::trial::create;
+use crate::trial::get;
+use crate::trial::give;
+use crate::trial::release;
 use encoding::without_level;
-use model::Monitor;
-use saying::answered;
+use saying::end;
 use saying::say_bytes;
+use unit::ROWS;
 
-// Subjects 15 and 16 as the actor and as the other subject, on a monitor without a live object. Subjects 0, 1, 2 and 15 are enrolled.
-// Handed back: the monitor in which subject 0 owns object 0, unlabelled, and has r, w, a and e on it.
-pub fn subjects(fresh: Monitor) -> Monitor
+// Subjects 15 and 16 as the actor and as the other subject, on a unit without a live object. Subjects 0, 1, 2 and 15 are enrolled.
+// Handed back: the unit in which subject 0 owns object 0, unlabelled, and has r, w, a and e on it.
+pub fn subjects(fresh: [[u8; 16]; ROWS]) -> [[u8; 16]; ROWS]
     ensures { λ r. ⌜ r ≡ left 5 0 0 0 4 fresh ⌝ }
 {
     create(fresh, 15, 0, 0); // 0: enrolled, and the object is not live
@@ -29,14 +29,14 @@ pub fn subjects(fresh: Monitor) -> Monitor
     one
 }
 
-// Objects 63 and 64, on a monitor without a live object.
-pub fn objects(fresh: Monitor) {
+// Objects 63 and 64, on a unit without a live object.
+pub fn objects(fresh: [[u8; 16]; ROWS]) {
     create(fresh, 15, 63, 0); // 0: the last object, not live
     create(fresh, 15, 64, 0); // 2: an object above 63
 }
 
 // Modes 4, 5 and 0, where subject 0 has e on object 0, which has no label. Checks 7, 8 and 9 are not made for e.
-pub fn modes(one: Monitor) {
+pub fn modes(one: [[u8; 16]; ROWS]) {
     let running = get(one, 0, 0, 4); // 0: the right is there, the access was not held
     let done = release(running, 0, 0, 4); // 0: it was held
     release(done, 0, 0, 4); // 1: it was not held any more
@@ -47,16 +47,18 @@ pub fn modes(one: Monitor) {
 }
 
 // The first bytes of 50 00 00 00 00 00 00. Six of them are kind 5 with all other fields 0.
-fn cut(fresh: Monitor, length: usize)
+fn cut(fresh: [[u8; 16]; ROWS], length: usize)
     requires { ⌜ length ≤ 7 ⌝ }
 {
     let bytes = [0x50u8, 0, 0, 0, 0, 0, 0];
     say_bytes(b"create, by subject 0, object 0, in ", length);
-    answered(rules::request(fresh, &bytes[0..length]));
+    let mut unit = fresh;
+    let reply = asking::ask(&mut unit, &bytes[0..length]);
+    end(reply as u64);
 }
 
-// Requests of 0, 5, 6 and 7 bytes, on a monitor without a live object.
-pub fn lengths(fresh: Monitor) {
+// Requests of 0, 5, 6 and 7 bytes, on a unit without a live object.
+pub fn lengths(fresh: [[u8; 16]; ROWS]) {
     cut(fresh, 0); // 2: not six bytes
     cut(fresh, 5); // 2: not six bytes
     cut(fresh, 6); // 0: subject 0 is enrolled, and the object is not live
@@ -65,8 +67,8 @@ pub fn lengths(fresh: Monitor) {
 
 // Kinds 0 and 8 beside the first and the last kind, where subject 0 owns object 0, which has no label. The numbers of a request are
 // kind, actor, other subject, object, mode.
-// Handed back: the monitor in which object 0 has class 0 and no needs.
-pub fn kinds(one: Monitor) -> Monitor
+// Handed back: the unit in which object 0 has class 0 and no needs.
+pub fn kinds(one: [[u8; 16]; ROWS]) -> [[u8; 16]; ROWS]
     ensures { λ r. ⌜ r ≡ left 7 0 0 0 0 one ⌝ }
 {
     ask_plain(one, 0, 0, 0, 0, 1); // 2: no such kind; the mode is one of a get
@@ -78,7 +80,7 @@ pub fn kinds(one: Monitor) -> Monitor
 
 // Each field that a get does not use with its lowest bit set, and then the same get without them. Subject 0, cleared for class 1 and
 // need 0, has r on object 0, which has class 0 and no needs.
-pub fn unused(labelled: Monitor) {
+pub fn unused(labelled: [[u8; 16]; ROWS]) {
     ask_plain(labelled, 1, 0, 1, 0, 1); // 2: the other subject
     let mut with_class = without_level(1, 0, 0, 0, 1);
     with_class.class = 1;

@@ -1,12 +1,12 @@
 // The edges of tables and images: lengths, and a bit that is turned over. The comment behind each has the number that the scope
 // gives it, and why.
 ghost use Prim.Native.Nat.{_≤_};
-use model::Monitor;
-use saying::answered;
+use saying::answer;
 use saying::enrolment;
 use saying::say_bytes;
 use saying::say_set;
-use writing::write_image;
+use unit::ROWS;
+use writing::save;
 
 // The bytes with one bit turned over, where it is not bit 0. Bits are counted from the start, most significant first.
 fn turned(before: [u8; 1275], bit: usize) -> [u8; 1275] {
@@ -30,7 +30,8 @@ fn table(length: usize, bit: usize)
 {
     let bytes = turned(enrolment(), bit);
     describe(b"table of ", length, bit);
-    answered(image::read_table(&bytes[0..length]));
+    let mut unit = [[0u8; 16]; ROWS];
+    answer(image::start(&mut unit, &bytes[0..length]));
 }
 
 // Tables of three lengths, and one with a bit in an absent record.
@@ -41,22 +42,23 @@ pub fn tables() {
     table(42, 0); // 0
 }
 
-// Reads so many bytes from the start of the monitor's image, which has a zero byte behind it.
-fn image(m: Monitor, length: usize, bit: usize)
+// Reads so many bytes from the start of the unit's image, which has a zero byte behind it.
+fn image(unit: &[[u8; 16]; ROWS], length: usize, bit: usize)
     requires { ⌜ length ≤ 1275 ⌝ }
 {
     let mut written = [0u8; 1275];
-    write_image(m, &mut written);
+    save(unit, &mut written);
     let bytes = turned(written, bit);
     describe(b"image of ", length, bit);
-    answered(image::read_image(&bytes[0..length]));
+    let mut opened = [[0u8; 16]; ROWS];
+    answer(image::open(&mut opened, &bytes[0..length]));
 }
 
 // Object 0 is live and owned by subject 0, and no other object is live.
-pub fn images(m: Monitor) {
-    image(m, 1273, 0); // 10: another length
-    image(m, 1274, 0); // 0: written and read back
-    image(m, 1275, 0); // 10: another length
-    image(m, 1274, 8 * 1274 - 1); // 11: the last bit of all is in the record of object 63, which is not live
-    image(m, 1274, 336 + 1); // 12: the first owner bit, behind the live bit, of object 0: the owner becomes 8, who is absent
+pub fn images(unit: &[[u8; 16]; ROWS]) {
+    image(unit, 1273, 0); // 10: another length
+    image(unit, 1274, 0); // 0: written and read back
+    image(unit, 1275, 0); // 10: another length
+    image(unit, 1274, 8 * 1274 - 1); // 11: the last bit of all is in the record of object 63, which is not live
+    image(unit, 1274, 336 + 1); // 12: the first owner bit, behind the live bit, of object 0: the owner becomes 8, who is absent
 }

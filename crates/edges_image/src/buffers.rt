@@ -1,9 +1,9 @@
 // The edges of a lent buffer.
-use model::Monitor;
 use saying::answer;
 use saying::end;
 use saying::say_bytes;
-use writing::write_image;
+use unit::ROWS;
+use writing::save;
 
 fn wide(x: u8) -> u64 {
     x as u64
@@ -37,20 +37,20 @@ fn describe(last: u64, same: u64) {
 }
 
 // A writing into a buffer whose bytes were all 170.
-fn buffer(m: Monitor, bytes: &mut [u8]) {
+fn buffer(unit: &[[u8; 16]; ROWS], bytes: &mut [u8]) {
     say_bytes(b"buffer, each byte 170, of ", bytes.len());
-    answer(write_image(m, bytes));
+    answer(save(unit, bytes));
     describe(last(bytes), count(bytes));
 }
 
 // The image ends with 0, for object 63 is not live, and none of its bytes is 170. Those that are not 0 are in hexadecimal 88, 0C, C0,
 // E0, 1F, FF, FF in the table, and 84 and 3E in the record of object 0: live, owner 0, a label of class 0 without needs (1 0000 1 and
 // twenty zeros), then subject 0's rights r, w, a, e and its access r (1111 1000).
-pub fn buffers(m: Monitor) {
+pub fn buffers(unit: &[[u8; 16]; ROWS]) {
     let mut short = [170u8; 1273];
-    buffer(m, &mut short); // 13; last byte 170, and 1273 bytes are 170: all are left
+    buffer(unit, &mut short); // 13; last byte 170, and 1273 bytes are 170: all are left
     let mut exact = [170u8; 1274];
-    buffer(m, &mut exact); // 0; last byte 0, and no byte is 170
+    buffer(unit, &mut exact); // 0; last byte 0, and no byte is 170
     let mut long = [170u8; 1275];
-    buffer(m, &mut long); // 0; last byte 170, and 1 byte is 170: the one behind the image is left
+    buffer(unit, &mut long); // 0; last byte 170, and 1 byte is 170: the one behind the image is left
 }

@@ -3,22 +3,22 @@
 mod beginnings;
 mod buffers;
 
-use model::Monitor;
-use rules::request;
+use asking::ask;
+use unit::ROWS;
 
 // Subject 0 creates object 0 with e, labels it (0, 0000) and reads it.
-fn reading(fresh: Monitor) -> Monitor {
-    let created = request(fresh, &[0x50, 0x00, 0x04, 0x00, 0x00, 0x00]);
-    let labelled = request(created.monitor, &[0x70, 0x00, 0x00, 0x00, 0x00, 0x00]);
-    let read = request(labelled.monitor, &[0x10, 0x00, 0x01, 0x00, 0x00, 0x00]);
-    read.monitor
+fn read_one(unit: &mut [[u8; 16]; ROWS]) {
+    ask(unit, &[0x50, 0x00, 0x04, 0x00, 0x00, 0x00]);
+    ask(unit, &[0x70, 0x00, 0x00, 0x00, 0x00, 0x00]);
+    ask(unit, &[0x10, 0x00, 0x01, 0x00, 0x00, 0x00]);
 }
 
 fn main() {
     beginnings::tables();
     let table = saying::enrolment();
-    let begun = image::read_table(&table[0..42]);
-    let state = reading(begun.monitor);
-    beginnings::images(state);
-    buffers::buffers(state);
+    let mut unit = [[0u8; 16]; ROWS];
+    image::start(&mut unit, &table[0..42]);
+    read_one(&mut unit);
+    beginnings::images(&unit);
+    buffers::buffers(&unit);
 }

@@ -12,11 +12,8 @@ use labels::refuses;
 use model::Decision;
 use model::Label;
 use model::Monitor;
-use model::Response;
 use model::Subject;
-use unit::ROWS;
 use unit::fill;
-use unit::monitor_in;
 
 // The rows of a monitor begun fresh, with no live object.
 fn begin(unit: &mut [[u8; 16]], subjects: [Subject; 16])
@@ -76,27 +73,4 @@ pub fn open(unit: &mut [[u8; 16]], image: &[u8]) -> Decision
         return refused(unit, decision);
     }
     decision
-}
-
-// The same with the monitor by value, through a unit of its own.
-pub fn read_table(table: &[u8]) -> Response
-    ensures { λ r. ⌜ r ≡ readTable (now (table .entry)) ⌝ }
-{
-    let mut unit = [[0u8; 16]; ROWS];
-    let decision = start(&mut unit, table);
-    Response {
-        decision,
-        monitor: monitor_in(&unit),
-    }
-}
-
-pub fn read_image(image: &[u8]) -> Response
-    ensures { λ r. ⌜ r ≡ readImage (now (image .entry)) ⌝ }
-{
-    let mut unit = [[0u8; 16]; ROWS];
-    let decision = open(&mut unit, image);
-    Response {
-        decision,
-        monitor: monitor_in(&unit),
-    }
 }

@@ -2,8 +2,6 @@
 ghost use mathlib.Core.Path.{_≡_};
 ghost use Rattle.saying.specs.Enrolment.{enrolled};
 use model::Decision;
-use model::Monitor;
-use model::Response;
 
 // Some words and a number.
 pub fn say(words: &[u8], n: u64) {
@@ -33,15 +31,6 @@ pub fn end(n: u64) {
 // The end of a line: the number of an answer.
 pub fn answer(d: Decision) {
     end(labels::number(d) as u64);
-}
-
-// The same for the answer to a request or to a beginning; its monitor is handed back.
-pub fn answered(r: Response) -> Monitor
-    ensures { λ m. ⌜ m ≡ r .monitor ⌝ }
-{
-    let d = r.decision;
-    answer(d);
-    r.monitor
 }
 
 // A table in which subject 0 has (1, 0001), subject 1 (3, 0003), subject 2 (0, 0000), as in table W, and subject 15 (15, FFFF); zeros

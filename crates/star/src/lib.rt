@@ -16,14 +16,11 @@ use crate::lists::list_busy;
 use crate::lists::list_held;
 use crate::lists::pair_offends;
 use bits::smaller;
-use labels::any_alters;
 use labels::any_needs_label;
 use labels::any_observes;
 use labels::dominates;
 use labels::implies;
 use model::Monitor;
-use model::Object;
-use model::Subject;
 use unit::clearance_of;
 use unit::held_by;
 use unit::label_of;
@@ -57,81 +54,6 @@ fn idle(row: [u8; 16], low: usize, end: usize) -> bool
     } else {
         nothing_held(row)
     }
-}
-
-// Whether a subject from low to below high reads one object and alters another whose label does not dominate that of the first.
-// The objects that are not idle are listed first, then for each subject those of them that it reads and those that it alters; the
-// loops over the pairs are left at the first that offends. A subject above 15 holds nothing.
-pub fn star_broken(m: Monitor, low: usize, high: usize) -> bool
-    ensures { λ r. ⌜ r ≡ not (starBetween low high (m .objects)) ⌝ }
-{
-    let end = smaller(high, 16);
-    let mut busy = [0u8; 64];
-    let mut count = 0usize;
-    let mut o = 0usize;
-    while o < 64 {
-        let ob = m.objects[o];
-        let row = ob.held;
-        busy[count] = o as u8;
-        count += one_if(!idle(row, low, end));
-        o += 1;
-    }
-    let mut broken = false;
-    let mut s = low;
-    'subjects: while s < end {
-        let mut read = [0u8; 64];
-        let mut altered = [0u8; 64];
-        let mut r = 0usize;
-        let mut a = 0usize;
-        let mut k = 0usize;
-        while k < count {
-            let at = busy[k];
-            let ob = m.objects[at as usize];
-            let held = ob.held;
-            let modes = held[s];
-            read[r] = at;
-            r += one_if(any_observes(modes));
-            altered[a] = at;
-            a += one_if(any_alters(modes));
-            k += 1;
-        }
-        let mut p = 0usize;
-        while p < r {
-            let from = m.objects[read[p] as usize];
-            let below = from.label;
-            let mut q = 0usize;
-            while q < a {
-                let to = m.objects[altered[q] as usize];
-                let above = to.label;
-                if !dominates(above, below) {
-                    broken = true;
-                    break 'subjects;
-                }
-                q += 1;
-            }
-            p += 1;
-        }
-        s += 1;
-    }
-    broken
-}
-
-// Whether each subject that reads the object has a clearance that dominates its label.
-pub fn simple_kept(subjects: [Subject; 16], ob: Object) -> bool
-    ensures { λ r. ⌜ r ≡ simpleAll subjects ob ⌝ }
-{
-    let held = ob.held;
-    let label = ob.label;
-    let mut s = 0usize;
-    while s < 16 {
-        let subject = subjects[s];
-        let clearance = subject.clearance;
-        if !implies(any_observes(held[s]), dominates(clearance, label)) {
-            return false;
-        }
-        s += 1;
-    }
-    true
 }
 
 // Whether subject s breaks the star property: the objects that it reads and those that it alters are listed, and their pairs looked at.

@@ -1,8 +1,8 @@
-// A whole monitor out of its rows, and its rows out of a monitor.
+// A whole record out of its rows, and the rows of a record and of a monitor.
 ghost use mathlib.Core.Path.{_≡_};
 ghost use Prim.Native.Nat.{_<_};
 ghost use Rattle.model.specs.State.{objectCount, object};
-ghost use Rattle.unit.specs.Rows.{rowCount, objectsIn, subjectsIn, objectOf, stateIn};
+ghost use Rattle.unit.specs.Rows.{rowCount, objectOf, stateIn};
 ghost use Rattle.unit.specs.Stored.{setObject, unitOf};
 use crate::parts::set_rows;
 use crate::rows::CLEARANCES;
@@ -11,11 +11,8 @@ use crate::rows::REST;
 use crate::rows::flag;
 use crate::rows::label_in;
 use crate::rows::row_of;
-use model::Label;
 use model::Monitor;
 use model::Object;
-use model::Subject;
-use model::no_object;
 
 fn object_of(rights: [u8; 16], held: [u8; 16], rest: [u8; 16]) -> Object
     ensures { λ r. ⌜ r ≡ objectOf rights held rest ⌝ }
@@ -41,50 +38,6 @@ pub fn object_in(unit: &[[u8; 16]], o: u8) -> Object
     let held = unit[HELD + i];
     let rest = unit[REST + i];
     object_of(rights, held, rest)
-}
-
-fn objects_in(unit: &[[u8; 16]]) -> [Object; 64]
-    requires { do ⌜ (← ⟦unit.len()⟧) ≡ rowCount ⌝ }
-    ensures { λ r. ⌜ r ≡ objectsIn (now (unit .entry)) ⌝ }
-{
-    let mut objects = [no_object(); Monitor::OBJECTS];
-    let mut o = 0usize;
-    while o < Monitor::OBJECTS {
-        let rights = unit[o];
-        let held = unit[HELD + o];
-        let rest = unit[REST + o];
-        let object = object_of(rights, held, rest);
-        objects[o] = object;
-        o += 1;
-    }
-    objects
-}
-
-fn subjects_in(unit: &[[u8; 16]]) -> [Subject; 16]
-    requires { do ⌜ (← ⟦unit.len()⟧) ≡ rowCount ⌝ }
-    ensures { λ r. ⌜ r ≡ subjectsIn (now (unit .entry)) ⌝ }
-{
-    let mut subjects = [Subject {
-        clearance: Label::Absent,
-    }; Monitor::SUBJECTS];
-    let mut s = 0usize;
-    while s < Monitor::SUBJECTS {
-        let row = unit[CLEARANCES + s];
-        let clearance = label_in(row);
-        subjects[s] = Subject { clearance };
-        s += 1;
-    }
-    subjects
-}
-
-// The monitor that the rows say.
-pub fn monitor_in(unit: &[[u8; 16]]) -> Monitor
-    requires { do ⌜ (← ⟦unit.len()⟧) ≡ rowCount ⌝ }
-    ensures { λ r. ⌜ r ≡ stateIn (now (unit .entry)) ⌝ }
-{
-    let subjects = subjects_in(unit);
-    let objects = objects_in(unit);
-    Monitor { subjects, objects }
 }
 
 pub fn set_object(unit: &mut [[u8; 16]], o: u8, ob: Object)

@@ -15,9 +15,7 @@ use model::Decision;
 use model::Label;
 use model::Monitor;
 use model::Object;
-use unit::ROWS;
 use unit::clearance_of;
-use unit::fill;
 use unit::object_in;
 
 // The four low bits of one number and those of another behind them: the two sets of a subject, live and owner, present and class.
@@ -170,13 +168,4 @@ pub fn save(unit: &[[u8; 16]], out: &mut [u8]) -> Decision
     let waiting = write_subjects(out, unit);
     write_objects(out, waiting, unit);
     Decision::Granted
-}
-
-// The same of a monitor by value, through a unit of its own.
-pub fn write_image(m: Monitor, out: &mut [u8]) -> Decision
-    ensures { λ r. ⌜ (r ≡ writing (now (out .entry))) × (now (out .exit) ≡ written m (now (out .entry))) ⌝ }
-{
-    let mut unit = [[0u8; 16]; ROWS];
-    fill(&mut unit, m);
-    save(&unit, out)
 }
