@@ -23,6 +23,7 @@ use labels::implies;
 use model::Monitor;
 use unit::clearance_of;
 use unit::held_by;
+use unit::held_row;
 use unit::label_of;
 
 fn one_if(b: bool) -> usize
@@ -44,15 +45,17 @@ fn nothing_held(row: [u8; 16]) -> bool
     free
 }
 
-// The row has nothing for the star check of the subjects from low to below end: of one subject its set is looked at, else all.
-fn idle(row: [u8; 16], low: usize, end: usize) -> bool
-    ensures { λ r. ⌜ r ≡ idle row low end ⌝ }
+// Nobody from low to below end holds r, w or a at object o: of one subject its set is looked at, else all.
+fn idle(unit: &[[u8; 16]], o: u8, low: usize, end: usize) -> bool
+    requires { do ⌜ (← ⟦unit.len()⟧) ≡ rowCount ⌝ }
+    requires { ⌜ o < objectCount ⌝ }
+    ensures { λ r. ⌜ r ≡ idle (object (stateIn (now (unit .entry))) o .held) low end ⌝ }
 {
     let first = smaller(low, 15);
     if first + 1 == end {
-        !any_needs_label(row[first])
+        !any_needs_label(held_by(unit, o, first as u8))
     } else {
-        nothing_held(row)
+        nothing_held(held_row(unit, o))
     }
 }
 

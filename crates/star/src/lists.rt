@@ -2,10 +2,9 @@
 ghost use mathlib.Core.Path.{_≡_};
 ghost use mathlib.Core.Bool.{not};
 ghost use Prim.Native.Nat.{_<_};
-ghost use lib.ListN.{length};
 ghost use Rattle.model.specs.State.{subjectCount, objectCount, objectAt};
 ghost use Rattle.unit.specs.Rows.{rowCount, objectsIn};
-ghost use Rattle.star.specs.Lists.{readBy, alteredBy, busyFor, Listed, itself, out-of, Numbers, Covers, pairsKept};
+ghost use Rattle.star.specs.Lists.{readBy, alteredBy, busyFor, Listed, itself, out-of, Numbers, pairsKept};
 use crate::idle;
 use crate::one_if;
 use labels::any_alters;
@@ -13,7 +12,6 @@ use labels::any_observes;
 use labels::dominates;
 use model::Monitor;
 use unit::held_by;
-use unit::held_row;
 use unit::label_of;
 
 // The objects that are not idle for the subjects from low to below end. Each number is stored, and counted where it passes.
@@ -27,7 +25,7 @@ pub fn list_busy(unit: &[[u8; 16]], low: usize, end: usize, busy: &mut [u8]) -> 
     while o < Monitor::OBJECTS {
         let at = o as u8;
         busy[count] = at;
-        count += one_if(!idle(held_row(unit, at), low, end));
+        count += one_if(!idle(unit, at, low, end));
         o += 1;
     }
     count

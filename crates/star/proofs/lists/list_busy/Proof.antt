@@ -9,7 +9,6 @@ use Rattle.model.specs.State.{objectAt}
 use Rattle.unit.specs.Rows.{objectsIn}
 use Rattle.star.specs.Lists.{busyFor, Listed, itself}
 use Rattle.star.proofs.Listed.{listed-none, listed-more, bit-small}
-use Rattle.star.specs.Idle.{idle}
 use Rattle.star.proofs.lists.list_busy.Statement.{statement}
 use Rattle.star.proofs.lists.list_busy.Tie as tie
 
@@ -28,17 +27,14 @@ cast-at c = omega arith
 slice-write-busy : tie.Need-slice-write-busy Inv-loop μ-loop
 slice-write-busy c = let inv = c .before .loop .inv in omega (arith, c .loop-test .taken, inv .1 .few, inv .1 .whole)
 
-held-row-requires : tie.Need-held-row-requires Inv-loop μ-loop
-held-row-requires c κs = (c .before .before .before .pre .0, c .loop-test .taken)
-
 idle-requires : tie.Need-idle-requires Inv-loop μ-loop
-idle-requires c κs = tt
+idle-requires c κs = (c .before .before .before .pre .0, c .loop-test .taken)
 
 one-if-requires : tie.Need-one-if-requires Inv-loop μ-loop
 one-if-requires c κs = tt
 
 add-count : tie.Need-add-count Inv-loop μ-loop
-add-count c = omega (arith, c .one-if .ensures, bit-small (not (c .before .idle .result)), c .before .before .before .before .loop .inv .1 .few, c .before .before .before .before .loop .inv .0)
+add-count c = omega (arith, c .one-if .ensures, bit-small (not (c .before .idle .result)), c .before .before .before .loop .inv .1 .few, c .before .before .before .loop .inv .0)
 
 add-o : tie.Need-add-o Inv-loop μ-loop
 add-o c = omega arith
@@ -48,13 +44,9 @@ loop-less c = omega arith
 
 loop-again : tie.Need-loop-again Inv-loop μ-loop
 loop-again c =
-    let inv = c .before .before .before .before .loop .inv in
-    let t = c .before .before .before .loop-test .taken in
-    let start = c .before .before .before .before .before .before in (
-      omega (arith, t),
-      listed-more _ _ _ _ _ t t (inv .1) _
-          (c .one-if .ensures ∙ ap (λ k. bit (not k)) (c .before .idle .ensures ∙ ap (λ row. idle row (start .args .low) (start .args .end)) (c .before .before .held-row .ensures))),
-    )
+    let inv = c .before .before .before .loop .inv in
+    let t = c .before .before .loop-test .taken in
+    (omega (arith, t), listed-more _ _ _ _ _ t t (inv .1) _ (c .one-if .ensures ∙ ap (λ k. bit (not k)) (c .before .idle .ensures)))
 
 same-length : tie.Need-same-length Inv-loop μ-loop
 same-length c = c .before .loop .inv .1 .whole ∙ sym (c .before .before .before .pre .1)
@@ -75,7 +67,6 @@ list-busy-spec =
     loop-holds
     cast-at
     slice-write-busy
-    held-row-requires
     idle-requires
     one-if-requires
     add-count
