@@ -17,7 +17,7 @@ use Rattle.model.specs.declared.Decision.the-variants.{Granted, WrongLength, St
 use Rattle.model.specs.State.{objectCount, noObject, emptyMonitor, fresh}
 use Rattle.model.specs.Tests.{unless}
 use Rattle.model.specs.Decisions.{refuses}
-use Rattle.model.specs.Layout.{tableSize, objectsSize, imageSize, labelBits, setsBits, objectBits, tableBits, objectsBits, imageBits, imageOf}
+use Rattle.model.specs.Layout.{tableSize, objectsSize, imageSize, labelBits, setsBits, objectBits, objectsBits, imageBits, imageOf}
 use Rattle.model.specs.Reading.{tableFrom, tableForm, tableChecks, begin, readTable}
 use Rattle.model.specs.Writing.{tooShort, writing, written}
 use Rattle.model.proofs.Tests.{cond-false, passed, apart}

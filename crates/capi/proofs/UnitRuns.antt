@@ -1,7 +1,7 @@
 -- A unit that was started or opened, asked any list and saved: what it replies and what is saved are what the scope's definitions say.
 -- Assumes nothing.
 use Prim.Native.Nat.{ℕ, _≤_}
-use mathlib.Core.Path.{_≡_, refl, sym, ap, ap₂, _∙_, subst}
+use mathlib.Core.Path.{_≡_, sym, ap, ap₂, _∙_, subst}
 use mathlib.Core.Logic.{_↔_, _≢_}
 use mathlib.Core.List.{List, [], map}
 use lib.ListN.{length, take}

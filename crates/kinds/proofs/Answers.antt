@@ -23,7 +23,7 @@ use Rattle.model.specs.State.{noObject, object}
 use Rattle.model.specs.Decisions.{number, refuses}
 use Rattle.model.specs.Requests.{InRange}
 use Rattle.model.specs.Rules.{target, already, changed, checks, afterwards, simpleAll, starFor, starAll}
-use Rattle.model.proofs.Tests.{cond-true, cond-false}
+use Rattle.model.proofs.Tests.{cond-true, cond-false, not-not}
 use Rattle.star.specs.Between.{starBetween}
 use Rattle.star.proofs.Between.{between-one}
 use Rattle.unit.specs.Rows.{Rows, rowCount, objectIn, objectsIn, stateIn}
@@ -92,10 +92,6 @@ refused-first d later t = cond-true _ _ _ t
 passed-first : (d later : Decision) → refuses d ≡ false → first d later ≡ later
 unfolding first
 passed-first d later t = cond-false _ _ _ t
-
-pub not-not : (b : Bool) → not (not b) ≡ b
-not-not true = refl
-not-not false = refl
 
 module _ (u : Rows) (n : length u ≡ rowCount) (s o : ℕ) (x : Mode) (R : InRange (Get s o x)) (d : Decision) (d-is : d ≡ beforeStar s o x (stateIn u)) where
   staged : checks (Get s o x) (stateIn u) ≡ first d (starLast s o x (stateIn u))

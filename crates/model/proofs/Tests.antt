@@ -29,11 +29,6 @@ clash e = let z : _≡_ {A = ℕ} 0 1 = cc in absurd (omega arith)
 pub apart : {P : Type 0} {b : Bool} → b ≡ true → b ≡ false → P
 apart p q = clash (sym p ∙ q)
 
--- what is not false is true
-pub not-false : (b : Bool) → (b ≡ false → ⊥) → b ≡ true
-not-false true h = refl
-not-false false h = absurd (h refl)
-
 pub and-both : {a b : Bool} → a ≡ true → b ≡ true → (a && b) ≡ true
 and-both p q = cc
 
@@ -81,6 +76,10 @@ pub implies-false : (a b : Bool) → implies a b ≡ false → (a ≡ true) × (
 unfolding implies
 implies-false true b e = (refl, e)
 implies-false false b e = clash e
+
+pub not-not : (b : Bool) → not (not b) ≡ b
+not-not true = refl
+not-not false = refl
 
 pub not-on : (b : Bool) → not b ≡ true → b ≡ false
 not-on true e = sym e

@@ -53,30 +53,3 @@ pub tabulated : {A : Type 0} (n : ℕ) (f : ℕ → A) (d : A) (l : List A) → 
 tabulated n f d l e w =
     ext-getD d l (tabulate n f) (e ∙ sym (tabulate-length n f))
     (λ k b. let h : k < n = omega (arith, e) in w k h ∙ sym (tabulate-at n f k d h))
-
--- ---- an array that a loop fills: its first i elements are there
-
-pub record Gathered {A : Type 0} (f : ℕ → A) (n : ℕ) (d : A) (l : List A) (i : ℕ) : Type 0 where
-  pub bound : i ≤ n
-  pub whole : length l ≡ n
-  pub so-far : (k : ℕ) → k < i → getD l k d ≡ f k
-
-module _ {A : Type 0} (f : ℕ → A) (n : ℕ) (d : A) (l : List A) where
-  pub gather-none : length l ≡ n → Gathered f n d l 0
-  gather-none e = record { bound = omega arith; whole = e; so-far = λ k h. absurd (omega arith) }
-
-  module _ (i : ℕ) (G : Gathered f n d l i) where
-    pub gather-more : (v : A) → i < n → v ≡ f i → Gathered f n d (set l i v) (i + 1)
-    gather-more v h e =
-        record {
-          bound = omega arith;
-          whole = length-set l i v ∙ G .whole;
-          so-far = λ k w.
-              ⊎-elim
-              (λ (z : k ≡ i). ap (λ j. getD (set l i v) j d) z ∙ getD-set-same l i v d (omega (arith, G .whole)) ∙ e ∙ ap f (sym z))
-              (λ (z : k < i). getD-set-other l i k v d (λ q. absurd (omega arith)) ∙ G .so-far k z)
-              (eq-or-lt-of-le {n = k} {m = i} (omega arith));
-        }
-
-    pub gather-all : n ≤ i → l ≡ tabulate n f
-    gather-all h = tabulated n f d l (G .whole) (λ k b. G .so-far k (omega arith))

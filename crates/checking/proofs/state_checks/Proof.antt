@@ -1,20 +1,17 @@
 -- `checking::state_checks` meets its contract.
 -- Assumes nothing.
 use mathlib.Core.Path.{_≡_, refl, ap, ap₂, _∙_}
-use mathlib.Core.Bool.{Bool, true, false, not}
+use mathlib.Core.Bool.{Bool, not}
 use Rattle.model.specs.declared.Decision.{Decision}
 use Rattle.model.specs.declared.Decision.the-variants.{NoRight, NoLabel, SimpleBroken, StarBroken, AbsentSubject}
 use Rattle.model.specs.Tests.{unless}
 use Rattle.model.specs.Reading.{stateChecks}
+use Rattle.model.proofs.Tests.{not-not}
 use Rattle.star.proofs.Between.{between-all}
 use Rattle.checking.specs.declared.Findings.{Findings}
 use borrow.Author.Needs.{needs}
 use Rattle.checking.proofs.state_checks.Statement.{statement}
 use Rattle.checking.proofs.state_checks.Tie as tie
-
-not-not : (b : Bool) → not (not b) ≡ b
-not-not true = refl
-not-not false = refl
 
 -- a check with its test and the answer of the later ones put in
 answers : (d : Decision) {r k v : Decision} {a b : Bool} → a ≡ b → k ≡ v → r ≡ unless a d k → r ≡ unless b d v
