@@ -4,7 +4,7 @@ ghost use Prim.Native.Nat.{_+_, _≤_};
 ghost use lib.ListN.{length};
 ghost use lib.Seq.{sets};
 ghost use Rattle.model.specs.Requests.{encode};
-ghost use Rattle.security.specs.Distinguish.{distinguish};
+ghost use Rattle.telling.specs.Distinguish.{distinguish};
 ghost use Rattle.differences.specs.Sequences.{readingOf, requestsOf};
 ghost use Rattle.distinguish.specs.Telling.{bytesOf, toldNumber, toldBytes};
 use differences::Sequence;
