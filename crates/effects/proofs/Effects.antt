@@ -43,7 +43,8 @@ module _ (m : Monitor) (W : WellFormed m) where
     λ w. apart w (ap (λ (k : Object). has x (rightsOf k t)) e ∙ ap (has x) (rights-stored (object m o) (W .objects-formed o) t _ (r .1)) ∙ remove-has x _ (W .objects-formed o .rights-fit t)),
     λ w. apart w (ap (λ (k : Object). has x (heldBy k t)) e ∙ ap (has x) (held-stored (object m o) (W .objects-formed o) t _ (r .1)) ∙ remove-has x _ (W .objects-formed o .held-fit t)),
   )
-  effect-of (Create s o v) r n e =
+  effect-of (Create s o c) r n e =
+      let v = c .execute in
       let mine : rightsOf (object n o) s ≡ cond v 15 14 = ap (λ (k : Object). rightsOf k s) e ∙ getD-set-same noModes s (cond v 15 14) 0 (r .0) in
       record {
         live = ap (λ (k : Object). k .live) e;

@@ -9,6 +9,7 @@ use lib.ListN.{getD, set}
 use Rattle.model.specs.declared.Object.{Object}
 use Rattle.model.specs.declared.Monitor.{Monitor}
 use Rattle.model.specs.declared.Mode.{Mode}
+use Rattle.model.specs.declared.Creation.{Creation}
 use Rattle.model.specs.declared.Request.{Request}
 use Rattle.model.specs.declared.Request.the-variants.{Get, Release, Give, Rescind, Create, Delete, ChangeLevel}
 use Rattle.model.specs.declared.Decoded.the-variants.{Says}
@@ -52,8 +53,8 @@ pub others-kept : (q : Request) (m : Monitor) (o : ℕ) → o ≢ target q → o
 others-kept q m o h = frame (λ (ob : Object). ob ≡ object m o) q m o refl (λ g e. absurd (h (sym e)))
 
 -- a granted create finds an object that is not live
-create-finds : (s o : ℕ) (w : Bool) (m : Monitor) → checks (Create s o w) m ≡ Granted → object m o .live ≡ false
-create-finds s o w m g = not-on _ (granted-create m s o w g .free)
+create-finds : (s o : ℕ) (c : Creation) (m : Monitor) → checks (Create s o c) m ≡ Granted → object m o .live ≡ false
+create-finds s o c m g = not-on _ (granted-create m s o c g .free)
 
 -- what a granted request on a live object that stays live leaves of its record
 changed-owner : (q : Request) (m : Monitor) → object m (target q) .live ≡ true → checks q m ≡ Granted
@@ -63,7 +64,7 @@ changed-owner (Get s o x) m live g e = refl
 changed-owner (Release s o x) m live g e = refl
 changed-owner (Give s t o x) m live g e = refl
 changed-owner (Rescind s t o x) m live g e = refl
-changed-owner (Create s o w) m live g e = apart live (create-finds s o w m g)
+changed-owner (Create s o c) m live g e = apart live (create-finds s o c m g)
 changed-owner (Delete s o) m live g e = clash (sym e)
 changed-owner (ChangeLevel s o l) m live g e = refl
 
@@ -106,7 +107,7 @@ changed-rights (Get s o y) m W live g t x e = inl e
 changed-rights (Release s o y) m W live g t x e = inl e
 changed-rights (Give s u o y) m W live g t x e = or-else (λ p. (s, λ i. Give s (p .0 i) o (p .1 i))) (row-add (object m o .rights) u y x (W .objects-formed o .rights-fit) t e)
 changed-rights (Rescind s u o y) m W live g t x e = inl (row-remove (object m o .rights) u y x (W .objects-formed o .rights-fit) t e)
-changed-rights (Create s o w) m W live g t x e = apart live (create-finds s o w m g)
+changed-rights (Create s o c) m W live g t x e = apart live (create-finds s o c m g)
 changed-rights (Delete s o) m W live g t x e = none-held x _ (no-modes t) e
 changed-rights (ChangeLevel s o l) m W live g t x e = inl e
 
@@ -118,7 +119,7 @@ changed-access (Get s o y) m W live g t x e = or-else (λ p. λ i. Get (p .0 i) 
 changed-access (Release s o y) m W live g t x e = inl (row-remove (object m o .held) s y x (W .objects-formed o .held-fit) t e)
 changed-access (Give s u o y) m W live g t x e = inl e
 changed-access (Rescind s u o y) m W live g t x e = inl (row-remove (object m o .held) u y x (W .objects-formed o .held-fit) t e)
-changed-access (Create s o w) m W live g t x e = apart live (create-finds s o w m g)
+changed-access (Create s o c) m W live g t x e = apart live (create-finds s o c m g)
 changed-access (Delete s o) m W live g t x e = none-held x _ (no-modes t) e
 changed-access (ChangeLevel s o l) m W live g t x e = inl e
 
@@ -130,7 +131,7 @@ kept-right (Get s o y) m W live g stays t x e = inl e
 kept-right (Release s o y) m W live g stays t x e = inl e
 kept-right (Give s u o y) m W live g stays t x e = inl (row-add-keeps (object m o .rights) u y x (W .objects-formed o .rights-fit) t e)
 kept-right (Rescind s u o y) m W live g stays t x e = or-else (λ p. (s, λ i. Rescind s (p .0 i) o (p .1 i))) (row-remove-keeps (object m o .rights) u y x (W .objects-formed o .rights-fit) t e)
-kept-right (Create s o w) m W live g stays t x e = apart live (create-finds s o w m g)
+kept-right (Create s o c) m W live g stays t x e = apart live (create-finds s o c m g)
 kept-right (Delete s o) m W live g stays t x e = clash (sym stays)
 kept-right (ChangeLevel s o l) m W live g stays t x e = inl e
 
@@ -142,7 +143,7 @@ kept-access (Get s o y) m W live g stays t x e = inl (row-add-keeps (object m o 
 kept-access (Release s o y) m W live g stays t x e = or-else (λ p. inl (λ i. Release (p .0 i) o (p .1 i))) (row-remove-keeps (object m o .held) s y x (W .objects-formed o .held-fit) t e)
 kept-access (Give s u o y) m W live g stays t x e = inl e
 kept-access (Rescind s u o y) m W live g stays t x e = or-else (λ p. inr (s, λ i. Rescind s (p .0 i) o (p .1 i))) (row-remove-keeps (object m o .held) u y x (W .objects-formed o .held-fit) t e)
-kept-access (Create s o w) m W live g stays t x e = apart live (create-finds s o w m g)
+kept-access (Create s o c) m W live g stays t x e = apart live (create-finds s o c m g)
 kept-access (Delete s o) m W live g stays t x e = clash (sym stays)
 kept-access (ChangeLevel s o l) m W live g stays t x e = inl e
 
@@ -153,7 +154,7 @@ changed-label (Get s o x) m live g e = inl refl
 changed-label (Release s o x) m live g e = inl refl
 changed-label (Give s t o x) m live g e = inl refl
 changed-label (Rescind s t o x) m live g e = inl refl
-changed-label (Create s o w) m live g e = apart live (create-finds s o w m g)
+changed-label (Create s o c) m live g e = apart live (create-finds s o c m g)
 changed-label (Delete s o) m live g e = clash (sym e)
 changed-label (ChangeLevel s o l) m live g e = inr (s, l, refl, refl)
 
@@ -205,18 +206,18 @@ module _ (q : Request) (m : Monitor) (W : WellFormed m) (o : ℕ) (live : object
       (changed-label q m (at-target e) g h)) stays
 
 -- after a granted create the record is what create says, whatever the slot held before
-pub create-fresh : (s o : ℕ) (w : Bool) (m : Monitor) → WellFormed m → o < 64 → checks (Create s o w) m ≡ Granted
-    → object (step (Create s o w) m .monitor) o ≡ created s w
+pub create-fresh : (s o : ℕ) (c : Creation) (m : Monitor) → WellFormed m → o < 64 → checks (Create s o c) m ≡ Granted
+    → object (step (Create s o c) m .monitor) o ≡ created s c
 unfolding changed
-create-fresh s o w m W h g =
-    ap (λ (r : Response). object (r .monitor) o) (step-granted (Create s o w) m g) ∙ object-there (Create s o w) m W h
+create-fresh s o c m W h g =
+    ap (λ (r : Response). object (r .monitor) o) (step-granted (Create s o c) m g) ∙ object-there (Create s o c) m W h
 
 -- ---- the life of an object
 
 -- what a request does to the life of object o: nothing, or it begins by a create of it, or it ends by a delete of it
 data Life (q : Request) (o : ℕ) (before behind : Bool) : Type 0 where
   stays : behind ≡ before → Life q o before behind
-  begins : (s : ℕ) (w : Bool) → q ≡ Create s o w → behind ≡ true → Life q o before behind
+  begins : (s : ℕ) (c : Creation) → q ≡ Create s o c → behind ≡ true → Life q o before behind
   ends : (s : ℕ) → q ≡ Delete s o → behind ≡ false → Life q o before behind
 
 changed-life : (q : Request) (ob : Object) → Life q (target q) (ob .live) (changed q ob .live)
@@ -225,7 +226,7 @@ changed-life (Get s o x) ob = stays refl
 changed-life (Release s o x) ob = stays refl
 changed-life (Give s t o x) ob = stays refl
 changed-life (Rescind s t o x) ob = stays refl
-changed-life (Create s o w) ob = begins s w refl refl
+changed-life (Create s o c) ob = begins s c refl refl
 changed-life (Delete s o) ob = ends s refl refl
 changed-life (ChangeLevel s o l) ob = stays refl
 
@@ -239,11 +240,11 @@ pub live-kept : (m : Monitor) (g : List ℕ) (o : ℕ) → object m o .live ≡ 
     → (object (respond g m .monitor) o .live ≡ true) ⊎ ((s : ℕ) × (decode g ≡ Says (Delete s o)))
 live-kept m g o live =
     respond-all (λ (r : Response). (object (r .monitor) o .live ≡ true) ⊎ ((s : ℕ) × (decode g ≡ Says (Delete s o)))) g m (λ e. inl live)
-    (λ q d. elim (step-life q m o) [ stays e ↦ inl (e ∙ live) | begins s w e f ↦ inl f | ends s e f ↦ inr (s, d ∙ ap Says e) ])
+    (λ q d. elim (step-life q m o) [ stays e ↦ inl (e ∙ live) | begins s c e f ↦ inl f | ends s e f ↦ inr (s, d ∙ ap Says e) ])
 
 -- and one that is not live begins only by a create of it
 pub live-by-create : (m : Monitor) (g : List ℕ) (o : ℕ) → object m o .live ≡ false
-    → (object (respond g m .monitor) o .live ≡ false) ⊎ ((s : ℕ) × (w : Bool) × (decode g ≡ Says (Create s o w)))
+    → (object (respond g m .monitor) o .live ≡ false) ⊎ ((s : ℕ) × (c : Creation) × (decode g ≡ Says (Create s o c)))
 live-by-create m g o dead =
-    respond-all (λ (r : Response). (object (r .monitor) o .live ≡ false) ⊎ ((s : ℕ) × (w : Bool) × (decode g ≡ Says (Create s o w)))) g m (λ e. inl dead)
-    (λ q d. elim (step-life q m o) [ stays e ↦ inl (e ∙ dead) | begins s w e f ↦ inr (s, w, d ∙ ap Says e) | ends s e f ↦ inl f ])
+    respond-all (λ (r : Response). (object (r .monitor) o .live ≡ false) ⊎ ((s : ℕ) × (c : Creation) × (decode g ≡ Says (Create s o c)))) g m (λ e. inl dead)
+    (λ q d. elim (step-life q m o) [ stays e ↦ inl (e ∙ dead) | begins s c e f ↦ inr (s, c, d ∙ ap Says e) | ends s e f ↦ inl f ])

@@ -53,8 +53,8 @@ module _ (m : Monitor) (W : WellFormed m) where
       apart
       (and-both (ap not (sym (ap (has x) rights) ∙ remove-has x _ (F .rights-fit t))) (ap not (sym (ap (has x) held) ∙ remove-has x _ (F .held-fit t))))
       e
-  record-differs (Create s o v) r g e w =
-      apart (ap (λ (k : Object). k .live) (sym w)) (not-on _ (granted-create m s o v g .free))
+  record-differs (Create s o c) r g e w =
+      apart (ap (λ (k : Object). k .live) (sym w)) (not-on _ (granted-create m s o c g .free))
   record-differs (Delete s o) r g e w =
       apart (granted-delete m s o g .live) (ap (λ (k : Object). k .live) (sym w))
   record-differs (ChangeLevel s o l) r g e w = apart (label-same _ (Present l) (ap (λ (k : Object). k .label) (sym w))) e

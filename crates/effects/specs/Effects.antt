@@ -3,13 +3,14 @@
 use Prim.Native.Nat.{ℕ}
 use mathlib.Core.Path.{_≡_}
 use mathlib.Core.Logic.{_≢_, _⊎_}
-use mathlib.Core.Bool.{Bool, true}
+use mathlib.Core.Bool.{true}
 use Rattle.model.specs.declared.Level.{Level}
 use Rattle.model.specs.declared.Label.{Label}
 use Rattle.model.specs.declared.Label.the-variants.{Absent, Present}
 use Rattle.model.specs.declared.Monitor.{Monitor}
 use Rattle.model.specs.declared.Mode.{Mode}
 use Rattle.model.specs.declared.Mode.the-variants.{Read, Write, Append, Execute}
+use Rattle.model.specs.declared.Creation.{Creation}
 use Rattle.model.specs.declared.Request.{Request}
 use Rattle.model.specs.declared.Request.the-variants.{Get, Release, Give, Rescind, Create, Delete, ChangeLevel}
 use Rattle.model.specs.Modes.{has}
@@ -17,14 +18,14 @@ use Rattle.model.specs.State.{noObject, object, rightsOf, heldBy}
 use Rattle.model.specs.Properties.{Holds, Permits}
 
 -- "live, unlabelled, owned by the actor, who gains r, w, a, and e if mode is 4", and nobody else has or holds anything
-pub record Created (n : Monitor) (s o : ℕ) (execute : Bool) : Type 0 where
+pub record Created (n : Monitor) (s o : ℕ) (c : Creation) : Type 0 where
   pub live : object n o .live ≡ true
   pub owned : object n o .owner ≡ s
   pub unlabelled : object n o .label ≡ Absent
   pub read : Permits n s o Read
   pub write : Permits n s o Write
   pub append : Permits n s o Append
-  pub execute-by-mode : has Execute (rightsOf (object n o) s) ≡ execute
+  pub execute-by-mode : has Execute (rightsOf (object n o) s) ≡ c .execute
   pub others : (t : ℕ) → t ≢ s → rightsOf (object n o) t ≡ 0
   pub nobody-holds : (t : ℕ) → heldBy (object n o) t ≡ 0
 
@@ -37,7 +38,7 @@ Effect (Release s o x) n = Holds n s o x → ⊥
 Effect (Give s t o x) n = Permits n t o x
 -- "the other subject loses the right and the access"
 Effect (Rescind s t o x) n = (Permits n t o x → ⊥) × (Holds n t o x → ⊥)
-Effect (Create s o e) n = Created n s o e
+Effect (Create s o c) n = Created n s o c
 -- "no longer live, its rights and accesses gone"
 Effect (Delete s o) n = object n o ≡ noObject
 -- "the label becomes class and needs"

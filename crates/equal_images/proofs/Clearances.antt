@@ -23,7 +23,7 @@ use Rattle.model.specs.Tests.{implies, unless}
 use Rattle.model.specs.Levels.{dominates, levelDominates, present}
 use Rattle.model.specs.Modes.{has}
 use Rattle.model.specs.State.{noModes, clearance, enrolled, object, rightsOf, heldBy, withLabel, LevelFits, LabelFits}
-use Rattle.model.specs.Requests.{InRange}
+use Rattle.model.specs.Requests.{creation, InRange}
 use Rattle.model.specs.Rules.{changed, afterwards, checks, created, starFor, step}
 use Rattle.model.proofs.Tests.{pass, stop, not-stop, distinct, cond-all}
 use Rattle.model.proofs.Tests as tests
@@ -53,22 +53,22 @@ after-granted q qs m n r g h d = differs-later q qs m n r (subst₂ (Differs qs)
 
 module _ (s o : ℕ) (l : Level) (s-below : s < 16) (o-below : o < 64) (fits : LevelFits l) where
   made : Monitor → Monitor
-  made m = afterwards (Create s o false) m
+  made m = afterwards (Create s o (creation false)) m
 
   ready : Monitor → Monitor
   ready m = afterwards (ChangeLevel s o l) (made m)
 
   module _ (m : Monitor) (S : Sound m) (there : enrolled m s ≡ true) (free : object m o .live ≡ false) where
-    create-granted : checks (Create s o false) m ≡ Granted
-    create-granted = grants-create m s o false (record { there = there; free = ap not free })
+    create-granted : checks (Create s o (creation false)) m ≡ Granted
+    create-granted = grants-create m s o (creation false) (record { there = there; free = ap not free })
 
     sound-made : Sound (made m)
     unfolding made
-    sound-made = sound-afterwards (Create s o false) m (s-below, o-below) S create-granted
+    sound-made = sound-afterwards (Create s o (creation false)) m (s-below, o-below) S create-granted
 
-    object-made : object (made m) o ≡ created s false
+    object-made : object (made m) o ≡ created s (creation false)
     unfolding made changed
-    object-made = object-there (Create s o false) m (S .formed) o-below
+    object-made = object-there (Create s o (creation false)) m (S .formed) o-below
 
     nobody-holds : (t : ℕ) → heldBy (object (made m) o) t ≡ 0
     nobody-holds t = ap (λ (k : Object). heldBy k t) object-made ∙ no-modes t
@@ -89,7 +89,7 @@ module _ (s o : ℕ) (l : Level) (s-below : s < 16) (o-below : o < 64) (fits : L
           star = star-all-in _ (λ t. star-free t (made m .objects) o _ (star-for (made m) (sound-made .secure .star) t) (nobody-holds t));
         })
 
-    object-ready : object (ready m) o ≡ withLabel (created s false) (Present l)
+    object-ready : object (ready m) o ≡ withLabel (created s (creation false)) (Present l)
     unfolding ready changed
     object-ready =
         object-there (ChangeLevel s o l) (made m) (sound-made .formed) o-below
@@ -114,10 +114,10 @@ module _ (s o : ℕ) (l : Level) (s-below : s < 16) (o-below : o < 64) (fits : L
   module _ (m n : Monitor) (S : Sound m) (N : Sound n) (here : enrolled m s ≡ true) (there : enrolled n s ≡ true)
       (free : object m o .live ≡ false) (empty : object n o .live ≡ false)
       (above : dominates (clearance m s) (Present l) ≡ true) (not-above : dominates (clearance n s) (Present l) ≡ false) where
-    tells-clearance : Differs (Create s o false ∷ ChangeLevel s o l ∷ Get s o Read ∷ []) m n
+    tells-clearance : Differs (Create s o (creation false) ∷ ChangeLevel s o l ∷ Get s o Read ∷ []) m n
     unfolding ready made
     tells-clearance =
-        after-granted (Create s o false) _ m n (s-below, o-below) (create-granted m S here free) (create-granted n N there empty)
+        after-granted (Create s o (creation false)) _ m n (s-below, o-below) (create-granted m S here free) (create-granted n N there empty)
         (after-granted (ChangeLevel s o l) _ (made m) (made n) (s-below, o-below, fits) (level-granted m S here free) (level-granted n N there empty)
         (differs-first (Get s o Read) [] (ready m) (ready n) (s-below, o-below)
         (tells-refusal (Get s o Read) (ready m) (ready n) SimpleBroken refl
@@ -163,7 +163,7 @@ module _ (s o : ℕ) (l : Level) (s-below : s < 16) (o-below : o < 64) (fits : L
   read-same : (m n : Monitor) → object m o ≡ object n o → readAt n o s l ≡ readAt m o s l
   unfolding readAt
   read-same m n same =
-      ap (λ (k : Object). cond (k .live) (Delete (k .owner) o ∷ Create s o false ∷ ChangeLevel s o l ∷ Get s o Read ∷ []) (Create s o false ∷ ChangeLevel s o l ∷ Get s o Read ∷ []))
+      ap (λ (k : Object). cond (k .live) (Delete (k .owner) o ∷ Create s o (creation false) ∷ ChangeLevel s o l ∷ Get s o Read ∷ []) (Create s o (creation false) ∷ ChangeLevel s o l ∷ Get s o Read ∷ []))
       (sym same)
 
 -- ---- the search over clearances

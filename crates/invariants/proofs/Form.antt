@@ -10,6 +10,7 @@ use lib.Dec.{lit<}
 use Rattle.model.specs.declared.Subject.{Subject}
 use Rattle.model.specs.declared.Object.{Object}
 use Rattle.model.specs.declared.Monitor.{Monitor}
+use Rattle.model.specs.declared.Creation.{Creation}
 use Rattle.model.specs.declared.Request.{Request}
 use Rattle.model.specs.declared.Request.the-variants.{Get, Release, Give, Rescind, Create, Delete, ChangeLevel}
 use Rattle.model.specs.declared.Decision.the-variants.{Granted}
@@ -80,18 +81,18 @@ module _ (l : List Subject) where
         absent-held = F .absent-held;
       }
 
-  created-formed : (s : ℕ) (e : Bool) → s < 16 → present (clearanceAt l s) ≡ true → WellFormedObject l (created s e)
-  created-formed s e h there =
+  created-formed : (s : ℕ) (c : Creation) → s < 16 → present (clearanceAt l s) ≡ true → WellFormedObject l (created s c)
+  created-formed s c h there =
       record {
-        rights-length = length-set noModes s (cond e 15 14);
+        rights-length = length-set noModes s (cond (c .execute) 15 14);
         held-length = refl;
-        rights-fit = set-all (λ j k. k < 16) noModes s (cond e 15 14) 0 (no-object-formed .rights-fit) (fits e);
+        rights-fit = set-all (λ j k. k < 16) noModes s (cond (c .execute) 15 14) 0 (no-object-formed .rights-fit) (fits (c .execute));
         held-fit = no-object-formed .held-fit;
         owner-fits = h;
         label-fits = tt;
         not-live = λ w. clash w;
         owner-enrolled = λ w. there;
-        absent-rights = set-all (λ j k. present (clearanceAt l j) ≡ false → k ≡ 0) noModes s (cond e 15 14) 0 (no-object-formed .absent-rights) (λ w. apart there w);
+        absent-rights = set-all (λ j k. present (clearanceAt l j) ≡ false → k ≡ 0) noModes s (cond (c .execute) 15 14) 0 (no-object-formed .absent-rights) (λ w. apart there w);
         absent-held = no-object-formed .absent-held;
       }
     where
@@ -122,9 +123,9 @@ module _ (m : Monitor) where
       held-formed (m .subjects) (withRights (object m o) t (remove x (rightsOf (object m o) t))) t _
       (rights-formed (m .subjects) (object m o) t _ F (g .live) there (remove-fits x _ (F .rights-fit t)))
       (g .live) there (remove-fits x _ (F .held-fit t))
-  changed-formed (Create s o w) r W e =
-      let g = granted-create m s o w e in
-      created-formed (m .subjects) s w (r .0) (g .there)
+  changed-formed (Create s o c) r W e =
+      let g = granted-create m s o c e in
+      created-formed (m .subjects) s c (r .0) (g .there)
   changed-formed (Delete s o) r W e = no-object-formed (m .subjects)
   changed-formed (ChangeLevel s o v) r W e =
       let F = W .objects-formed o in

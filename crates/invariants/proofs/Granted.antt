@@ -2,10 +2,11 @@
 -- Assumes nothing.
 use Prim.Native.Nat.{ℕ}
 use mathlib.Core.Path.{_≡_, refl}
-use mathlib.Core.Bool.{Bool, true, not, _&&_}
+use mathlib.Core.Bool.{true, not, _&&_}
 use Rattle.model.specs.declared.Level.{Level}
 use Rattle.model.specs.declared.Monitor.{Monitor}
 use Rattle.model.specs.declared.Mode.{Mode}
+use Rattle.model.specs.declared.Creation.{Creation}
 use Rattle.model.specs.declared.Request.{Request}
 use Rattle.model.specs.declared.Request.the-variants.{Get, Release, Give, Rescind, Create, Delete, ChangeLevel}
 use Rattle.model.specs.declared.Decision.the-variants.{Granted}
@@ -22,7 +23,7 @@ only-refusals (Get s o x) m = refl
 only-refusals (Release s o x) m = refl
 only-refusals (Give s t o x) m = refl
 only-refusals (Rescind s t o x) m = refl
-only-refusals (Create s o e) m = refl
+only-refusals (Create s o c) m = refl
 only-refusals (Delete s o) m = refl
 only-refusals (ChangeLevel s o l) m = refl
 
@@ -76,13 +77,13 @@ pub record GrantedCreate (m : Monitor) (s o : ℕ) : Type 0 where
   pub there : enrolled m s ≡ true
   pub free : not (object m o .live) ≡ true
 
-pub granted-create : (m : Monitor) (s o : ℕ) (e : Bool) → checks (Create s o e) m ≡ Granted → GrantedCreate m s o
+pub granted-create : (m : Monitor) (s o : ℕ) (c : Creation) → checks (Create s o c) m ≡ Granted → GrantedCreate m s o
 unfolding checks
-granted-create m s o e w = let p = all-passed (checkList (Create s o e) m) refl w in record { there = p .0; free = p .1 .0 }
+granted-create m s o c e = let p = all-passed (checkList (Create s o c) m) refl e in record { there = p .0; free = p .1 .0 }
 
-pub grants-create : (m : Monitor) (s o : ℕ) (e : Bool) → GrantedCreate m s o → checks (Create s o e) m ≡ Granted
+pub grants-create : (m : Monitor) (s o : ℕ) (c : Creation) → GrantedCreate m s o → checks (Create s o c) m ≡ Granted
 unfolding checks
-grants-create m s o e g = all-pass (checkList (Create s o e) m) (g .there, (g .free, tt))
+grants-create m s o c g = all-pass (checkList (Create s o c) m) (g .there, (g .free, tt))
 
 pub record GrantedDelete (m : Monitor) (s o : ℕ) : Type 0 where
   pub there : enrolled m s ≡ true

@@ -30,7 +30,7 @@ target-below (Get s o x) r = r .1
 target-below (Release s o x) r = r .1
 target-below (Give s t o x) r = r .2
 target-below (Rescind s t o x) r = r .2
-target-below (Create s o e) r = r .1
+target-below (Create s o c) r = r .1
 target-below (Delete s o) r = r .1
 target-below (ChangeLevel s o l) r = r .1
 
@@ -45,7 +45,7 @@ record-same (Rescind s t o x) ob e =
     let p = not-on _ (and-left (not (has x (rightsOf ob t))) _ e) in
     let q = not-on _ (and-right (not (has x (rightsOf ob t))) _ e) in
     with-held-same (withRights ob t (remove x (rightsOf ob t))) t _ (remove-same x _ q) ∙ with-rights-same ob t _ (remove-same x _ p)
-record-same (Create s o w) ob e = clash (sym e)
+record-same (Create s o c) ob e = clash (sym e)
 record-same (Delete s o) ob e = clash (sym e)
 record-same (ChangeLevel s o l) ob e =
     with-label-same ob (Present l) (sym (same-label (ob .label) (Present l) e))

@@ -39,7 +39,7 @@ Fewer (Get s o x) = ⊥
 Fewer (Release s o x) = Unit {0}
 Fewer (Give s t o x) = Unit {0}
 Fewer (Rescind s t o x) = Unit {0}
-Fewer (Create s o e) = Unit {0}
+Fewer (Create s o c) = Unit {0}
 Fewer (Delete s o) = Unit {0}
 Fewer (ChangeLevel s o l) = ⊥
 
@@ -101,6 +101,6 @@ module _ {A : Type 0} (matters : Mode → Bool) (view : Object → A) (R : Mode 
       let less = less-held new t _ (λ y g r. held-remove x y _ (W .objects-formed o .held-fit t) r) j in
       pairs-less j (m .objects) o _ (before j)
       (record { keeps = λ y g r. let p = less .keeps y g r in (p .0, p .1 ∙ rights-unseen (object m o) t _) })
-  pairs-fewer (Create s o e) m W before f j = pairs-free j (m .objects) o _ (before j) (no-modes j)
+  pairs-fewer (Create s o c) m W before f j = pairs-free j (m .objects) o _ (before j) (no-modes j)
   pairs-fewer (Delete s o) m W before f j = pairs-free j (m .objects) o _ (before j) (no-modes j)
   pairs-fewer (ChangeLevel s o l) m W before f j = absurd f

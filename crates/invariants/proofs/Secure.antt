@@ -131,7 +131,7 @@ module _ (m : Monitor) (W : WellFormed m) (S : Secure m) where
         labelled = L .labelled;
         simple = L .simple;
       }
-  changed-secure (Create s o w) e = idle-secure (m .subjects) (created s w) no-modes
+  changed-secure (Create s o c) e = idle-secure (m .subjects) (created s c) no-modes
   changed-secure (Delete s o) e = idle-secure (m .subjects) noObject no-modes
   changed-secure (ChangeLevel s o v) e =
       record {
@@ -228,7 +228,7 @@ changed-star (Get s o x) m W S n e =
 changed-star (Release s o x) m W S n e = star-fewer (Release s o x) m W (S .star) tt
 changed-star (Give s t o x) m W S n e = star-fewer (Give s t o x) m W (S .star) tt
 changed-star (Rescind s t o x) m W S n e = star-fewer (Rescind s t o x) m W (S .star) tt
-changed-star (Create s o w) m W S n e = star-fewer (Create s o w) m W (S .star) tt
+changed-star (Create s o c) m W S n e = star-fewer (Create s o c) m W (S .star) tt
 changed-star (Delete s o) m W S n e = star-fewer (Delete s o) m W (S .star) tt
 changed-star (ChangeLevel s o v) m W S n e =
     star-all-out _ n (granted-change m s o v e .star)

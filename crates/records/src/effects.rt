@@ -4,6 +4,7 @@ ghost use Rattle.model.specs.State.{rightsOf, heldBy, withRights, withHeld, wit
 ghost use Rattle.model.specs.Rules.{created, changed, already};
 use crate::rows::set_at;
 use crate::rows::with_set;
+use model::Creation;
 use model::Label;
 use model::Level;
 use model::Object;
@@ -64,10 +65,10 @@ fn with_level(ob: Object, l: Level) -> Object
 // ---- whole records
 
 // The actor gains r, w and a, and e too where the request says so.
-pub fn created(s: u8, execute: bool) -> Object
-    ensures { λ r. ⌜ r ≡ created s execute ⌝ }
+pub fn created(s: u8, how: Creation) -> Object
+    ensures { λ r. ⌜ r ≡ created s how ⌝ }
 {
-    let modes = if execute { 15 } else { 14 };
+    let modes = if how.execute { 15 } else { 14 };
     let rights = with_set([0u8; 16], s, modes);
     Object {
         live: true,
@@ -107,7 +108,7 @@ pub fn changed(q: Request, ob: Object) -> Object
             let left = labels::remove(x, had);
             with_held(with_rights(ob, t, less), t, left)
         }
-        Request::Create(s, _, e) => created(s, e),
+        Request::Create(s, _, how) => created(s, how),
         Request::Delete(_, _) => no_object(),
         Request::ChangeLevel(_, _, l) => with_level(ob, l),
     }

@@ -4,12 +4,13 @@ use Prim.Native.Nat.{ℕ, _<_, _≤_}
 use native.Mathlib.Omega.{arith}
 use mathlib.Core.Path.{_≡_, refl, sym, ap, _∙_, subst}
 use mathlib.Core.Logic.{_↔_, _≢_}
-use mathlib.Core.Bool.{Bool, true}
+use mathlib.Core.Bool.{true}
 use mathlib.Core.List.{List, [], _∷_}
 use borrow.Author.Tests.{leb-true}
 use Rattle.model.specs.declared.Level.{Level}
 use Rattle.model.specs.declared.Monitor.{Monitor}
 use Rattle.model.specs.declared.Mode.{Mode}
+use Rattle.model.specs.declared.Creation.{Creation}
 use Rattle.model.specs.declared.Request.{Request}
 use Rattle.model.specs.declared.Request.the-variants.{Get, Release, Give, Rescind, Create, Delete, ChangeLevel}
 use Rattle.model.specs.declared.Decoded.{Decoded}
@@ -55,7 +56,7 @@ never-malformed q m = never-answers MalformedRequest (distinct _ _ refl) (checkL
     go (Release s o x) = refl
     go (Give s t o x) = refl
     go (Rescind s t o x) = refl
-    go (Create s o e) = refl
+    go (Create s o c) = refl
     go (Delete s o) = refl
     go (ChangeLevel s o l) = refl
 
@@ -125,15 +126,15 @@ image-refused-empty b e = cond-true (refuses (imageChecks b)) _ _ e
 -- ---- the orders, by their numbers
 
 -- "Checks run in the order 2, 3, then 4 or 5, then 6, 7, 8, 9", each kind with those of its row in the table of kinds
-pub orders-of-requests : (m : Monitor) (s t o : ℕ) (x : Mode) (e : Bool) (l : Level)
+pub orders-of-requests : (m : Monitor) (s t o : ℕ) (x : Mode) (c : Creation) (l : Level)
     → (orderOf (requestCauses (Get s o x) m) ≡ 3 ∷ 4 ∷ 6 ∷ 7 ∷ 8 ∷ 9 ∷ [])
     × (orderOf (requestCauses (Release s o x) m) ≡ 3 ∷ 4 ∷ [])
     × (orderOf (requestCauses (Give s t o x) m) ≡ 3 ∷ 4 ∷ 6 ∷ [])
     × (orderOf (requestCauses (Rescind s t o x) m) ≡ 3 ∷ 4 ∷ 6 ∷ [])
-    × (orderOf (requestCauses (Create s o e) m) ≡ 3 ∷ 5 ∷ [])
+    × (orderOf (requestCauses (Create s o c) m) ≡ 3 ∷ 5 ∷ [])
     × (orderOf (requestCauses (Delete s o) m) ≡ 3 ∷ 4 ∷ 6 ∷ [])
     × (orderOf (requestCauses (ChangeLevel s o l) m) ≡ 3 ∷ 4 ∷ 6 ∷ 8 ∷ 9 ∷ [])
-orders-of-requests m s t o x e l = (refl, refl, refl, refl, refl, refl, refl)
+orders-of-requests m s t o x c l = (refl, refl, refl, refl, refl, refl, refl)
 
 -- "Tables are checked 10, 11; images 10, 11, 12, 6, 7, 8, 9"
 pub orders-of-beginnings : (b : List ℕ) → (orderOf (tableCauses b) ≡ 10 ∷ 11 ∷ []) × (orderOf (imageCauses b) ≡ 10 ∷ 11 ∷ 12 ∷ 6 ∷ 7 ∷ 8 ∷ 9 ∷ [])

@@ -150,7 +150,7 @@ module _ (m : Monitor) (S : Sound m) where
       (answers-check _ NotLive _ _ _ refl (λ e w. w e) fails
       (answers-check _ NoRight _ _ _ refl (may-give s o x) (may-not-give s o x)
       answers-end))
-  request-answers (Create s o e) r =
+  request-answers (Create s o c) r =
       answers-check _ NotEnrolled _ _ _ refl (not-absent (clearance m s)) (absent (clearance m s))
       (answers-check _ AlreadyLive _ _ _ refl (λ e w. apart w (not-on _ e)) (not-off _)
       answers-end)

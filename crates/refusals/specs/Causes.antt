@@ -91,7 +91,7 @@ requestCauses (Rescind s t o x) m =
     (row NoRight ((object m o .owner ≢ s) ⊎ Lacks m s o x)
     none))
 -- "check 5"
-requestCauses (Create s o e) m =
+requestCauses (Create s o c) m =
     row NotEnrolled (NotIn m s)
     (row AlreadyLive (object m o .live ≡ true)
     none)

@@ -20,7 +20,7 @@ use Rattle.model.specs.Levels.{levelDominates, dominates, sameLabel}
 use Rattle.model.specs.Modes.{has, add, remove}
 use Rattle.model.specs.State.{enrolled, object}
 use Rattle.model.specs.Decisions.{number, refuses}
-use Rattle.model.specs.Requests.{fields, modeAllowed, unusedZero, wellFormed, request, decodeFields, decode, pack, encode, InRange}
+use Rattle.model.specs.Requests.{fields, modeAllowed, unusedZero, wellFormed, request, creation, decodeFields, decode, pack, encode, InRange}
 use Rattle.model.specs.Rules.{target, simpleAll, starPair, starFrom, starFor, starAll, changed, already, checks, answer, step}
 use Rattle.model.specs.Runs.{respond, reply, after}
 use Rattle.model.specs.Layout.{tableSize, tableBits, imageSize, imageBits, imageOf}
@@ -81,7 +81,7 @@ pub record Shown : Type 0 where
   pub live-behind : object (step (Get 1 0 Read) (stateAt 4) .monitor) 0 .live ≡ true
   -- an object that is not live, and a granted create of it: step 1
   pub not-live-there : object (stateAt 0) 0 .live ≡ false
-  pub create-granted : checks (Create 1 0 false) (stateAt 0) ≡ Granted
+  pub create-granted : checks (Create 1 0 (creation false)) (stateAt 0) ≡ Granted
   -- a reply under 2 and one that is not: steps 1 and 2
   pub granted-there : reply (getD markedBytes 0 []) (stateAt 0) ≡ 0
   pub refused-there : reply (getD markedBytes 1 []) (stateAt 1) ≡ 7

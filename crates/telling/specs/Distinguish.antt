@@ -15,6 +15,7 @@ use Rattle.model.specs.declared.Request.the-variants.{Get, Release, Create, Del
 use Rattle.model.specs.Levels.{levelDominates, sameLabel}
 use Rattle.model.specs.Modes.{has}
 use Rattle.model.specs.State.{subjectCount, objectCount, clearance, enrolled, object, rightsOf, heldBy}
+use Rattle.model.specs.Requests.{creation}
 
 -- ---- the first list that is not empty
 
@@ -81,8 +82,8 @@ freeBelow (suc k) m = cond (object m k .live) (freeBelow k m) k
 -- the owner makes room where none is; then the subject creates an object, labels it and asks to read it
 unfoldable pub readAt : Monitor → ℕ → ℕ → Level → List Request
 readAt m o s l =
-    cond (object m o .live) (Delete (object m o .owner) o ∷ Create s o false ∷ ChangeLevel s o l ∷ Get s o Read ∷ [])
-    (Create s o false ∷ ChangeLevel s o l ∷ Get s o Read ∷ [])
+    cond (object m o .live) (Delete (object m o .owner) o ∷ Create s o (creation false) ∷ ChangeLevel s o l ∷ Get s o Read ∷ [])
+    (Create s o (creation false) ∷ ChangeLevel s o l ∷ Get s o Read ∷ [])
 
 -- another clearance: s reads at a level that one of the two does not dominate, 8 or not
 unfoldable pub toClearance : Monitor → ℕ → Label → Label → List Request

@@ -11,7 +11,7 @@ with-set-requires c κs = tt
 
 returns : tie.Need-returns
 returns c =
-    let e : c .before .if1 .modes ≡ cond (c .before .before .args .execute) 15 14 =
+    let e : c .before .if1 .modes ≡ cond (c .before .before .args .how .execute) 15 14 =
     ⊎-elim (λ w. w .1 ∙ rw (w .0 .taken)) (λ w. w .1 ∙ rw (w .0 .left)) (c .before .if1 .came) in
     rw (c .with-set .ensures, e)
 
