@@ -17,6 +17,7 @@ use Rattle.model.specs.State.{noObject, LabelFits, WellFormedObject}
 use Rattle.model.specs.Layout.{labelBits, setsBits, objectBits}
 use Rattle.model.specs.Reading.{labelFrom, labelForm, rightsFrom, heldFrom, liveFrom, objectFrom, objectForm}
 use Rattle.model.proofs.Tests.{split}
+use Rattle.model.proofs.Equal.{object-ext}
 
 -- ---- labels
 
@@ -149,7 +150,7 @@ object-read u ob F =
     let rows = sets-read 16 (ob .rights) (ob .held) P Q (F .rights-fit) (F .held-fit) in
     let rights-eq : map rightsFrom (cut 16 8 (drop 25 t)) ≡ ob .rights = ap (λ (k : List Bool). map rightsFrom (cut 16 8 k)) (sets-part ob P Q) ∙ rows .0 in
     let held-eq : map heldFrom (cut 16 8 (drop 25 t)) ≡ ob .held = ap (λ (k : List Bool). map heldFrom (cut 16 8 k)) (sets-part ob P Q) ∙ rows .1 in
-    let full : liveFrom b ≡ ob = λ j. record { live = live-eq j; owner = owner-eq j; label = label-eq j; rights = rights-eq j; held = held-eq j } in
+    let full = object-ext (liveFrom b) ob live-eq owner-eq label-eq rights-eq held-eq in
     ap (λ (k : Bool). cond k (liveFrom b) noObject) e ∙ full)
     (λ e. ap (λ (k : Bool). cond k (liveFrom b) noObject) e ∙ sym (F .not-live e))
 
