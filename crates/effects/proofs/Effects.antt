@@ -34,14 +34,14 @@ module _ (m : Monitor) (W : WellFormed m) where
   effect-of : (q : Request) → InRange q → (n : Monitor) → object n (target q) ≡ changed q (object m (target q)) → Effect q n
   unfolding changed has
   effect-of (Get s o x) r n e =
-      ap (λ (k : Object). has x (heldBy k s)) e ∙ ap (has x) (held-stored (object m o) (W .objects-formed o) s _ (r .0)) ∙ add-has x _ (W .objects-formed o .held-fit s)
+      ap (λ (k : Object). has x (heldBy k s)) e ∙ ap (has x) (held-stored (object m o) (W .objects-formed o) s _ (r .0)) ∙ add-has x _ (W .objects-formed o .shape .held-fit s)
   effect-of (Release s o x) r n e =
-      λ w. apart w (ap (λ (k : Object). has x (heldBy k s)) e ∙ ap (has x) (held-stored (object m o) (W .objects-formed o) s _ (r .0)) ∙ remove-has x _ (W .objects-formed o .held-fit s))
+      λ w. apart w (ap (λ (k : Object). has x (heldBy k s)) e ∙ ap (has x) (held-stored (object m o) (W .objects-formed o) s _ (r .0)) ∙ remove-has x _ (W .objects-formed o .shape .held-fit s))
   effect-of (Give s t o x) r n e =
-      ap (λ (k : Object). has x (rightsOf k t)) e ∙ ap (has x) (rights-stored (object m o) (W .objects-formed o) t _ (r .1)) ∙ add-has x _ (W .objects-formed o .rights-fit t)
+      ap (λ (k : Object). has x (rightsOf k t)) e ∙ ap (has x) (rights-stored (object m o) (W .objects-formed o) t _ (r .1)) ∙ add-has x _ (W .objects-formed o .shape .rights-fit t)
   effect-of (Rescind s t o x) r n e = (
-    λ w. apart w (ap (λ (k : Object). has x (rightsOf k t)) e ∙ ap (has x) (rights-stored (object m o) (W .objects-formed o) t _ (r .1)) ∙ remove-has x _ (W .objects-formed o .rights-fit t)),
-    λ w. apart w (ap (λ (k : Object). has x (heldBy k t)) e ∙ ap (has x) (held-stored (object m o) (W .objects-formed o) t _ (r .1)) ∙ remove-has x _ (W .objects-formed o .held-fit t)),
+    λ w. apart w (ap (λ (k : Object). has x (rightsOf k t)) e ∙ ap (has x) (rights-stored (object m o) (W .objects-formed o) t _ (r .1)) ∙ remove-has x _ (W .objects-formed o .shape .rights-fit t)),
+    λ w. apart w (ap (λ (k : Object). has x (heldBy k t)) e ∙ ap (has x) (held-stored (object m o) (W .objects-formed o) t _ (r .1)) ∙ remove-has x _ (W .objects-formed o .shape .held-fit t)),
   )
   effect-of (Create s o c) r n e =
       let v = c .execute in

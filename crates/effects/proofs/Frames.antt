@@ -105,8 +105,8 @@ changed-rights : (q : Request) (m : Monitor) → WellFormed m → object m (targ
 unfolding changed
 changed-rights (Get s o y) m W live g t x e = inl e
 changed-rights (Release s o y) m W live g t x e = inl e
-changed-rights (Give s u o y) m W live g t x e = or-else (λ p. (s, λ i. Give s (p .0 i) o (p .1 i))) (row-add (object m o .rights) u y x (W .objects-formed o .rights-fit) t e)
-changed-rights (Rescind s u o y) m W live g t x e = inl (row-remove (object m o .rights) u y x (W .objects-formed o .rights-fit) t e)
+changed-rights (Give s u o y) m W live g t x e = or-else (λ p. (s, λ i. Give s (p .0 i) o (p .1 i))) (row-add (object m o .rights) u y x (W .objects-formed o .shape .rights-fit) t e)
+changed-rights (Rescind s u o y) m W live g t x e = inl (row-remove (object m o .rights) u y x (W .objects-formed o .shape .rights-fit) t e)
 changed-rights (Create s o c) m W live g t x e = apart live (create-finds s o c m g)
 changed-rights (Delete s o) m W live g t x e = none-held x _ (no-modes t) e
 changed-rights (ChangeLevel s o l) m W live g t x e = inl e
@@ -115,10 +115,10 @@ changed-access : (q : Request) (m : Monitor) → WellFormed m → object m (targ
     → (t : ℕ) (x : Mode) → has x (heldBy (changed q (object m (target q))) t) ≡ true
     → (has x (heldBy (object m (target q)) t) ≡ true) ⊎ GetsAccess q t (target q) x
 unfolding changed
-changed-access (Get s o y) m W live g t x e = or-else (λ p. λ i. Get (p .0 i) o (p .1 i)) (row-add (object m o .held) s y x (W .objects-formed o .held-fit) t e)
-changed-access (Release s o y) m W live g t x e = inl (row-remove (object m o .held) s y x (W .objects-formed o .held-fit) t e)
+changed-access (Get s o y) m W live g t x e = or-else (λ p. λ i. Get (p .0 i) o (p .1 i)) (row-add (object m o .held) s y x (W .objects-formed o .shape .held-fit) t e)
+changed-access (Release s o y) m W live g t x e = inl (row-remove (object m o .held) s y x (W .objects-formed o .shape .held-fit) t e)
 changed-access (Give s u o y) m W live g t x e = inl e
-changed-access (Rescind s u o y) m W live g t x e = inl (row-remove (object m o .held) u y x (W .objects-formed o .held-fit) t e)
+changed-access (Rescind s u o y) m W live g t x e = inl (row-remove (object m o .held) u y x (W .objects-formed o .shape .held-fit) t e)
 changed-access (Create s o c) m W live g t x e = apart live (create-finds s o c m g)
 changed-access (Delete s o) m W live g t x e = none-held x _ (no-modes t) e
 changed-access (ChangeLevel s o l) m W live g t x e = inl e
@@ -129,8 +129,8 @@ kept-right : (q : Request) (m : Monitor) → WellFormed m → object m (target q
 unfolding changed
 kept-right (Get s o y) m W live g stays t x e = inl e
 kept-right (Release s o y) m W live g stays t x e = inl e
-kept-right (Give s u o y) m W live g stays t x e = inl (row-add-keeps (object m o .rights) u y x (W .objects-formed o .rights-fit) t e)
-kept-right (Rescind s u o y) m W live g stays t x e = or-else (λ p. (s, λ i. Rescind s (p .0 i) o (p .1 i))) (row-remove-keeps (object m o .rights) u y x (W .objects-formed o .rights-fit) t e)
+kept-right (Give s u o y) m W live g stays t x e = inl (row-add-keeps (object m o .rights) u y x (W .objects-formed o .shape .rights-fit) t e)
+kept-right (Rescind s u o y) m W live g stays t x e = or-else (λ p. (s, λ i. Rescind s (p .0 i) o (p .1 i))) (row-remove-keeps (object m o .rights) u y x (W .objects-formed o .shape .rights-fit) t e)
 kept-right (Create s o c) m W live g stays t x e = apart live (create-finds s o c m g)
 kept-right (Delete s o) m W live g stays t x e = clash (sym stays)
 kept-right (ChangeLevel s o l) m W live g stays t x e = inl e
@@ -139,10 +139,10 @@ kept-access : (q : Request) (m : Monitor) → WellFormed m → object m (target 
     → (t : ℕ) (x : Mode) → has x (heldBy (object m (target q)) t) ≡ true
     → (has x (heldBy (changed q (object m (target q))) t) ≡ true) ⊎ EndsAccess q t (target q) x
 unfolding changed
-kept-access (Get s o y) m W live g stays t x e = inl (row-add-keeps (object m o .held) s y x (W .objects-formed o .held-fit) t e)
-kept-access (Release s o y) m W live g stays t x e = or-else (λ p. inl (λ i. Release (p .0 i) o (p .1 i))) (row-remove-keeps (object m o .held) s y x (W .objects-formed o .held-fit) t e)
+kept-access (Get s o y) m W live g stays t x e = inl (row-add-keeps (object m o .held) s y x (W .objects-formed o .shape .held-fit) t e)
+kept-access (Release s o y) m W live g stays t x e = or-else (λ p. inl (λ i. Release (p .0 i) o (p .1 i))) (row-remove-keeps (object m o .held) s y x (W .objects-formed o .shape .held-fit) t e)
 kept-access (Give s u o y) m W live g stays t x e = inl e
-kept-access (Rescind s u o y) m W live g stays t x e = or-else (λ p. inr (s, λ i. Rescind s (p .0 i) o (p .1 i))) (row-remove-keeps (object m o .held) u y x (W .objects-formed o .held-fit) t e)
+kept-access (Rescind s u o y) m W live g stays t x e = or-else (λ p. inr (s, λ i. Rescind s (p .0 i) o (p .1 i))) (row-remove-keeps (object m o .held) u y x (W .objects-formed o .shape .held-fit) t e)
 kept-access (Create s o c) m W live g stays t x e = apart live (create-finds s o c m g)
 kept-access (Delete s o) m W live g stays t x e = clash (sym stays)
 kept-access (ChangeLevel s o l) m W live g stays t x e = inl e

@@ -39,11 +39,11 @@ module _ (m : Monitor) (W : WellFormed m) where
       → changed q (object m (target q)) ≡ object m (target q) → ⊥
   unfolding already changed
   record-differs (Get s o x) r g e w =
-      apart (sym (ap (has x) (held-now o s _ (r .0) w)) ∙ add-has x _ (W .objects-formed o .held-fit s)) e
+      apart (sym (ap (has x) (held-now o s _ (r .0) w)) ∙ add-has x _ (W .objects-formed o .shape .held-fit s)) e
   record-differs (Release s o x) r g e w =
-      apart (not-off _ e) (sym (ap (has x) (held-now o s _ (r .0) w)) ∙ remove-has x _ (W .objects-formed o .held-fit s))
+      apart (not-off _ e) (sym (ap (has x) (held-now o s _ (r .0) w)) ∙ remove-has x _ (W .objects-formed o .shape .held-fit s))
   record-differs (Give s t o x) r g e w =
-      apart (sym (ap (has x) (rights-now o t _ (r .1) w)) ∙ add-has x _ (W .objects-formed o .rights-fit t)) e
+      apart (sym (ap (has x) (rights-now o t _ (r .1) w)) ∙ add-has x _ (W .objects-formed o .shape .rights-fit t)) e
   record-differs (Rescind s t o x) r g e w =
       let F = W .objects-formed o in
       let rights : remove x (rightsOf (object m o) t) ≡ rightsOf (object m o) t =
@@ -51,7 +51,7 @@ module _ (m : Monitor) (W : WellFormed m) where
       let held : remove x (heldBy (object m o) t) ≡ heldBy (object m o) t =
       sym (held-stored (object m o) F t _ (r .1)) ∙ ap (λ (b : Object). heldBy b t) w in
       apart
-      (and-both (ap not (sym (ap (has x) rights) ∙ remove-has x _ (F .rights-fit t))) (ap not (sym (ap (has x) held) ∙ remove-has x _ (F .held-fit t))))
+      (and-both (ap not (sym (ap (has x) rights) ∙ remove-has x _ (F .shape .rights-fit t))) (ap not (sym (ap (has x) held) ∙ remove-has x _ (F .shape .held-fit t))))
       e
   record-differs (Create s o c) r g e w =
       apart (ap (λ (k : Object). k .live) (sym w)) (not-on _ (granted-create m s o c g .free))

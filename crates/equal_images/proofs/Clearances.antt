@@ -140,7 +140,7 @@ module _ (s o : ℕ) (l : Level) (s-below : s < 16) (o-below : o < 64) (fits : L
       cond-all (λ (qs : List Request). Differs qs m n) (object m o .live) _ _
       (λ live.
       let live-too : object n o .live ≡ true = sym (ap (λ (k : Object). k .live) same) ∙ live in
-      let own : InRange (Delete w o) = (S .formed .objects-formed o .owner-fits, o-below) in
+      let own : InRange (Delete w o) = (S .formed .objects-formed o .shape .owner-fits, o-below) in
       let gm : checks (Delete w o) m ≡ Granted = delete-granted m S o live in
       let gn : checks (Delete w o) n ≡ Granted =
       subst (λ (k : ℕ). checks (Delete k o) n ≡ Granted) (sym (ap (λ (k : Object). k .owner) same)) (delete-granted n N o live-too) in
@@ -153,7 +153,7 @@ module _ (s o : ℕ) (l : Level) (s-below : s < 16) (o-below : o < 64) (fits : L
   unfolding readAt
   read-in-range m S =
       cond-all AllInRange (object m o .live) _ _
-      (λ live. ((S .formed .objects-formed o .owner-fits, o-below), ((s-below, o-below), ((s-below, o-below, fits), ((s-below, o-below), tt)))))
+      (λ live. ((S .formed .objects-formed o .shape .owner-fits, o-below), ((s-below, o-below), ((s-below, o-below, fits), ((s-below, o-below), tt)))))
       (λ free. ((s-below, o-below), ((s-below, o-below, fits), ((s-below, o-below), tt))))
 
   read-short : (m : Monitor) → length (readAt m o s l) ≤ 4

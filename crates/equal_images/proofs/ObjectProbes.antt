@@ -69,7 +69,7 @@ module _ (m n : Monitor) (S : Sound m) (N : Sound n) where
       live-or-same : {P : Type 0} → (object m o .live ≡ true → object n o .live ≡ true → P) → (object m o ≡ object n o → P) → P
       live-or-same f g =
           split (object m o .live) (λ a. f a (sym alive ∙ a))
-          (λ a. g (S .formed .objects-formed o .not-live a ∙ sym (N .formed .objects-formed o .not-live (sym alive ∙ a))))
+          (λ a. g (S .formed .objects-formed o .shape .not-live a ∙ sym (N .formed .objects-formed o .shape .not-live (sym alive ∙ a))))
 
       probe-owner : Probe m n (byOwner m n o) (object m o .owner ≡ object n o .owner)
       unfolding byOwner

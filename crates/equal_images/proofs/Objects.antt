@@ -106,8 +106,8 @@ module _ (m n : Monitor) (S : Sound m) (N : Sound n) where
         let F = S .formed .objects-formed o in
         let w = object m o .owner in
         let q = Release w o Read in (
-          (F .owner-fits, o-below),
-          tells-refusal q m n NotLive refl (pass _ NotEnrolled _ (there w (F .owner-fits) (F .owner-enrolled a)) ∙ stop _ NotLive _ b)
+          (F .shape .owner-fits, o-below),
+          tells-refusal q m n NotLive refl (pass _ NotEnrolled _ (there w (F .shape .owner-fits) (F .owner-enrolled a)) ∙ stop _ NotLive _ b)
               (λ e. distinct _ _ refl (sym (release-granted m w o Read (F .owner-enrolled a) a) ∙ e)),
         )
 
@@ -118,9 +118,9 @@ module _ (m n : Monitor) (S : Sound m) (N : Sound n) where
       tells-owner h =
           let F = S .formed .objects-formed o in
           let w = object m o .owner in (
-            (F .owner-fits, o-below),
+            (F .shape .owner-fits, o-below),
             tells-refusal (Delete w o) m n NoRight refl
-                (pass _ NotEnrolled _ (there w (F .owner-fits) (F .owner-enrolled a)) ∙ pass _ NotLive _ b ∙ stop _ NoRight _ (not-owned h))
+                (pass _ NotEnrolled _ (there w (F .shape .owner-fits) (F .owner-enrolled a)) ∙ pass _ NotLive _ b ∙ stop _ NoRight _ (not-owned h))
                 (λ e. distinct _ _ refl (sym (delete-granted m S o a) ∙ e)),
           )
         where
@@ -135,7 +135,7 @@ module _ (m n : Monitor) (S : Sound m) (N : Sound n) where
       unfolding already
       tells-label l e h =
           let F = S .formed .objects-formed o in (
-            (F .owner-fits, o-below, subst LabelFits e (F .label-fits)),
+            (F .shape .owner-fits, o-below, subst LabelFits e (F .shape .label-fits)),
             tells-already (ChangeLevel (object m o .owner) o l) m n (change-granted m S o l a e) (label-same _ _ e) h,
           )
 

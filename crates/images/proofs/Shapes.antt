@@ -3,56 +3,34 @@
 use Prim.Native.Nat.{ℕ, _<_}
 use native.Mathlib.Omega.{arith}
 use mathlib.Core.Path.{_≡_, _∙_}
-use mathlib.Core.Bool.{Bool, false}
-use mathlib.Core.List.{List, []}
+use mathlib.Core.Bool.{Bool}
+use mathlib.Core.List.{List}
 use lib.ListN.{length, take, drop, length-map}
 use Rattle.bits.specs.Bits.{bytesToBits, first}
 use Rattle.bits.specs.Laws.{fromBits-take}
 use Rattle.bits.specs.Records.{length-cut}
 use Rattle.model.specs.declared.Label.the-variants.{Absent}
 use Rattle.model.specs.declared.Subject.{Subject}
-use Rattle.model.specs.declared.Object.{Object}
 use Rattle.model.specs.declared.Monitor.{Monitor}
-use Rattle.model.specs.State.{nobody, noObject, clearance, object, rightsOf, heldBy, LabelFits, WellFormedObject, WellFormed}
+use Rattle.model.specs.State.{nobody, noObject, object, LabelFits, ObjectShape, WellFormed}
 use Rattle.model.specs.Layout.{tableSize}
 use Rattle.model.specs.Reading.{labelFrom, subjectFrom, rightsFrom, heldFrom, setsIn, liveFrom, objectFrom, tableRecords, objectRecords, tableFrom, objectsFrom, monitorFrom}
 use Rattle.model.proofs.Tests.{cond-all, map-all, clash}
-use Rattle.invariants.proofs.Form.{no-object-formed}
+use Rattle.invariants.proofs.Form.{no-object-shape}
 use Rattle.images.specs.Tables.{TableFits}
 
--- a record that is well formed, but for who is enrolled
-pub record ObjectShape (ob : Object) : Type 0 where
-  pub rights-length : length (ob .rights) ≡ 16
-  pub held-length : length (ob .held) ≡ 16
-  pub rights-fit : (s : ℕ) → rightsOf ob s < 16
-  pub held-fit : (s : ℕ) → heldBy ob s < 16
-  pub owner-fits : ob .owner < 16
-  pub label-fits : LabelFits (ob .label)
-  pub not-live : ob .live ≡ false → ob ≡ noObject
-
+-- a state that is well formed, but for who is enrolled
 pub record Shape (m : Monitor) : Type 0 where
   pub table : TableFits (m .subjects)
   pub objects-length : length (m .objects) ≡ 64
   pub objects : (o : ℕ) → ObjectShape (object m o)
-
-pub formed-shape : {l : List Subject} (ob : Object) → WellFormedObject l ob → ObjectShape ob
-formed-shape ob F =
-    record {
-      rights-length = F .rights-length;
-      held-length = F .held-length;
-      rights-fit = F .rights-fit;
-      held-fit = F .held-fit;
-      owner-fits = F .owner-fits;
-      label-fits = F .label-fits;
-      not-live = F .not-live;
-    }
 
 pub shape-of : (m : Monitor) → WellFormed m → Shape m
 shape-of m W =
     record {
       table = record { subjects-length = W .subjects-length; clearances-fit = W .clearances-fit };
       objects-length = W .objects-length;
-      objects = λ o. formed-shape (object m o) (W .objects-formed o);
+      objects = λ o. W .objects-formed o .shape;
     }
 
 label-shape : (b : List Bool) → LabelFits (labelFrom b)
@@ -70,9 +48,6 @@ live-shape b =
       label-fits = label-shape (take 21 (drop 5 b));
       not-live = λ e. clash e;
     }
-
-no-object-shape : ObjectShape noObject
-no-object-shape = formed-shape noObject (no-object-formed [])
 
 object-shape : (b : List Bool) → ObjectShape (objectFrom b)
 unfolding objectFrom

@@ -13,7 +13,7 @@ use Rattle.model.specs.declared.Mode.{Mode}
 use Rattle.model.specs.Tests.{allOf, implies}
 use Rattle.model.specs.Levels.{present, subset}
 use Rattle.model.specs.Modes.{has, anyNeedsLabel}
-use Rattle.model.specs.State.{noObject, clearanceAt, object, rightsOf, heldBy, WellFormedObject, WellFormed}
+use Rattle.model.specs.State.{noObject, clearanceAt, object, rightsOf, heldBy, ObjectShape, WellFormedObject, WellFormed}
 use Rattle.model.specs.Properties.{Discretionary, Labelled, Simple, Star}
 use Rattle.model.specs.Rules.{simpleAll, starAll}
 use Rattle.model.specs.Reading.{onlyEnrolled, withinMatrix, heldLabelled}
@@ -22,7 +22,7 @@ use Rattle.model.proofs.Modes.{subset-in, subset-out, any-needs-label, needs-la
 use Rattle.invariants.proofs.Form.{no-modes, no-object-formed}
 use Rattle.invariants.proofs.Pairs.{none-held}
 use Rattle.invariants.proofs.Secure.{simple-in, simple-out, star-all-in, star-all-out, star-for, star-of}
-use Rattle.images.proofs.Shapes.{ObjectShape, Shape}
+use Rattle.images.proofs.Shapes.{Shape}
 
 -- ---- only enrolled subjects own, have rights or hold
 
@@ -31,13 +31,7 @@ module _ (l : List Subject) where
   unfolding onlyEnrolled
   object-enrolled ob S e =
       record {
-        rights-length = S .rights-length;
-        held-length = S .held-length;
-        rights-fit = S .rights-fit;
-        held-fit = S .held-fit;
-        owner-fits = S .owner-fits;
-        label-fits = S .label-fits;
-        not-live = S .not-live;
+        shape = S;
         owner-enrolled = implies-out _ _ (and-left (implies (ob .live) (present (clearanceAt l (ob .owner)))) _ e);
         absent-rights = row-all (λ s k. present (clearanceAt l s) ≡ false → k ≡ 0) (ob .rights) (S .rights-length) (λ s h p. both s h p .0) (λ s p. refl);
         absent-held = row-all (λ s k. present (clearanceAt l s) ≡ false → k ≡ 0) (ob .held) (S .held-length) (λ s h p. both s h p .1) (λ s p. refl);

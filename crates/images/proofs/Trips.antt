@@ -70,7 +70,7 @@ module _ (m : Monitor) (S : Sound m) where
   table-fits = record { subjects-length = S .formed .subjects-length; clearances-fit = S .formed .clearances-fit }
 
   each-object : (i : ℕ) → length (objectBits (object m i)) ≡ 154
-  each-object i = object-length (object m i) (S .formed .objects-formed i .rights-length) (S .formed .objects-formed i .held-length)
+  each-object i = object-length (object m i) (S .formed .objects-formed i .shape .rights-length) (S .formed .objects-formed i .shape .held-length)
 
   objects-length : length (objectsBits (m .objects)) ≡ 9856
   objects-length = length-join objectBits 154 noObject (m .objects) each-object ∙ omega (arith, S .formed .objects-length)

@@ -30,7 +30,7 @@ module _ (m : Monitor) (S : Sound m) (s o : ℕ) (x : Mode) (s-below : s < 16) (
   holds-now =
       ap (λ (b : Object). has x (heldBy b s)) there-now
       ∙ ap (has x) (held-stored (object m o) (S .formed .objects-formed o) s _ s-below)
-      ∙ add-has x _ (S .formed .objects-formed o .held-fit s)
+      ∙ add-has x _ (S .formed .objects-formed o .shape .held-fit s)
 
   -- the simple property of that state, tested at the actor and the object
   pub simple-get-out : Simple (withAccess m s o x) → implies (observes x) (dominates (clearance m s) (object m o .label)) ≡ true
@@ -43,6 +43,6 @@ module _ (m : Monitor) (S : Sound m) (s o : ℕ) (x : Mode) (s-below : s < 16) (
       (λ j. S .secure .simple t j y)
       (set-all (λ u k. has y k ≡ true → observes y ≡ true → Dominates (clearance m u) (object m o .label)) (object m o .held) s _ 0
       (λ u. S .secure .simple u o y)
-      (λ w n. held-add x y _ (S .formed .objects-formed o .held-fit s) w
+      (λ w n. held-add x y _ (S .formed .objects-formed o .shape .held-fit s) w
       (λ q. dominates-decides _ _ .0 (implies-out _ _ e (sym (ap observes q) ∙ n))) (λ q. S .secure .simple s o y q n)) t)
       p

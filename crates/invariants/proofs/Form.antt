@@ -15,7 +15,7 @@ use Rattle.model.specs.declared.Request.{Request}
 use Rattle.model.specs.declared.Request.the-variants.{Get, Release, Give, Rescind, Create, Delete, ChangeLevel}
 use Rattle.model.specs.declared.Decision.the-variants.{Granted}
 use Rattle.model.specs.Levels.{present}
-use Rattle.model.specs.State.{noModes, noObject, clearanceAt, enrolled, object, rightsOf, withHeld, withRights, WellFormedObject, WellFormed}
+use Rattle.model.specs.State.{noModes, noObject, clearanceAt, enrolled, object, rightsOf, withHeld, withRights, ObjectShape, WellFormedObject, WellFormed}
 use Rattle.model.specs.Modes.{remove}
 use Rattle.model.specs.Requests.{InRange}
 use Rattle.model.specs.Rules.{target, changed, checks, created}
@@ -32,17 +32,23 @@ enrolled-below [] s e = clash (sym e)
 enrolled-below (x ∷ xs) zero e = omega arith
 enrolled-below (x ∷ xs) (suc s) e = let h : s < length xs = enrolled-below xs s e in omega arith
 
+pub no-object-shape : ObjectShape noObject
+no-object-shape =
+    record {
+      rights-length = refl;
+      held-length = refl;
+      rights-fit = λ s. subst (λ (n : ℕ). n < 16) (sym (no-modes s)) (lit< tt);
+      held-fit = λ s. subst (λ (n : ℕ). n < 16) (sym (no-modes s)) (lit< tt);
+      owner-fits = lit< tt;
+      label-fits = tt;
+      not-live = λ e. refl;
+    }
+
 module _ (l : List Subject) where
   pub no-object-formed : WellFormedObject l noObject
   no-object-formed =
       record {
-        rights-length = refl;
-        held-length = refl;
-        rights-fit = λ s. subst (λ (n : ℕ). n < 16) (sym (no-modes s)) (lit< tt);
-        held-fit = λ s. subst (λ (n : ℕ). n < 16) (sym (no-modes s)) (lit< tt);
-        owner-fits = lit< tt;
-        label-fits = tt;
-        not-live = λ e. refl;
+        shape = no-object-shape;
         owner-enrolled = λ e. clash (sym e);
         absent-rights = λ s e. no-modes s;
         absent-held = λ s e. no-modes s;
@@ -52,14 +58,17 @@ module _ (l : List Subject) where
   held-formed : (ob : Object) (s n : ℕ) → WellFormedObject l ob → ob .live ≡ true → present (clearanceAt l s) ≡ true → n < 16
       → WellFormedObject l (withHeld ob s n)
   held-formed ob s n F live there fits =
+      let S = F .shape in
       record {
-        rights-length = F .rights-length;
-        held-length = length-set (ob .held) s n ∙ F .held-length;
-        rights-fit = F .rights-fit;
-        held-fit = set-all (λ j k. k < 16) (ob .held) s n 0 (F .held-fit) fits;
-        owner-fits = F .owner-fits;
-        label-fits = F .label-fits;
-        not-live = λ e. apart live e;
+        shape = record {
+          rights-length = S .rights-length;
+          held-length = length-set (ob .held) s n ∙ S .held-length;
+          rights-fit = S .rights-fit;
+          held-fit = set-all (λ j k. k < 16) (ob .held) s n 0 (S .held-fit) fits;
+          owner-fits = S .owner-fits;
+          label-fits = S .label-fits;
+          not-live = λ e. apart live e;
+        };
         owner-enrolled = F .owner-enrolled;
         absent-rights = F .absent-rights;
         absent-held = set-all (λ j k. present (clearanceAt l j) ≡ false → k ≡ 0) (ob .held) s n 0 (F .absent-held) (λ e. apart there e);
@@ -68,14 +77,17 @@ module _ (l : List Subject) where
   rights-formed : (ob : Object) (s n : ℕ) → WellFormedObject l ob → ob .live ≡ true → present (clearanceAt l s) ≡ true → n < 16
       → WellFormedObject l (withRights ob s n)
   rights-formed ob s n F live there fits =
+      let S = F .shape in
       record {
-        rights-length = length-set (ob .rights) s n ∙ F .rights-length;
-        held-length = F .held-length;
-        rights-fit = set-all (λ j k. k < 16) (ob .rights) s n 0 (F .rights-fit) fits;
-        held-fit = F .held-fit;
-        owner-fits = F .owner-fits;
-        label-fits = F .label-fits;
-        not-live = λ e. apart live e;
+        shape = record {
+          rights-length = length-set (ob .rights) s n ∙ S .rights-length;
+          held-length = S .held-length;
+          rights-fit = set-all (λ j k. k < 16) (ob .rights) s n 0 (S .rights-fit) fits;
+          held-fit = S .held-fit;
+          owner-fits = S .owner-fits;
+          label-fits = S .label-fits;
+          not-live = λ e. apart live e;
+        };
         owner-enrolled = F .owner-enrolled;
         absent-rights = set-all (λ j k. present (clearanceAt l j) ≡ false → k ≡ 0) (ob .rights) s n 0 (F .absent-rights) (λ e. apart there e);
         absent-held = F .absent-held;
@@ -84,13 +96,15 @@ module _ (l : List Subject) where
   created-formed : (s : ℕ) (c : Creation) → s < 16 → present (clearanceAt l s) ≡ true → WellFormedObject l (created s c)
   created-formed s c h there =
       record {
-        rights-length = length-set noModes s (cond (c .execute) 15 14);
-        held-length = refl;
-        rights-fit = set-all (λ j k. k < 16) noModes s (cond (c .execute) 15 14) 0 (no-object-formed .rights-fit) (fits (c .execute));
-        held-fit = no-object-formed .held-fit;
-        owner-fits = h;
-        label-fits = tt;
-        not-live = λ w. clash w;
+        shape = record {
+          rights-length = length-set noModes s (cond (c .execute) 15 14);
+          held-length = refl;
+          rights-fit = set-all (λ j k. k < 16) noModes s (cond (c .execute) 15 14) 0 (no-object-shape .rights-fit) (fits (c .execute));
+          held-fit = no-object-shape .held-fit;
+          owner-fits = h;
+          label-fits = tt;
+          not-live = λ w. clash w;
+        };
         owner-enrolled = λ w. there;
         absent-rights = set-all (λ j k. present (clearanceAt l j) ≡ false → k ≡ 0) noModes s (cond (c .execute) 15 14) 0 (no-object-formed .absent-rights) (λ w. apart there w);
         absent-held = no-object-formed .absent-held;
@@ -107,37 +121,40 @@ module _ (m : Monitor) where
   changed-formed (Get s o x) r W e =
       let F = W .objects-formed o in
       let g = granted-get m s o x e in
-      held-formed (m .subjects) (object m o) s _ F (g .live) (g .there) (add-fits x _ (F .held-fit s))
+      held-formed (m .subjects) (object m o) s _ F (g .live) (g .there) (add-fits x _ (F .shape .held-fit s))
   changed-formed (Release s o x) r W e =
       let F = W .objects-formed o in
       let g = granted-release m s o x e in
-      held-formed (m .subjects) (object m o) s _ F (g .live) (g .there) (remove-fits x _ (F .held-fit s))
+      held-formed (m .subjects) (object m o) s _ F (g .live) (g .there) (remove-fits x _ (F .shape .held-fit s))
   changed-formed (Give s t o x) r W e =
       let F = W .objects-formed o in
       let g = granted-give m s t o x e in
-      rights-formed (m .subjects) (object m o) t _ F (g .live) (and-right (enrolled m s) _ (g .there)) (add-fits x _ (F .rights-fit t))
+      rights-formed (m .subjects) (object m o) t _ F (g .live) (and-right (enrolled m s) _ (g .there)) (add-fits x _ (F .shape .rights-fit t))
   changed-formed (Rescind s t o x) r W e =
       let F = W .objects-formed o in
       let g = granted-rescind m s t o x e in
       let there = and-right (enrolled m s) (enrolled m t) (g .there) in
       held-formed (m .subjects) (withRights (object m o) t (remove x (rightsOf (object m o) t))) t _
-      (rights-formed (m .subjects) (object m o) t _ F (g .live) there (remove-fits x _ (F .rights-fit t)))
-      (g .live) there (remove-fits x _ (F .held-fit t))
+      (rights-formed (m .subjects) (object m o) t _ F (g .live) there (remove-fits x _ (F .shape .rights-fit t)))
+      (g .live) there (remove-fits x _ (F .shape .held-fit t))
   changed-formed (Create s o c) r W e =
       let g = granted-create m s o c e in
       created-formed (m .subjects) s c (r .0) (g .there)
   changed-formed (Delete s o) r W e = no-object-formed (m .subjects)
   changed-formed (ChangeLevel s o v) r W e =
       let F = W .objects-formed o in
+      let S = F .shape in
       let g = granted-change m s o v e in
       record {
-        rights-length = F .rights-length;
-        held-length = F .held-length;
-        rights-fit = F .rights-fit;
-        held-fit = F .held-fit;
-        owner-fits = F .owner-fits;
-        label-fits = r .2;
-        not-live = λ w. apart (g .live) w;
+        shape = record {
+          rights-length = S .rights-length;
+          held-length = S .held-length;
+          rights-fit = S .rights-fit;
+          held-fit = S .held-fit;
+          owner-fits = S .owner-fits;
+          label-fits = r .2;
+          not-live = λ w. apart (g .live) w;
+        };
         owner-enrolled = F .owner-enrolled;
         absent-rights = F .absent-rights;
         absent-held = F .absent-held;

@@ -85,7 +85,7 @@ module _ {A : Type 0} (matters : Mode → Bool) (view : Object → A) (R : Mode 
         | yes q ↦ split (matters x)
             (λ w. subst (λ (i : ℕ). PairsFor R i (afterwards (Get s o x) m .objects)) (sym q) (there w))
             (λ w. pairs-less j (m .objects) o _ (before j)
-            (less-held (object m o) s _ (λ y f r. held-add x y _ (W .objects-formed o .held-fit s) r (λ p. apart (sym (ap matters p) ∙ f) w) (λ p. p)) j))
+            (less-held (object m o) s _ (λ y f r. held-add x y _ (W .objects-formed o .shape .held-fit s) r (λ p. apart (sym (ap matters p) ∙ f) w) (λ p. p)) j))
         | no h ↦ pairs-less j (m .objects) o _ (before j) (less-other (object m o) s _ j h)
       ]
 
@@ -93,12 +93,12 @@ module _ {A : Type 0} (matters : Mode → Bool) (view : Object → A) (R : Mode 
   unfolding changed
   pairs-fewer (Get s o x) m W before f j = absurd f
   pairs-fewer (Release s o x) m W before f j =
-      pairs-less j (m .objects) o _ (before j) (less-held (object m o) s _ (λ y g r. held-remove x y _ (W .objects-formed o .held-fit s) r) j)
+      pairs-less j (m .objects) o _ (before j) (less-held (object m o) s _ (λ y g r. held-remove x y _ (W .objects-formed o .shape .held-fit s) r) j)
   pairs-fewer (Give s t o x) m W before f j =
       pairs-less j (m .objects) o _ (before j) (record { keeps = λ y g r. (r, rights-unseen (object m o) t _) })
   pairs-fewer (Rescind s t o x) m W before f j =
       let new = withRights (object m o) t (remove x (rightsOf (object m o) t)) in
-      let less = less-held new t _ (λ y g r. held-remove x y _ (W .objects-formed o .held-fit t) r) j in
+      let less = less-held new t _ (λ y g r. held-remove x y _ (W .objects-formed o .shape .held-fit t) r) j in
       pairs-less j (m .objects) o _ (before j)
       (record { keeps = λ y g r. let p = less .keeps y g r in (p .0, p .1 ∙ rights-unseen (object m o) t _) })
   pairs-fewer (Create s o c) m W before f j = pairs-free j (m .objects) o _ (before j) (no-modes j)

@@ -82,10 +82,10 @@ module _ (l : List Subject) where
 
 module _ (m : Monitor) (W : WellFormed m) (S : Secure m) where
   fits : (s o : ℕ) → heldBy (object m o) s < 16
-  fits s o = W .objects-formed o .held-fit s
+  fits s o = W .objects-formed o .shape .held-fit s
 
   rights-fit : (s o : ℕ) → rightsOf (object m o) s < 16
-  rights-fit s o = W .objects-formed o .rights-fit s
+  rights-fit s o = W .objects-formed o .shape .rights-fit s
 
   -- a set with one mode less keeps what the set had
   less-secure : (s o : ℕ) (x : Mode) → SecureObject (m .subjects) (withHeld (object m o) s (remove x (heldBy (object m o) s)))
@@ -122,7 +122,7 @@ module _ (m : Monitor) (W : WellFormed m) (S : Secure m) where
       let L = less-secure t o x in
       record {
         discretionary = λ j y w. set-two (λ j h r. has y h ≡ true → has y r ≡ true) (object m o .held) (object m o .rights)
-            (F .held-length ∙ sym (F .rights-length)) t _ 0 _ 0 (λ j. S .discretionary j o y)
+            (F .shape .held-length ∙ sym (F .shape .rights-length)) t _ 0 _ 0 (λ j. S .discretionary j o y)
             (λ v.
             let u : (not (sameMode y x) && has y (heldBy (object m o) t)) ≡ true = sym (has-remove y x _ (fits t o)) ∙ v in
             has-remove y x _ (rights-fit t o)
@@ -137,7 +137,7 @@ module _ (m : Monitor) (W : WellFormed m) (S : Secure m) where
       record {
         discretionary = λ j. S .discretionary j o;
         labelled = λ j y w n. refl;
-        simple = simple-out (m .subjects) (withLabel (object m o) (Present v)) (W .objects-formed o .held-length) (granted-change m s o v e .simple);
+        simple = simple-out (m .subjects) (withLabel (object m o) (Present v)) (W .objects-formed o .shape .held-length) (granted-change m s o v e .simple);
       }
 
 -- ---- star: a property of pairs

@@ -76,7 +76,7 @@ sound-afterwards q m r S e =
       };
       secure = secure-of (afterwards q m)
           (objects-after (λ j ob. SecureObject (m .subjects) ob) q m (object-secure m (S .secure)) (changed-secure m W (S .secure) q e))
-          (changed-star q m W (S .secure) (λ o. F o .held-length) e);
+          (changed-star q m W (S .secure) (λ o. F o .shape .held-length) e);
     }
 
 pub sound-step : (q : Request) (m : Monitor) → InRange q → Sound m → Sound (step q m .monitor)

@@ -90,8 +90,8 @@ abbrev pub LabelFits : Label → Type 0
 LabelFits Absent = Unit {0}
 LabelFits (Present l) = LevelFits l
 
--- the record of an object, beside the subjects of its monitor
-pub record WellFormedObject (l : List Subject) (ob : Object) : Type 0 where
+-- the record of an object by itself
+pub record ObjectShape (ob : Object) : Type 0 where
   pub rights-length : length (ob .rights) ≡ subjectCount
   pub held-length : length (ob .held) ≡ subjectCount
   pub rights-fit : (s : ℕ) → rightsOf ob s < 16
@@ -100,6 +100,10 @@ pub record WellFormedObject (l : List Subject) (ob : Object) : Type 0 where
   pub label-fits : LabelFits (ob .label)
   -- "An object that isn't live has no owner, label, right or access"
   pub not-live : ob .live ≡ false → ob ≡ noObject
+
+-- the record of an object, beside the subjects of its monitor
+pub record WellFormedObject (l : List Subject) (ob : Object) : Type 0 where
+  pub shape : ObjectShape ob
   -- "an absent subject owns nothing and has no right or access"
   pub owner-enrolled : ob .live ≡ true → present (clearanceAt l (ob .owner)) ≡ true
   pub absent-rights : (s : ℕ) → present (clearanceAt l s) ≡ false → rightsOf ob s ≡ 0

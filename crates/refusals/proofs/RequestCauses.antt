@@ -96,7 +96,7 @@ module _ (m : Monitor) (S : Sound m) where
     simple-change-in e t p y =
         objects-after (λ j ob. has y (heldBy ob t) ≡ true → observes y ≡ true → Dominates (clearance m t) (ob .label)) (ChangeLevel s o l) m
         (λ j. S .secure .simple t j y)
-        (simple-out (m .subjects) (withLabel (object m o) (Present l)) (S .formed .objects-formed o .held-length) e t y) p
+        (simple-out (m .subjects) (withLabel (object m o) (Present l)) (S .formed .objects-formed o .shape .held-length) e t y) p
 
     simple-change-out : Simple (afterwards (ChangeLevel s o l) m) → simpleAll (m .subjects) (changed (ChangeLevel s o l) (object m o)) ≡ true
     unfolding changed
@@ -108,7 +108,7 @@ module _ (m : Monitor) (S : Sound m) where
     unfolding changed
     star-change-in e =
         star-of (afterwards (ChangeLevel s o l) m)
-        (star-all-out _ (objects-after (λ j ob. length (ob .held) ≡ 16) (ChangeLevel s o l) m (λ j. S .formed .objects-formed j .held-length) (S .formed .objects-formed o .held-length)) e)
+        (star-all-out _ (objects-after (λ j ob. length (ob .held) ≡ 16) (ChangeLevel s o l) m (λ j. S .formed .objects-formed j .shape .held-length) (S .formed .objects-formed o .shape .held-length)) e)
 
   -- a get: simple at the actor and the object
   simple-after-get : (s o : ℕ) (x : Mode) → InRange (Get s o x) → implies (observes x) (dominates (clearance m s) (object m o .label)) ≡ true
