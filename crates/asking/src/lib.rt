@@ -28,7 +28,7 @@ fn carry_out(unit: &mut [[u8; 16]], q: Request) -> u8
         Request::Release(s, o, x) => release(unit, s, o, x),
         Request::Give(s, t, o, x) => give(unit, s, t, o, x),
         Request::Rescind(s, t, o, x) => rescind(unit, s, t, o, x),
-        Request::Create(s, o, execute) => create(unit, s, o, execute),
+        Request::Create(s, o, how) => create(unit, s, o, how),
         Request::Delete(s, o) => delete(unit, s, o),
         Request::ChangeLevel(s, o, level) => change_level(unit, s, o, level),
     }

@@ -24,7 +24,7 @@ use Rattle.model.proofs.Tests.{cond-false, passed, apart}
 use Rattle.model.proofs.Checks.{granted-or-refusal}
 use Rattle.image_records.specs.declared.TableRead.{TableRead}
 use Rattle.image_records.specs.Records.{subjectsRead}
-use Rattle.security.proofs.Trips.{subjects-written}
+use Rattle.images.proofs.Trips.{subjects-written}
 
 -- the bytes of the object records where no object is live
 abbrev zeros : List ℕ

@@ -20,15 +20,15 @@ use Rattle.model.specs.Layout.{imageOf}
 use Rattle.model.specs.Reading.{readTable, readImage}
 use Rattle.model.specs.Beginnings.{table, image, Accepted, AllBytes}
 use Rattle.model.proofs.Tests.{cond-false}
-use Rattle.security.specs.Inputs.{SixEach}
-use Rattle.security.specs.Distinguish.{distinguish}
-use Rattle.security.specs.Sound.{Sound}
-use Rattle.security.proofs.Steps.{sound-respond, sound-after}
-use Rattle.security.proofs.Reached.{sound-begun}
-use Rattle.security.proofs.Demand3.{same-replies}
-use Rattle.security.proofs.RoundTrips.{image-length, write-0-fills, image-reads}
-use Rattle.security.proofs.ToldApart.{written-back, equal-images-told, different-images-told}
-use Rattle.security.proofs.Programs.{cut-whole}
+use Rattle.runs.specs.Inputs.{SixEach}
+use Rattle.telling.specs.Distinguish.{distinguish}
+use Rattle.invariants.specs.Sound.{Sound}
+use Rattle.invariants.proofs.Steps.{sound-respond, sound-after}
+use Rattle.images.proofs.Reached.{sound-begun}
+use Rattle.equal_images.proofs.Demand3.{same-replies}
+use Rattle.images.proofs.RoundTrips.{image-length, write-0-fills, image-reads}
+use Rattle.equal_images.proofs.ToldApart.{written-back, equal-images-told, different-images-told}
+use Rattle.runs.proofs.Programs.{cut-whole}
 use Rattle.distinguish.proofs.Storing.{length-encode}
 use Rattle.capi.specs.Boundary.{beginBytes, requestNumber, requestBytes, distinguishNumber, distinguishBytes}
 use Rattle.capi.specs.Calls.{numbers, bytesLeft}

@@ -19,10 +19,10 @@ use Rattle.model.specs.Writing.{writing}
 use Rattle.model.specs.Program.{pieces}
 use Rattle.model.specs.Beginnings.{table, image, Accepted}
 use Rattle.model.proofs.Tests.{cond-true, cond-false}
-use Rattle.security.specs.Inputs.{SixEach}
-use Rattle.security.specs.Distinguish.{distinguish}
-use Rattle.security.proofs.RoundTrips.{write-13-exactly, write-0-exactly, write-13-leaves, write-0-fills}
-use Rattle.security.proofs.Programs.{whole-length, pieces-whole, pieces-short}
+use Rattle.runs.specs.Inputs.{SixEach}
+use Rattle.telling.specs.Distinguish.{distinguish}
+use Rattle.images.proofs.RoundTrips.{write-13-exactly, write-0-exactly, write-13-leaves, write-0-fills}
+use Rattle.runs.proofs.Programs.{whole-length, pieces-whole, pieces-short}
 use Rattle.turns.specs.Turns.{pieceCount}
 use Rattle.replay.specs.Replay.{replayAnswer, replayed}
 use Rattle.distinguish.specs.Telling.{bytesOf, noRoom, toldNumber, toldBytes}

@@ -18,11 +18,11 @@ use Rattle.model.specs.Layout.{imageSize, imageOf}
 use Rattle.model.specs.Reading.{readImage}
 use Rattle.model.specs.Writing.{writing, written}
 use Rattle.model.specs.Beginnings.{Beginning, begun, Accepted, left, AllBytes}
-use Rattle.security.specs.Distinguish.{distinguish}
-use Rattle.security.proofs.Reached.{reached-left, sound-left, fills}
-use Rattle.security.proofs.Demand2.{always-secure}
-use Rattle.security.proofs.Demand3.{distinguishes, distinguishes-not, demand-3}
-use Rattle.security.proofs.RoundTrips.{read-written}
+use Rattle.telling.specs.Distinguish.{distinguish}
+use Rattle.images.proofs.Reached.{reached-left, sound-left, fills}
+use Rattle.effects.proofs.Demand2.{always-secure}
+use Rattle.equal_images.proofs.Demand3.{distinguishes, distinguishes-not, demand-3}
+use Rattle.images.proofs.RoundTrips.{read-written}
 use Rattle.unit.specs.Rows.{rowCount, stateIn}
 use Rattle.unit.proofs.Units.{unit-length}
 use Rattle.image.proofs.Sizes.{begun-says}

@@ -2,6 +2,7 @@
 ghost use mathlib.Core.Path.{_≡_};
 ghost use Rattle.model.specs.Requests.{modeAllowed, unusedZero, wellFormed, modeOf, request, decodeFields, decode};
 ghost use Rattle.decoding.specs.Word.{fieldsOfWord};
+use model::Creation;
 use model::Decoded;
 use model::Fields;
 use model::Level;
@@ -83,7 +84,13 @@ fn request_of(f: Fields) -> Request
         2 => Request::Release(f.actor, f.object, x),
         3 => Request::Give(f.actor, f.other, f.object, x),
         4 => Request::Rescind(f.actor, f.other, f.object, x),
-        5 => Request::Create(f.actor, f.object, f.mode == 4),
+        5 => Request::Create(
+            f.actor,
+            f.object,
+            Creation {
+                execute: f.mode == 4,
+            },
+        ),
         6 => Request::Delete(f.actor, f.object),
         _ => Request::ChangeLevel(f.actor, f.object, l),
     }

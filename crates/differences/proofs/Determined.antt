@@ -17,7 +17,7 @@ actor (Get s o x) = s
 actor (Release s o x) = s
 actor (Give s t o x) = s
 actor (Rescind s t o x) = s
-actor (Create s o e) = s
+actor (Create s o c) = s
 actor (Delete s o) = s
 actor (ChangeLevel s o l) = s
 
@@ -29,7 +29,7 @@ levelOf (Get s o x) = none
 levelOf (Release s o x) = none
 levelOf (Give s t o x) = none
 levelOf (Rescind s t o x) = none
-levelOf (Create s o e) = none
+levelOf (Create s o c) = none
 levelOf (Delete s o) = none
 levelOf (ChangeLevel s o l) = l
 

@@ -9,7 +9,7 @@ use mathlib.Core.Bool.{true, false}
 use mathlib.Core.List.{List, []}
 use Rattle.model.specs.declared.Request.{Request}
 use Rattle.model.proofs.Tests.{clash}
-use Rattle.security.specs.Distinguish.{orElse, search}
+use Rattle.telling.specs.Distinguish.{orElse, search}
 use Rattle.differences.specs.declared.sequence.Sequence.{Sequence}
 use Rattle.differences.specs.declared.sequence.Sequence.the-variants.{Nothing, One, Reading, Replacing}
 use Rattle.differences.specs.Sequences.{found, requestsOf}

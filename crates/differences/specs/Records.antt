@@ -17,7 +17,7 @@ use Rattle.model.specs.declared.Request.the-variants.{Get, Release, Delete, Cha
 use Rattle.model.specs.Levels.{dominates, present, sameLabel}
 use Rattle.model.specs.Modes.{has}
 use Rattle.model.specs.State.{subjectCount, objectCount, clearanceAt, objectAt}
-use Rattle.security.specs.Distinguish.{orElse, search, searchModes, when, differ}
+use Rattle.telling.specs.Distinguish.{orElse, search, searchModes, when, differ}
 use Rattle.differences.specs.declared.sequence.Place.{Place}
 use Rattle.differences.specs.Sequences.{readingAt, requestsOf}
 

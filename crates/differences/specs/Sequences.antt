@@ -7,6 +7,7 @@ use Rattle.model.specs.declared.Level.{Level}
 use Rattle.model.specs.declared.Mode.the-variants.{Read}
 use Rattle.model.specs.declared.Request.{Request}
 use Rattle.model.specs.declared.Request.the-variants.{Get, Create, Delete, ChangeLevel}
+use Rattle.model.specs.Requests.{creation}
 use Rattle.differences.specs.declared.sequence.Place.{Place}
 use Rattle.differences.specs.declared.sequence.Sequence.{Sequence}
 use Rattle.differences.specs.declared.sequence.Sequence.the-variants.{Nothing, One, Reading, Replacing}
@@ -20,7 +21,7 @@ found (Replacing w o s l) = true
 
 -- subject s creates object o, labels it and asks to read it
 abbrev pub readingOf : ℕ → ℕ → Level → List Request
-readingOf s o l = Create s o false ∷ ChangeLevel s o l ∷ Get s o Read ∷ []
+readingOf s o l = Create s o (creation false) ∷ ChangeLevel s o l ∷ Get s o Read ∷ []
 
 -- the requests in their order
 abbrev pub requestsOf : Sequence → List Request

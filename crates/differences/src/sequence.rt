@@ -1,6 +1,6 @@
 // A sequence of requests that two states answer differently, as a value: no request, one, or those that end in a reading.
 ghost use mathlib.Core.Path.{_≡_};
-ghost use Rattle.security.specs.Distinguish.{orElse, when, differ};
+ghost use Rattle.telling.specs.Distinguish.{orElse, when, differ};
 ghost use Rattle.differences.specs.Sequences.{found, readingAt, requestsOf};
 use model::Level;
 use model::Request;

@@ -11,7 +11,7 @@ use Rattle.model.specs.declared.Monitor.{Monitor}
 use Rattle.model.specs.declared.Request.{Request}
 use Rattle.model.specs.Levels.{dominates}
 use Rattle.model.specs.State.{clearance, object}
-use Rattle.security.specs.Distinguish.{orElse, search, searchModes, byEnrolment, byLife, byOwner, toLabel, byLabel, byRight, byAccess, byObject, freeBelow, readAt, toClearance, byClearance, distinguish}
+use Rattle.telling.specs.Distinguish.{orElse, search, searchModes, byEnrolment, byLife, byOwner, toLabel, byLabel, byRight, byAccess, byObject, freeBelow, readAt, toClearance, byClearance, distinguish}
 use Rattle.differences.specs.declared.sequence.Sequence.{Sequence}
 use Rattle.differences.specs.Sequences.{found, readingAt, requestsOf}
 use Rattle.differences.specs.Records.{lifeApart, ownerApart, labelApart, modeApart, setApart, rowApart, objectApart, objectsApart, enrolmentApart, enrolmentsApart, freeOf, freePlace, levelApart, clearanceApart, clearancesApart}

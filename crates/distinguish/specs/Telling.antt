@@ -11,7 +11,7 @@ use Rattle.model.specs.declared.Request.{Request}
 use Rattle.model.specs.declared.Decision.the-variants.{ShortBuffer}
 use Rattle.model.specs.Decisions.{number}
 use Rattle.model.specs.Requests.{requestSize, encode}
-use Rattle.security.specs.Distinguish.{distinguish}
+use Rattle.telling.specs.Distinguish.{distinguish}
 
 -- the bytes of requests, one behind the other
 unfoldable pub bytesOf : List Request → List ℕ

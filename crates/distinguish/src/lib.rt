@@ -4,7 +4,7 @@ ghost use Prim.Native.Nat.{_+_, _≤_};
 ghost use lib.ListN.{length};
 ghost use lib.Seq.{sets};
 ghost use Rattle.model.specs.Requests.{encode};
-ghost use Rattle.security.specs.Distinguish.{distinguish};
+ghost use Rattle.telling.specs.Distinguish.{distinguish};
 ghost use Rattle.unit.specs.Rows.{rowCount, stateIn};
 ghost use Rattle.differences.specs.Sequences.{readingOf, requestsOf};
 ghost use Rattle.distinguish.specs.Telling.{bytesOf, toldNumber, toldBytes};
@@ -16,6 +16,7 @@ use differences::is_found;
 use differences::objects_apart;
 use encoding::encode;
 use labels::number;
+use model::Creation;
 use model::Decision;
 use model::Level;
 use model::Mode;
@@ -63,7 +64,7 @@ fn write_reading(out: &mut [u8], at: usize, s: u8, o: u8, l: Level)
     requires { ⌜ at + 18 ≤ length (now out) ⌝ }
     ensures { λ _. ⌜ now (out .exit) ≡ sets (now (out .entry)) at (bytesOf (readingOf s o l)) ⌝ }
 {
-    write_request(out, at, Request::Create(s, o, false));
+    write_request(out, at, Request::Create(s, o, Creation { execute: false }));
     write_request(out, at + 6, Request::ChangeLevel(s, o, l));
     write_request(out, at + 12, Request::Get(s, o, Mode::Read));
 }

@@ -42,8 +42,8 @@ fn fields_of(q: Request) -> Fields
         Request::Release(s, o, x) => without_level(2, s, 0, o, mode_number(x)),
         Request::Give(s, t, o, x) => without_level(3, s, t, o, mode_number(x)),
         Request::Rescind(s, t, o, x) => without_level(4, s, t, o, mode_number(x)),
-        Request::Create(s, o, execute) => {
-            let mode = if execute { 4 } else { 0 };
+        Request::Create(s, o, how) => {
+            let mode = if how.execute { 4 } else { 0 };
             without_level(5, s, 0, o, mode)
         }
         Request::Delete(s, o) => without_level(6, s, 0, o, 0),

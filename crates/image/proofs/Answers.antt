@@ -1,6 +1,6 @@
 -- The answers of the readers: the checks in their order, and the rows of the monitor of each answer.
 -- Assumes nothing.
-use mathlib.Core.Path.{_≡_, sym, ap, ap₂, _∙_}
+use mathlib.Core.Path.{_≡_, sym, ap, ap₂, _∙_, subst}
 use mathlib.Core.Bool.{Bool, true, false, _&&_}
 use mathlib.Core.List.{List}
 use Prim.Native.Nat.{ℕ, _-_}
@@ -59,8 +59,8 @@ module _ (s : List ℕ) (size : length s ≡ 1274) (t : TableRead) (t-is : t ≡
     pub image-rows : w ≡ unitOf (monitorFrom s)
     unfolding monitorFrom
     image-rows =
-        stored-over (t .subjects) (objectsFrom (take (length s - 42) (drop 42 s))) u w begun kept stored
-        ∙ ap₂ (λ (r : TableRead) (part : List ℕ). unitOf (record { subjects = r .subjects; objects = objectsFrom part })) table-is rest
+        stored-over (monitorFrom s) u w (begun ∙ ap (λ (r : TableRead). unitOf (fresh (r .subjects))) table-is) kept
+        (subst (λ (part : List ℕ). ObjectsStored (objectsFrom part) w 64) rest stored)
 
     pub image-answer : (k d : Decision) → k ≡ stateChecks (stateIn w) → d ≡ unless (t .formed && formed) StrayBits k → d ≡ imageChecks s
     unfolding imageForm imageChecks stateChecks

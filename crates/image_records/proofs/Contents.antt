@@ -17,7 +17,7 @@ use Rattle.model.specs.declared.Level.{Level}
 use Rattle.model.specs.declared.Label.the-variants.{Absent, Present}
 use Rattle.model.specs.declared.Object.{Object}
 use Rattle.model.specs.Levels.{present}
-use Rattle.model.specs.State.{noObject}
+use Rattle.model.specs.State.{noObject, withOwner, withLabel, withRows}
 use Rattle.model.specs.Reading.{fieldOf, labelFrom, labelForm, rightsFrom, heldFrom, objectFrom, objectForm}
 use Rattle.image_records.specs.declared.FlagRead.{FlagRead}
 use Rattle.image_records.specs.declared.LabelRead.{LabelRead}
@@ -130,10 +130,10 @@ module _ (b : List Bool) (f : FlagRead) (pf : f ≡ flagOf (take 5 b)) (a : Labe
       rw (sym (flag-first b f pf) ∙ h) (λ i. record { object = e i; formed = blank i })
 
   pub object-on : (v : Bool) → v ≡ present (a .label) → f .flag ≡ true
-      → record { object = record { live = true; owner = f .number; label = a .label; rights = u .rights; held = u .held }; formed = v || a .blank } ≡ objectOf b
+      → record { object = withRows (withLabel (withOwner noObject (f .number)) (a .label)) (u .rights) (u .held); formed = v || a .blank } ≡ objectOf b
   unfolding objectFrom objectForm
   object-on v e h =
       let c = flag-number b f pf in
       let formed-eq = ap (λ (x : Bool). x || a .blank) e ∙ label-formed (take 21 (drop 5 b)) a pa in
       rw (sym (flag-first b f pf) ∙ h)
-      (λ i. record { object = record { live = true; owner = c i; label = pa i .label; rights = pu i .rights; held = pu i .held }; formed = formed-eq i })
+      (λ i. record { object = withRows (withLabel (withOwner noObject (c i)) (pa i .label)) (pu i .rights) (pu i .held); formed = formed-eq i })

@@ -27,7 +27,7 @@ stored-state (Get s o x) u n r = held-stored u n o (r .1) s _
 stored-state (Release s o x) u n r = held-stored u n o (r .1) s _
 stored-state (Give s t o x) u n r = rights-stored u n o (r .2) t _
 stored-state (Rescind s t o x) u n r = sets-stored u n o (r .2) t _ _
-stored-state (Create s o e) u n r = object-stored u o (created s e) n (r .1)
+stored-state (Create s o c) u n r = object-stored u o (created s c) n (r .1)
 stored-state (Delete s o) u n r = object-stored u o noObject n (r .1)
 stored-state (ChangeLevel s o l) u n r = label-stored u n o (r .1) (Present l)
 
@@ -38,7 +38,7 @@ stores-length (Get s o x) u = simp length-set
 stores-length (Release s o x) u = simp length-set
 stores-length (Give s t o x) u = simp length-set
 stores-length (Rescind s t o x) u = simp length-set
-stores-length (Create s o e) u = simp length-set
+stores-length (Create s o c) u = simp length-set
 stores-length (Delete s o) u = simp length-set
 stores-length (ChangeLevel s o l) u = simp length-set
 

@@ -19,7 +19,7 @@ stores (Get s o x) u = setHeld u o s (add x (heldBy (object (stateIn u) o) s))
 stores (Release s o x) u = setHeld u o s (remove x (heldBy (object (stateIn u) o) s))
 stores (Give s t o x) u = setRights u o t (add x (rightsOf (object (stateIn u) o) t))
 stores (Rescind s t o x) u = setHeld (setRights u o t (remove x (rightsOf (object (stateIn u) o) t))) o t (remove x (heldBy (object (stateIn u) o) t))
-stores (Create s o e) u = setObject u o (created s e)
+stores (Create s o c) u = setObject u o (created s c)
 stores (Delete s o) u = setObject u o noObject
 stores (ChangeLevel s o l) u = setLabel u o (Present l)
 

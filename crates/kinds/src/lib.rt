@@ -19,6 +19,7 @@ use labels::needs_label;
 use labels::number;
 use labels::observes;
 use labels::refuses;
+use model::Creation;
 use model::Decision;
 use model::Label;
 use model::Level;
@@ -152,11 +153,11 @@ fn may_give(unit: &[[u8; 16]], s: u8, t: u8, o: u8, x: Mode) -> Decision
     check(enrolled, Decision::NotEnrolled, live)
 }
 
-// 5: live, unlabelled, owned by the actor, who gains r, w, a, and e if execute says so.
-pub fn create(unit: &mut [[u8; 16]], s: u8, o: u8, execute: bool) -> u8
+// 5: live, unlabelled, owned by the actor, who gains r, w, a, and e if how says so.
+pub fn create(unit: &mut [[u8; 16]], s: u8, o: u8, how: Creation) -> u8
     requires { do ⌜ (← ⟦unit.len()⟧) ≡ rowCount ⌝ }
     requires { ⌜ (s < subjectCount) × (o < objectCount) ⌝ }
-    ensures { λ r. ⌜ Does (Request.Create s o execute) (now (unit .entry)) (now (unit .exit)) r ⌝ }
+    ensures { λ r. ⌜ Does (Request.Create s o how) (now (unit .entry)) (now (unit .exit)) r ⌝ }
 {
     let free = check(!is_live(unit, o), Decision::AlreadyLive, Decision::Granted);
     let d = check(is_enrolled(unit, s), Decision::NotEnrolled, free);
@@ -165,7 +166,7 @@ pub fn create(unit: &mut [[u8; 16]], s: u8, o: u8, execute: bool) -> u8
     }
     let none = [0u8; Monitor::SUBJECTS];
     let mut rights = none;
-    rights[s as usize] = owner_rights(execute);
+    rights[s as usize] = owner_rights(how.execute);
     let rest = row_of(1, s, Label::Absent);
     set_rows(unit, o, rights, none, rest);
     0

@@ -29,7 +29,7 @@ objects-after P q m = set-all P (m .objects) (target q) (changed q (object m (ta
 
 -- the set of a subject after a store there
 pub rights-stored : {l : List Subject} (ob : Object) → WellFormedObject l ob → (s n : ℕ) → s < 16 → rightsOf (withRights ob s n) s ≡ n
-rights-stored ob F s n h = getD-set-same (ob .rights) s n 0 (omega (arith, h, F .rights-length))
+rights-stored ob F s n h = getD-set-same (ob .rights) s n 0 (omega (arith, h, F .shape .rights-length))
 
 pub held-stored : {l : List Subject} (ob : Object) → WellFormedObject l ob → (s n : ℕ) → s < 16 → heldBy (withHeld ob s n) s ≡ n
-held-stored ob F s n h = getD-set-same (ob .held) s n 0 (omega (arith, h, F .held-length))
+held-stored ob F s n h = getD-set-same (ob .held) s n 0 (omega (arith, h, F .shape .held-length))

@@ -11,7 +11,7 @@ use Rattle.model.specs.declared.Object.{Object}
 use Rattle.model.specs.State.{noObject, objectAt}
 use Rattle.model.proofs.Tests.{any-default}
 
--- what it reads past the end of the array, which is not the definition's record
+-- what it reads past the end of the array: the default of the logic for each field, so it is written out and not made from `noObject`
 abbrev pub blank : Object
 blank = record { live = false; owner = 0; label = Absent; rights = []; held = [] }
 

@@ -13,7 +13,8 @@ use Rattle.model.specs.declared.Mode.the-variants.{Read, Write, Append, 
 use Rattle.model.specs.declared.Request.the-variants.{Get, Release, Give, Rescind, Create, Delete, ChangeLevel}
 use Rattle.model.specs.declared.Decoded.the-variants.{Says}
 use Rattle.model.specs.Levels.{need}
-use Rattle.model.specs.Requests.{fields, modeAllowed, unusedZero, wellFormed, request, decodeFields, decode}
+use Rattle.model.specs.State.{noObject, withOwner, withLabel, withRows}
+use Rattle.model.specs.Requests.{fields, modeAllowed, unusedZero, wellFormed, request, creation, decodeFields, decode}
 use Rattle.model.specs.Layout.{labelWidth, objectWidth, tableWidth, tableSize, objectsWidth, objectsSize, imageSize, labelBits, setsBits, objectBits}
 use Rattle.model.specs.Reading.{labelFrom, labelForm, objectFrom, objectForm}
 
@@ -45,8 +46,8 @@ pub every-kind : map decode
     ∷ Release 5 42 Write
     ∷ Give 5 9 42 Append
     ∷ Rescind 5 9 42 Execute
-    ∷ Create 5 42 true
-    ∷ Create 5 42 false
+    ∷ Create 5 42 (creation true)
+    ∷ Create 5 42 (creation false)
     ∷ Delete 5 42
     ∷ ChangeLevel 5 42 (level 11 0x1234)
     ∷ [])
@@ -70,13 +71,9 @@ every-size = (refl, refl, refl, refl, refl, refl)
 -- 15 has r, a and e and holds e
 abbrev trace : Object
 trace =
-    record {
-      live = true;
-      owner = 5;
-      label = Present (level 9 0x1234);
-      rights = 12 ∷ 6 ∷ 0 ∷ 0 ∷ 0 ∷ 15 ∷ 0 ∷ 0 ∷ 0 ∷ 0 ∷ 0 ∷ 0 ∷ 0 ∷ 0 ∷ 0 ∷ 11 ∷ [];
-      held = 8 ∷ 2 ∷ 0 ∷ 0 ∷ 0 ∷ 4 ∷ 0 ∷ 0 ∷ 0 ∷ 0 ∷ 0 ∷ 0 ∷ 0 ∷ 0 ∷ 0 ∷ 1 ∷ [];
-    }
+    withRows (withLabel (withOwner noObject 5) (Present (level 9 0x1234)))
+    (12 ∷ 6 ∷ 0 ∷ 0 ∷ 0 ∷ 15 ∷ 0 ∷ 0 ∷ 0 ∷ 0 ∷ 0 ∷ 0 ∷ 0 ∷ 0 ∷ 0 ∷ 11 ∷ [])
+    (8 ∷ 2 ∷ 0 ∷ 0 ∷ 0 ∷ 4 ∷ 0 ∷ 0 ∷ 0 ∷ 0 ∷ 0 ∷ 0 ∷ 0 ∷ 0 ∷ 0 ∷ 1 ∷ [])
 
 -- "live 1, owner 4, label present 1, class 4, needs 16, then for subjects 0 to 15 four right bits and four access bits, each r, w, a, e":
 -- 1 0101 1 1001 0001001000110100, then 1100 1000, 0110 0010, three times 0, 1111 0100, nine times 0, 1011 0001, and six bits behind it

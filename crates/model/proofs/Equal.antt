@@ -36,8 +36,8 @@ pub object-same : {k l : List Subject} (a b : Object) → WellFormedObject k a �
     → ((s : ℕ) → s < 16 → (x : Mode) → has x (heldBy a s) ≡ has x (heldBy b s)) → a ≡ b
 object-same a b F G live owner label rights held =
     object-ext a b live owner label
-    (row-ext (a .rights) (b .rights) (F .rights-length) (G .rights-length) (F .rights-fit) (G .rights-fit) rights)
-    (row-ext (a .held) (b .held) (F .held-length) (G .held-length) (F .held-fit) (G .held-fit) held)
+    (row-ext (a .rights) (b .rights) (F .shape .rights-length) (G .shape .rights-length) (F .shape .rights-fit) (G .shape .rights-fit) rights)
+    (row-ext (a .held) (b .held) (F .shape .held-length) (G .shape .held-length) (F .shape .held-fit) (G .shape .held-fit) held)
 
 pub state-same : (m n : Monitor) → WellFormed m → WellFormed n
     → ((s : ℕ) → s < 16 → clearance m s ≡ clearance n s) → ((o : ℕ) → o < 64 → object m o ≡ object n o) → m ≡ n

@@ -7,6 +7,7 @@ use mathlib.Core.List.{_∷_}
 use lib.ListN.{replicate}
 use Rattle.model.specs.declared.Label.{Label}
 use Rattle.model.specs.declared.Label.the-variants.{Absent, Present}
+use Rattle.model.specs.declared.Object.{Object}
 use Rattle.model.specs.declared.Monitor.{Monitor}
 use Rattle.model.specs.declared.Mode.the-variants.{Read, Write, Append, Execute}
 use Rattle.model.specs.declared.Request.the-variants.{Get, Give, Rescind, Delete, ChangeLevel}
@@ -14,7 +15,8 @@ use Rattle.model.specs.declared.Decision.the-variants.{Granted, NotLive,
 use Rattle.model.specs.Tests.{implies, unless}
 use Rattle.model.specs.Levels.{dominates, levelDominates}
 use Rattle.model.specs.Modes.{has, add, remove}
-use Rattle.model.specs.State.{noObject, nobody, object, rightsOf, heldBy, withObject, fresh}
+use Rattle.model.specs.State.{noObject, nobody, object, rightsOf, heldBy, withOwner, withLabel, withRows, withObject, fresh}
+use Rattle.model.specs.Requests.{creation}
 use Rattle.model.specs.Rules.{created, changed, checks, simpleAll, starPair, starFrom, starFor}
 
 abbrev level : ℕ → ℕ → Label
@@ -24,7 +26,11 @@ level class needs = Present (record { class = class; needs = needs })
 abbrev state : Label → ℕ → ℕ → Monitor
 state label held0 held1 =
     withObject (fresh (record { clearance = level 1 1 } ∷ record { clearance = level 3 3 } ∷ replicate 14 nobody)) 0
-    (record { live = true; owner = 1; label = label; rights = 9 ∷ 15 ∷ replicate 14 0; held = held0 ∷ held1 ∷ replicate 14 0 })
+    (withRows (withLabel (withOwner noObject 1) label) (9 ∷ 15 ∷ replicate 14 0) (held0 ∷ held1 ∷ replicate 14 0))
+
+-- an object of class 0 on which everybody has every right, and subject 1 holds the set
+abbrev low : ℕ → Object
+low held = withRows (withLabel (withOwner noObject 1) (level 0 0)) (replicate 16 15) (0 ∷ held ∷ replicate 14 0)
 
 -- an absent label is not class 0 with no needs: r, w and a are refused, e is not
 pub unlabelled-closed : (checks (Get 1 0 Read) (state Absent 0 0) ≡ NoLabel) × (checks (Get 1 0 Append) (state Absent 0 0) ≡ NoLabel)
@@ -47,8 +53,8 @@ apart-is-refused = (refl, refl)
 
 -- give and rescind need ownership and the right itself; the right alone, or ownership alone, is not enough
 pub give-needs-both : (checks (Give 0 1 0 Read) (state Absent 0 0) ≡ NoRight)
-    × (checks (Give 1 0 1 Execute) (withObject (state Absent 0 0) 1 (created 1 false)) ≡ NoRight)
-    × (checks (Give 1 0 1 Read) (withObject (state Absent 0 0) 1 (created 1 false)) ≡ Granted)
+    × (checks (Give 1 0 1 Execute) (withObject (state Absent 0 0) 1 (created 1 (creation false))) ≡ NoRight)
+    × (checks (Give 1 0 1 Read) (withObject (state Absent 0 0) 1 (created 1 (creation false))) ≡ Granted)
 unfolding checks has unless
 give-needs-both = (refl, refl, refl)
 
@@ -73,8 +79,8 @@ unfolding checks changed has implies unless simpleAll dominates levelDominates
 change-looks-at-all = refl
 
 -- star: who reads class 1 may not append to class 0, and who appends only reads nothing
-pub star-one-way : (starFor 1 (withObject (state (level 1 1) 0 8) 1 (record { live = true; owner = 1; label = level 0 0; rights = replicate 16 15; held = 0 ∷ 2 ∷ replicate 14 0 }) .objects) ≡ false)
-    × (starFor 1 (withObject (state (level 1 1) 0 2) 1 (record { live = true; owner = 1; label = level 0 0; rights = replicate 16 15; held = 0 ∷ 8 ∷ replicate 14 0 }) .objects) ≡ true)
+pub star-one-way : (starFor 1 (withObject (state (level 1 1) 0 8) 1 (low 2) .objects) ≡ false)
+    × (starFor 1 (withObject (state (level 1 1) 0 2) 1 (low 8) .objects) ≡ true)
 unfolding starFor starFrom starPair has implies dominates levelDominates
 star-one-way = (refl, refl)
 

@@ -7,8 +7,8 @@ pub mod Levels
 pub mod Packing
 pub mod Requests
 pub mod Lists
-pub mod Records
 pub mod Equal
+pub mod Records
 pub mod After
 pub mod Examples
 pub mod RuleExamples

@@ -17,6 +17,7 @@ use Rattle.model.specs.State.{noObject, LabelFits, WellFormedObject}
 use Rattle.model.specs.Layout.{labelBits, setsBits, objectBits}
 use Rattle.model.specs.Reading.{labelFrom, labelForm, rightsFrom, heldFrom, liveFrom, objectFrom, objectForm}
 use Rattle.model.proofs.Tests.{split}
+use Rattle.model.proofs.Equal.{object-ext}
 
 -- ---- labels
 
@@ -140,18 +141,18 @@ object-read u ob F =
     let b = objectBits ob in
     split (ob .live)
     (λ e.
-    let P = F .rights-length in
-    let Q = F .held-length in
+    let P = F .shape .rights-length in
+    let Q = F .shape .held-length in
     let t = tail-of ob P Q in
     let live-eq : true ≡ ob .live = sym e in
-    let owner-eq : fromBits (take 4 t) ≡ ob .owner = ap fromBits (owner-part ob P Q) ∙ fromBits-toBits 4 (F .owner-fits) in
-    let label-eq : labelFrom (take 21 (drop 4 t)) ≡ ob .label = ap labelFrom (label-part ob P Q) ∙ label-read (ob .label) (F .label-fits) in
-    let rows = sets-read 16 (ob .rights) (ob .held) P Q (F .rights-fit) (F .held-fit) in
+    let owner-eq : fromBits (take 4 t) ≡ ob .owner = ap fromBits (owner-part ob P Q) ∙ fromBits-toBits 4 (F .shape .owner-fits) in
+    let label-eq : labelFrom (take 21 (drop 4 t)) ≡ ob .label = ap labelFrom (label-part ob P Q) ∙ label-read (ob .label) (F .shape .label-fits) in
+    let rows = sets-read 16 (ob .rights) (ob .held) P Q (F .shape .rights-fit) (F .shape .held-fit) in
     let rights-eq : map rightsFrom (cut 16 8 (drop 25 t)) ≡ ob .rights = ap (λ (k : List Bool). map rightsFrom (cut 16 8 k)) (sets-part ob P Q) ∙ rows .0 in
     let held-eq : map heldFrom (cut 16 8 (drop 25 t)) ≡ ob .held = ap (λ (k : List Bool). map heldFrom (cut 16 8 k)) (sets-part ob P Q) ∙ rows .1 in
-    let full : liveFrom b ≡ ob = λ j. record { live = live-eq j; owner = owner-eq j; label = label-eq j; rights = rights-eq j; held = held-eq j } in
+    let full = object-ext (liveFrom b) ob live-eq owner-eq label-eq rights-eq held-eq in
     ap (λ (k : Bool). cond k (liveFrom b) noObject) e ∙ full)
-    (λ e. ap (λ (k : Bool). cond k (liveFrom b) noObject) e ∙ sym (F .not-live e))
+    (λ e. ap (λ (k : Bool). cond k (liveFrom b) noObject) e ∙ sym (F .shape .not-live e))
 
 dead-none : allZero (objectBits noObject) ≡ true
 unfolding objectBits labelBits setsBits toBits odd allZero
@@ -167,8 +168,8 @@ object-form u ob F =
     let b = objectBits ob in
     split (ob .live)
     (λ e. ap (λ (k : Bool). cond k (labelForm (take 21 (drop 5 b))) (allZero b)) e
-    ∙ ap labelForm (label-part ob (F .rights-length) (F .held-length)) ∙ label-form (ob .label))
-    (λ e. ap (λ (k : Bool). cond k (labelForm (take 21 (drop 5 b))) (allZero b)) e ∙ ap (λ (k : Object). allZero (objectBits k)) (F .not-live e) ∙ dead-none)
+    ∙ ap labelForm (label-part ob (F .shape .rights-length) (F .shape .held-length)) ∙ label-form (ob .label))
+    (λ e. ap (λ (k : Bool). cond k (labelForm (take 21 (drop 5 b))) (allZero b)) e ∙ ap (λ (k : Object). allZero (objectBits k)) (F .shape .not-live e) ∙ dead-none)
 
 pub object-back : (b : List Bool) → length b ≡ 154 → objectForm b ≡ true → objectBits (objectFrom b) ≡ b
 unfolding objectBits objectFrom objectForm

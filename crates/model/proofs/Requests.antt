@@ -16,7 +16,7 @@ use Rattle.model.specs.declared.Request.{Request}
 use Rattle.model.specs.declared.Request.the-variants.{Get, Release, Give, Rescind, Create, Delete, ChangeLevel}
 use Rattle.model.specs.declared.Decoded.{Decoded}
 use Rattle.model.specs.declared.Decoded.the-variants.{Malformed, Says}
-use Rattle.model.specs.Requests.{requestSize, fields, modeNumber, modeOf, modeAllowed, unusedZero, wellFormed, request, decodeFields, decode, fieldsOf, pack, encode, InRange}
+use Rattle.model.specs.Requests.{requestSize, fields, modeNumber, modeOf, modeAllowed, unusedZero, wellFormed, request, creation, decodeFields, decode, fieldsOf, pack, encode, InRange}
 use Rattle.model.proofs.Tests.{and-left, and-right, and-both, or-cases, split, clash, apart, cond-true, cond-false}
 use Rattle.model.proofs.Packing.{FieldsFit, fields-fit, pack-length, fields-packed, packed-fields}
 
@@ -200,13 +200,26 @@ decode-encode b q hb e =
 
 -- ---- encoding
 
+-- the mode of a create: "mode 0 or 4"
+create-mode-below : (e : Bool) → cond e 4 0 < 8
+create-mode-below true = omega arith
+create-mode-below false = omega arith
+
+create-moded : (e : Bool) → modeAllowed 5 (cond e 4 0) ≡ true
+unfolding modeAllowed
+create-moded true = refl
+create-moded false = refl
+
+create-back : (e : Bool) → eqb (cond e 4 0) 4 ≡ e
+create-back true = refl
+create-back false = refl
+
 fieldsOf-fit : (q : Request) → InRange q → FieldsFit (fieldsOf q)
 fieldsOf-fit (Get s o x) r = omega (arith, r .0, r .1, mode-below x)
 fieldsOf-fit (Release s o x) r = omega (arith, r .0, r .1, mode-below x)
 fieldsOf-fit (Give s t o x) r = omega (arith, r .0, r .1, r .2, mode-below x)
 fieldsOf-fit (Rescind s t o x) r = omega (arith, r .0, r .1, r .2, mode-below x)
-fieldsOf-fit (Create s o true) r = omega (arith, r .0, r .1)
-fieldsOf-fit (Create s o false) r = omega (arith, r .0, r .1)
+fieldsOf-fit (Create s o c) r = omega (arith, r .0, r .1, create-mode-below (c .execute))
 fieldsOf-fit (Delete s o) r = omega (arith, r .0, r .1)
 fieldsOf-fit (ChangeLevel s o l) r = omega (arith, r .0, r .1, r .2 .0, r .2 .1)
 
@@ -222,8 +235,7 @@ fieldsOf-formed (Get s o x) r = in-range _ refl (r .0) (omega arith) (r .1) (mod
 fieldsOf-formed (Release s o x) r = in-range _ refl (r .0) (omega arith) (r .1) (mode-moded x) refl
 fieldsOf-formed (Give s t o x) r = in-range _ refl (r .0) (r .1) (r .2) (mode-moded x) refl
 fieldsOf-formed (Rescind s t o x) r = in-range _ refl (r .0) (r .1) (r .2) (mode-moded x) refl
-fieldsOf-formed (Create s o true) r = in-range _ refl (r .0) (omega arith) (r .1) refl refl
-fieldsOf-formed (Create s o false) r = in-range _ refl (r .0) (omega arith) (r .1) refl refl
+fieldsOf-formed (Create s o c) r = in-range _ refl (r .0) (omega arith) (r .1) (create-moded (c .execute)) refl
 fieldsOf-formed (Delete s o) r = in-range _ refl (r .0) (omega arith) (r .1) refl refl
 fieldsOf-formed (ChangeLevel s o l) r = in-range _ refl (r .0) (omega arith) (r .1) refl refl
 
@@ -233,8 +245,7 @@ request-back (Get s o x) = ap (Get s o) (mode-back x)
 request-back (Release s o x) = ap (Release s o) (mode-back x)
 request-back (Give s t o x) = ap (Give s t o) (mode-back x)
 request-back (Rescind s t o x) = ap (Rescind s t o) (mode-back x)
-request-back (Create s o true) = refl
-request-back (Create s o false) = refl
+request-back (Create s o c) = ap (λ (e : Bool). Create s o (creation e)) (create-back (c .execute))
 request-back (Delete s o) = refl
 request-back (ChangeLevel s o l) = refl
 

@@ -2,7 +2,6 @@
 -- Assumes nothing.
 use Prim.Native.Nat.{ℕ}
 use mathlib.Core.Path.{_≡_, refl}
-use mathlib.Core.Bool.{true}
 use mathlib.Core.List.{_∷_}
 use lib.ListN.{replicate}
 use Rattle.model.specs.declared.Label.{Label}
@@ -17,7 +16,7 @@ use Rattle.model.specs.declared.Decision.the-variants.{Granted, SimpleBr
 use Rattle.model.specs.Tests.{implies, unless}
 use Rattle.model.specs.Levels.{dominates, levelDominates}
 use Rattle.model.specs.Modes.{has, add}
-use Rattle.model.specs.State.{nobody, withObject, fresh}
+use Rattle.model.specs.State.{noObject, nobody, withOwner, withLabel, withRows, withObject, fresh}
 use Rattle.model.specs.Rules.{changed, checks, starPair, starFrom, starFor}
 
 abbrev level : ℕ → ℕ → Label
@@ -25,7 +24,7 @@ level class needs = Present (record { class = class; needs = needs })
 
 -- an object on which everybody has every right, and subject 1 holds the set
 abbrev shared : Label → ℕ → Object
-shared label held = record { live = true; owner = 1; label = label; rights = replicate 16 15; held = 0 ∷ held ∷ replicate 14 0 }
+shared label held = withRows (withLabel (withOwner noObject 1) label) (replicate 16 15) (0 ∷ held ∷ replicate 14 0)
 
 -- subject 0 has (1, 0001), subject 1 (3, 0003); objects 0 and 1 are such objects
 abbrev two : Label → ℕ → Label → Monitor

@@ -9,6 +9,7 @@ use Rattle.bits.specs.Bits.{field, toBits, bitsToBytes}
 use Rattle.model.specs.declared.Mode.{Mode}
 use Rattle.model.specs.declared.Mode.the-variants.{Read, Write, Append, Execute}
 use Rattle.model.specs.declared.Fields.{Fields}
+use Rattle.model.specs.declared.Creation.{Creation}
 use Rattle.model.specs.declared.Request.{Request}
 use Rattle.model.specs.declared.Request.the-variants.{Get, Release, Give, Rescind, Create, Delete, ChangeLevel}
 use Rattle.model.specs.declared.Decoded.{Decoded}
@@ -67,6 +68,10 @@ wellFormed f =
     && (modeAllowed (f .kind) (f .mode)
     && unusedZero f))))
 
+-- create with mode 4 gives the owner e too
+abbrev pub creation : Bool → Creation
+creation e = record { execute = e }
+
 -- the table of kinds
 unfoldable pub request : Fields → Request
 request f =
@@ -74,7 +79,7 @@ request f =
     (cond (eqb (f .kind) 2) (Release (f .actor) (f .object) (modeOf (f .mode)))
     (cond (eqb (f .kind) 3) (Give (f .actor) (f .other) (f .object) (modeOf (f .mode)))
     (cond (eqb (f .kind) 4) (Rescind (f .actor) (f .other) (f .object) (modeOf (f .mode)))
-    (cond (eqb (f .kind) 5) (Create (f .actor) (f .object) (eqb (f .mode) 4))
+    (cond (eqb (f .kind) 5) (Create (f .actor) (f .object) (creation (eqb (f .mode) 4)))
     (cond (eqb (f .kind) 6) (Delete (f .actor) (f .object))
     (ChangeLevel (f .actor) (f .object) (record { class = f .class; needs = f .needs })))))))
 
@@ -92,7 +97,7 @@ fieldsOf (Get s o x) = record { kind = 1; actor = s; other = 0; object = o; mode
 fieldsOf (Release s o x) = record { kind = 2; actor = s; other = 0; object = o; mode = modeNumber x; class = 0; needs = 0; spare = 0 }
 fieldsOf (Give s t o x) = record { kind = 3; actor = s; other = t; object = o; mode = modeNumber x; class = 0; needs = 0; spare = 0 }
 fieldsOf (Rescind s t o x) = record { kind = 4; actor = s; other = t; object = o; mode = modeNumber x; class = 0; needs = 0; spare = 0 }
-fieldsOf (Create s o e) = record { kind = 5; actor = s; other = 0; object = o; mode = cond e 4 0; class = 0; needs = 0; spare = 0 }
+fieldsOf (Create s o c) = record { kind = 5; actor = s; other = 0; object = o; mode = cond (c .execute) 4 0; class = 0; needs = 0; spare = 0 }
 fieldsOf (Delete s o) = record { kind = 6; actor = s; other = 0; object = o; mode = 0; class = 0; needs = 0; spare = 0 }
 fieldsOf (ChangeLevel s o l) = record { kind = 7; actor = s; other = 0; object = o; mode = 0; class = l .class; needs = l .needs; spare = 0 }
 
@@ -112,6 +117,6 @@ InRange (Get s o x) = (s < subjectCount) × (o < objectCount)
 InRange (Release s o x) = (s < subjectCount) × (o < objectCount)
 InRange (Give s t o x) = (s < subjectCount) × (t < subjectCount) × (o < objectCount)
 InRange (Rescind s t o x) = (s < subjectCount) × (t < subjectCount) × (o < objectCount)
-InRange (Create s o e) = (s < subjectCount) × (o < objectCount)
+InRange (Create s o c) = (s < subjectCount) × (o < objectCount)
 InRange (Delete s o) = (s < subjectCount) × (o < objectCount)
 InRange (ChangeLevel s o l) = (s < subjectCount) × (o < objectCount) × LevelFits l

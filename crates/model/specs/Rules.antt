@@ -1,15 +1,15 @@
 -- The seven rules ("Requests" in the scope): the checks of each kind in order, the record after it, and when the state was so already.
 -- Assumes nothing.
 use Prim.Native.Nat.{ℕ}
-use mathlib.Core.Bool.{Bool, true, false, cond, not, _&&_}
+use mathlib.Core.Bool.{Bool, false, cond, not, _&&_}
 use mathlib.Core.List.{List, [], _∷_}
 use lib.Dec.{eqb}
-use lib.ListN.{set}
-use Rattle.model.specs.declared.Label.the-variants.{Absent, Present}
+use Rattle.model.specs.declared.Label.the-variants.{Present}
 use Rattle.model.specs.declared.Subject.{Subject}
 use Rattle.model.specs.declared.Object.{Object}
 use Rattle.model.specs.declared.Monitor.{Monitor}
 use Rattle.model.specs.declared.Mode.{Mode}
+use Rattle.model.specs.declared.Creation.{Creation}
 use Rattle.model.specs.declared.Request.{Request}
 use Rattle.model.specs.declared.Request.the-variants.{Get, Release, Give, Rescind, Create, Delete, ChangeLevel}
 use Rattle.model.specs.declared.Decision.{Decision}
@@ -18,7 +18,7 @@ use Rattle.model.specs.declared.Response.{Response}
 use Rattle.model.specs.Tests.{allBelow, allOf, implies, firstFailing}
 use Rattle.model.specs.Levels.{dominates, present, sameLabel}
 use Rattle.model.specs.Modes.{has, add, remove, observes, needsLabel, anyObserves, anyAlters}
-use Rattle.model.specs.State.{subjectCount, noModes, noObject, clearanceAt, clearance, enrolled, object, rightsOf, heldBy, withRights, withHeld, withLabel, withObject}
+use Rattle.model.specs.State.{subjectCount, noObject, clearanceAt, clearance, enrolled, object, rightsOf, heldBy, withOwner, withRights, withHeld, withLabel, withObject}
 use Rattle.model.specs.Decisions.{refuses}
 
 -- ---- the tests of the simple and the star property
@@ -51,13 +51,13 @@ target (Get s o x) = o
 target (Release s o x) = o
 target (Give s t o x) = o
 target (Rescind s t o x) = o
-target (Create s o e) = o
+target (Create s o c) = o
 target (Delete s o) = o
 target (ChangeLevel s o l) = o
 
 -- "live, unlabelled, owned by the actor, who gains r, w, a, and e if mode is 4"
-abbrev pub created : ℕ → Bool → Object
-created s e = record { live = true; owner = s; label = Absent; rights = set noModes s (cond e 15 14); held = noModes }
+abbrev pub created : ℕ → Creation → Object
+created s c = withRights (withOwner noObject s) s (cond (c .execute) 15 14)
 
 -- the record of the object after the request
 unfoldable pub changed : Request → Object → Object
@@ -69,7 +69,7 @@ changed (Release s o x) ob = withHeld ob s (remove x (heldBy ob s))
 changed (Give s t o x) ob = withRights ob t (add x (rightsOf ob t))
 -- "the other subject loses the right and the access"
 changed (Rescind s t o x) ob = withHeld (withRights ob t (remove x (rightsOf ob t))) t (remove x (heldBy ob t))
-changed (Create s o e) ob = created s e
+changed (Create s o c) ob = created s c
 -- "no longer live, its rights and accesses gone"
 changed (Delete s o) ob = noObject
 -- "the label becomes class and needs"
@@ -85,7 +85,7 @@ already (Get s o x) ob = has x (heldBy ob s)
 already (Release s o x) ob = not (has x (heldBy ob s))
 already (Give s t o x) ob = has x (rightsOf ob t)
 already (Rescind s t o x) ob = not (has x (rightsOf ob t)) && not (has x (heldBy ob t))
-already (Create s o e) ob = false
+already (Create s o c) ob = false
 already (Delete s o) ob = false
 already (ChangeLevel s o l) ob = sameLabel (ob .label) (Present l)
 
@@ -127,7 +127,7 @@ checkList (Rescind s t o x) m =
     ∷ (mayGive s x (object m o), NoRight)
     ∷ []
 -- "check 5"
-checkList (Create s o e) m =
+checkList (Create s o c) m =
     (enrolled m s, NotEnrolled)
     ∷ (not (object m o .live), AlreadyLive)
     ∷ []

@@ -55,17 +55,21 @@ rightsOf ob s = getD (ob .rights) s 0
 abbrev pub heldBy : Object → ℕ → ℕ
 heldBy ob s = getD (ob .held) s 0
 
--- one part of a record becomes another
-abbrev pub withRights : Object → ℕ → ℕ → Object
-withRights ob s n =
-    record { live = ob .live; owner = ob .owner; label = ob .label; rights = set (ob .rights) s n; held = ob .held }
-
-abbrev pub withHeld : Object → ℕ → ℕ → Object
-withHeld ob s n =
-    record { live = ob .live; owner = ob .owner; label = ob .label; rights = ob .rights; held = set (ob .held) s n }
+-- one part of a record becomes another: an owner, with whom it is live; the label; both rows; the right or access set of subject s
+abbrev pub withOwner : Object → ℕ → Object
+withOwner ob s = record { live = true; owner = s; label = ob .label; rights = ob .rights; held = ob .held }
 
 abbrev pub withLabel : Object → Label → Object
 withLabel ob l = record { live = ob .live; owner = ob .owner; label = l; rights = ob .rights; held = ob .held }
+
+abbrev pub withRows : Object → List ℕ → List ℕ → Object
+withRows ob rights held = record { live = ob .live; owner = ob .owner; label = ob .label; rights = rights; held = held }
+
+abbrev pub withRights : Object → ℕ → ℕ → Object
+withRights ob s n = withRows ob (set (ob .rights) s n) (ob .held)
+
+abbrev pub withHeld : Object → ℕ → ℕ → Object
+withHeld ob s n = withRows ob (ob .rights) (set (ob .held) s n)
 
 abbrev pub withObject : Monitor → ℕ → Object → Monitor
 withObject m o ob = record { subjects = m .subjects; objects = set (m .objects) o ob }
@@ -86,8 +90,8 @@ abbrev pub LabelFits : Label → Type 0
 LabelFits Absent = Unit {0}
 LabelFits (Present l) = LevelFits l
 
--- the record of an object, beside the subjects of its monitor
-pub record WellFormedObject (l : List Subject) (ob : Object) : Type 0 where
+-- the record of an object by itself
+pub record ObjectShape (ob : Object) : Type 0 where
   pub rights-length : length (ob .rights) ≡ subjectCount
   pub held-length : length (ob .held) ≡ subjectCount
   pub rights-fit : (s : ℕ) → rightsOf ob s < 16
@@ -96,6 +100,10 @@ pub record WellFormedObject (l : List Subject) (ob : Object) : Type 0 where
   pub label-fits : LabelFits (ob .label)
   -- "An object that isn't live has no owner, label, right or access"
   pub not-live : ob .live ≡ false → ob ≡ noObject
+
+-- the record of an object, beside the subjects of its monitor
+pub record WellFormedObject (l : List Subject) (ob : Object) : Type 0 where
+  pub shape : ObjectShape ob
   -- "an absent subject owns nothing and has no right or access"
   pub owner-enrolled : ob .live ≡ true → present (clearanceAt l (ob .owner)) ≡ true
   pub absent-rights : (s : ℕ) → present (clearanceAt l s) ≡ false → rightsOf ob s ≡ 0

@@ -86,14 +86,18 @@ pub struct Fields {
     pub spare: u8,
 }
 
+// How an object is created: whether its owner gains e too.
+pub struct Creation {
+    pub execute: bool,
+}
+
 // A well-formed request: the actor, in give and rescind the other subject, the object, then what the kind uses beside them.
-// In create the last says whether the actor gains e too.
 pub enum Request {
     Get(u8, u8, Mode),
     Release(u8, u8, Mode),
     Give(u8, u8, u8, Mode),
     Rescind(u8, u8, u8, Mode),
-    Create(u8, u8, bool),
+    Create(u8, u8, Creation),
     Delete(u8, u8),
     ChangeLevel(u8, u8, Level),
 }

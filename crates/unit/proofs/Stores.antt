@@ -15,6 +15,7 @@ use Rattle.model.specs.declared.Label.{Label}
 use Rattle.model.specs.declared.Label.the-variants.{Absent, Present}
 use Rattle.model.specs.declared.Object.{Object}
 use Rattle.model.specs.State.{nobody, noObject, object, withRights, withHeld, withLabel, withObject}
+use Rattle.model.proofs.Equal.{object-ext, monitor-ext}
 use Rattle.unit.specs.Rows.{Rows, rowCount, heldRow, restRow, clearanceRow, rowAt, byteAt, labelIn, objectOf, objectIn, subjectIn, subjectsIn, objectsIn, stateIn}
 use Rattle.unit.specs.Stored.{labelBytes, rowOf, restOf, setRights, setHeld, setLabel, setObject}
 use Rattle.unit.proofs.Tabulated.{tabulate-set, tabulate-same}
@@ -34,9 +35,7 @@ live-back false = refl
 pub object-back : (ob : Object) → objectOf (ob .rights) (ob .held) (restOf ob) ≡ ob
 unfolding objectOf rowOf
 object-back ob =
-    let p = live-back (ob .live) in
-    let q = label-back (bit (ob .live)) (ob .owner) (ob .label) in
-    λ i. record { live = p i; owner = ob .owner; label = q i; rights = ob .rights; held = ob .held }
+    object-ext _ ob (live-back (ob .live)) refl (label-back (bit (ob .live)) (ob .owner) (ob .label)) refl refl
 
 -- ---- rows that differ in those of one object alone
 
@@ -56,8 +55,7 @@ module _ (u w : Rows) (o : ℕ) (h : o < 64) (others : (j : ℕ) → j ≢ o →
 
   state-after : (ob : Object) → objectIn w o ≡ ob → stateIn w ≡ withObject (stateIn u) o ob
   state-after ob e =
-      let objects = tabulate-set 64 (objectIn u) (objectIn w) noObject o h other-object ∙ ap (set (objectsIn u) o) e in
-      λ i. record { subjects = same-subjects i; objects = objects i }
+      monitor-ext _ _ same-subjects (tabulate-set 64 (objectIn u) (objectIn w) noObject o h other-object ∙ ap (set (objectsIn u) o) e)
 
 -- ---- what is stored
 

@@ -9,11 +9,11 @@ use mathlib.Core.List.{List, []}
 use lib.ListN.{length, set, length-set}
 use lib.Seq.{getD-set-same, getD-set-other}
 use borrow.Author.Tests.{lt-ltb, le-ltb}
-use Rattle.model.specs.declared.Subject.{Subject}
 use Rattle.model.specs.declared.Object.{Object}
 use Rattle.model.specs.declared.Monitor.{Monitor}
 use Rattle.model.specs.State.{nobody, noObject, objectAt, object, clearance, fresh, WellFormed}
 use Rattle.model.proofs.Tests.{le-or-lt}
+use Rattle.model.proofs.Equal.{monitor-ext}
 use Rattle.unit.specs.Rows.{Rows, rowCount, heldRow, restRow, clearanceRow, rowAt, labelIn, objectIn, subjectIn, subjectsIn, objectsIn, stateIn}
 use Rattle.unit.specs.Stored.{restOf, clearanceOf, setObject, monitorRow, unitOf, ObjectsStored, SameClearances}
 use Rattle.unit.proofs.Tabulated.{tabulate-length, tabulate-at, tabulated}
@@ -84,7 +84,7 @@ module _ (m : Monitor) where
       let objects : objectsIn (unitOf m) ≡ m .objects = sym (tabulated 64 (objectIn (unitOf m)) noObject (m .objects) b (λ o h. sym (unit-object o h))) in
       let subjects : subjectsIn (unitOf m) ≡ m .subjects = sym (tabulated 16 (subjectIn (unitOf m)) nobody (m .subjects) a
       (λ s h. let e = sym (unit-clearance s h) in λ j. record { clearance = e j })) in
-      λ i. record { subjects = subjects i; objects = objects i }
+      monitor-ext _ m subjects objects
 
   pub well-formed-says : WellFormed m → stateIn (unitOf m) ≡ m
   well-formed-says W = unit-says (W .subjects-length) (W .objects-length)
@@ -165,12 +165,13 @@ subjects-all m u s E h =
     (λ k l. E .subjects k (omega arith) ∙ sym (row-clearance m k)))
 
 -- a fresh monitor's rows, in which the records of the objects were stored
-pub stored-over : (l : List Subject) (os : List Object) (u w : Rows) → u ≡ unitOf (fresh l) → SameClearances u w → ObjectsStored os w 64 → w ≡ unitOf (record { subjects = l; objects = os })
-stored-over l os u w e S O =
-    subjects-all (record { subjects = l; objects = os }) w 16
+pub stored-over : (m : Monitor) (u w : Rows) → u ≡ unitOf (fresh (m .subjects)) → SameClearances u w → ObjectsStored (m .objects) w 64 → w ≡ unitOf m
+stored-over m u w e S O =
+    let begun = fresh (m .subjects) in
+    subjects-all m w 16
     (record {
       bound = omega arith;
       objects = O;
-      subjects = λ k h. S .same k ∙ ap (λ (v : Rows). rowAt v (clearanceRow k)) e ∙ unit-at (fresh l) (clearanceRow k) (omega arith) ∙ row-clearance (fresh l) k;
+      subjects = λ k h. S .same k ∙ ap (λ (v : Rows). rowAt v (clearanceRow k)) e ∙ unit-at begun (clearanceRow k) (omega arith) ∙ row-clearance begun k;
     })
     (omega arith)

@@ -11,7 +11,7 @@ use Rattle.model.specs.declared.Monitor.{Monitor}
 use Rattle.model.specs.declared.Request.{Request}
 use Rattle.model.specs.declared.Decision.the-variants.{ShortBuffer}
 use Rattle.model.specs.Decisions.{number}
-use Rattle.security.specs.Distinguish.{distinguish}
+use Rattle.telling.specs.Distinguish.{distinguish}
 use Rattle.differences.specs.declared.sequence.Sequence.{Sequence}
 use Rattle.differences.specs.declared.sequence.Sequence.the-variants.{Nothing, One, Reading, Replacing}
 use Rattle.differences.specs.Sequences.{requestsOf}

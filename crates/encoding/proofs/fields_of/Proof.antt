@@ -73,7 +73,7 @@ returns-4 c = rw (c .before .before .before .q4 .given .1, c .without-level4 .en
 returns-5 : tie.Need-returns-5
 returns-5 c =
     let q = c .before .before .before .q5 .given in
-    let e : c .before .if1 .mode ≡ cond (q .0 .1 .1 .0) 4 0 =
+    let e : c .before .if1 .mode ≡ cond (q .0 .1 .1 .0 .execute) 4 0 =
     ⊎-elim (λ w. w .1 ∙ rw (w .0 .taken)) (λ w. w .1 ∙ rw (w .0 .left)) (c .before .if1 .came) in
     rw (q .1, c .without-level5 .ensures, e)
 

@@ -11,7 +11,7 @@ use borrow.Author.Needs.{needs}
 use Rattle.kinds.proofs.create.Statement.{statement}
 use Rattle.kinds.proofs.create.Tie as tie
 
-checked : (c : tie.After-check2) → c .check2 .result ≡ checks (Create (c .before .before .before .before .before .before .args .s) (c .before .before .before .before .before .before .args .o) (c .before .before .before .before .before .before .args .execute)) (stateIn (c .before .before .before .before .before .before .args .unit .now))
+checked : (c : tie.After-check2) → c .check2 .result ≡ checks (Create (c .before .before .before .before .before .before .args .s) (c .before .before .before .before .before .before .args .o) (c .before .before .before .before .before .before .args .how)) (stateIn (c .before .before .before .before .before .before .args .unit .now))
 unfolding checks
 checked c = rw (c .check2 .ensures, c .before .is-enrolled .ensures, c .before .before .before .check .ensures, c .before .before .before .before .is-live .ensures)
 
@@ -39,7 +39,7 @@ same-length c = search needs
 returns : tie.Need-returns
 returns c =
     let start = c .before .before .before .before .before .before .before .before .before in
-    does-refused (Create (start .args .s) (start .args .o) (start .args .execute)) (start .args .unit .now) _ _ (sym (checked (c .before .before .before))) _
+    does-refused (Create (start .args .s) (start .args .o) (start .args .how)) (start .args .unit .now) _ _ (sym (checked (c .before .before .before))) _
     (sym (c .before .before .refuses .ensures) ∙ c .before .if1 .taken) (c .number .ensures) refl
 
 owner-rights-requires : tie.Need-owner-rights-requires
@@ -60,7 +60,7 @@ same-length-2 c = search needs
 returns-2 : tie.Need-returns-2
 unfolding already stores setObject
 returns-2 c = let start = c .before .before .before .before .before .before .before .before .before .before .before .before .before in
-    does-granted (Create (start .args .s) (start .args .o) (start .args .execute)) (start .args .unit .now) _ _ (sym (checked (c .before .before .before .before .before .before .before))) _
+    does-granted (Create (start .args .s) (start .args .o) (start .args .how)) (start .args .unit .now) _ _ (sym (checked (c .before .before .before .before .before .before .before))) _
     (sym (c .before .before .before .before .before .before .refuses .ensures) ∙ c .before .before .before .before .before .if1 .left) _ refl refl (rw (c .before .set-rows .ensures, c .before .before .before .row-of .ensures, c .before .before .before .before .owner-rights .ensures))
 
 pub create-spec : {M : Type 1} → statement M

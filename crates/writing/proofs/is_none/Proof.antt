@@ -6,7 +6,8 @@ use lib.Dec.{eqb}
 use borrow.Author.Needs.{needs}
 use borrow.Author.Tests.{eqb-true}
 use Rattle.model.specs.declared.Label.the-variants.{Absent}
-use Rattle.model.specs.State.{noModes}
+use Rattle.model.specs.State.{noModes, noObject}
+use Rattle.model.proofs.Equal.{object-ext}
 use Rattle.model.proofs.Levels.{absent}
 use Rattle.model.proofs.Tests.{and-left, and-right, not-on}
 use Rattle.writing.proofs.is_none.Statement.{statement}
@@ -33,7 +34,7 @@ returns c e =
     absent (ob .label) (sym (c .before .before .is-present .ensures) ∙ not-on _ (and-left (not (c .before .before .is-present .result)) _ no-label)) in
     let rights : ob .rights ≡ noModes = c .before .before .before .before .is-empty .ensures (and-left (c .before .before .before .before .is-empty .result) _ no-sets) in
     let held : ob .held ≡ noModes = c .before .before .before .is-empty2 .ensures (and-right (c .before .before .before .before .is-empty .result) _ no-sets) in
-    λ i. record { live = live i; owner = owner i; label = label i; rights = rights i; held = held i }
+    object-ext ob noObject live owner label rights held
 
 pub is-none-spec : {M : Type 1} → statement M
 is-none-spec =

@@ -7,7 +7,7 @@ use Rattle.model.specs.declared.Request.the-variants.{ChangeLevel}
 use Rattle.model.specs.Levels.{sameLabel}
 use Rattle.model.proofs.Tests.{bool-ext}
 use Rattle.model.proofs.Levels.{same-label, label-same}
-use Rattle.security.specs.Distinguish.{when}
+use Rattle.telling.specs.Distinguish.{when}
 use Rattle.differences.specs.Records.{labelApart}
 use borrow.Author.Needs.{needs}
 use Rattle.differences.proofs.objects.label_apart.Statement.{statement}

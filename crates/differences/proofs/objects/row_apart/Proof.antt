@@ -4,7 +4,7 @@ use Prim.Native.Nat.{_-_, _≤_}
 use native.Mathlib.Omega.{arith}
 use mathlib.Core.Path.{_≡_, refl, sym, _∙_}
 use mathlib.Core.List.{[]}
-use Rattle.security.specs.Distinguish.{search}
+use Rattle.telling.specs.Distinguish.{search}
 use lib.ListN.{getD}
 use Rattle.differences.specs.Records.{setApart, rowApart}
 use Rattle.differences.proofs.Searching.{search-more, search-first, search-end}

@@ -1,7 +1,7 @@
 -- The four modes in their order.
 -- Assumes nothing.
 use mathlib.Core.Path.{ap₂, _∙_}
-use Rattle.security.specs.Distinguish.{orElse}
+use Rattle.telling.specs.Distinguish.{orElse}
 use Rattle.differences.specs.Records.{setApart}
 use borrow.Author.Needs.{needs}
 use Rattle.differences.proofs.objects.set_apart.Statement.{statement}

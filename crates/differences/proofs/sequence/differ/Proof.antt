@@ -2,7 +2,7 @@
 -- Assumes nothing.
 use mathlib.Core.Path.{_≡_, refl}
 use mathlib.Core.Bool.{Bool, true, false, _&&_, _||_, not}
-use Rattle.security.specs.Distinguish.{differ}
+use Rattle.telling.specs.Distinguish.{differ}
 use Rattle.differences.proofs.sequence.differ.Statement.{statement}
 use Rattle.differences.proofs.sequence.differ.Tie as tie
 

@@ -1,6 +1,6 @@
 -- The two cases of the test.
 -- Assumes nothing.
-use Rattle.security.specs.Distinguish.{when}
+use Rattle.telling.specs.Distinguish.{when}
 use Rattle.differences.proofs.sequence.when.Statement.{statement}
 use Rattle.differences.proofs.sequence.when.Tie as tie
 

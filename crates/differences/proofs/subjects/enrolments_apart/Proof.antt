@@ -4,7 +4,7 @@ use Prim.Native.Nat.{_-_, _≤_}
 use native.Mathlib.Omega.{arith}
 use mathlib.Core.Path.{_≡_, refl, sym, ap₂, _∙_}
 use mathlib.Core.List.{[]}
-use Rattle.security.specs.Distinguish.{search}
+use Rattle.telling.specs.Distinguish.{search}
 use Rattle.model.specs.State.{clearanceAt}
 use Rattle.unit.specs.Rows.{subjectsIn}
 use Rattle.differences.specs.Sequences.{requestsOf}

@@ -1,0 +1,250 @@
+-- Frame laws: what one request leaves as it was, and what alone changes it.
+-- Assumes nothing.
+use Prim.Native.Nat.{ℕ, _<_}
+use mathlib.Core.Path.{_≡_, refl, sym, ap, _∙_, subst}
+use mathlib.Core.Logic.{_≢_, _⊎_, inl, inr}
+use mathlib.Core.Bool.{Bool, true, false, not}
+use mathlib.Core.List.{List, [], _∷_}
+use lib.ListN.{getD, set}
+use Rattle.model.specs.declared.Object.{Object}
+use Rattle.model.specs.declared.Monitor.{Monitor}
+use Rattle.model.specs.declared.Mode.{Mode}
+use Rattle.model.specs.declared.Creation.{Creation}
+use Rattle.model.specs.declared.Request.{Request}
+use Rattle.model.specs.declared.Request.the-variants.{Get, Release, Give, Rescind, Create, Delete, ChangeLevel}
+use Rattle.model.specs.declared.Decoded.the-variants.{Says}
+use Rattle.model.specs.declared.Decision.the-variants.{Granted}
+use Rattle.model.specs.declared.Response.{Response}
+use Rattle.model.specs.Modes.{has, add, remove}
+use Rattle.model.specs.State.{object, rightsOf, heldBy, WellFormed}
+use Rattle.model.specs.Requests.{decode}
+use Rattle.model.specs.Rules.{target, changed, checks, created, step}
+use Rattle.model.specs.Runs.{respond, after}
+use Rattle.model.proofs.Tests.{set-all, split, apart, clash, not-on, and-both, or-right}
+use Rattle.model.proofs.Modes.{has-add, has-remove, sameMode, same-mode, held-add, held-remove}
+use Rattle.model.proofs.After.{object-there, objects-after}
+use Rattle.invariants.proofs.Granted.{granted-create}
+use Rattle.invariants.proofs.Steps.{step-all, step-granted, respond-all}
+use Rattle.invariants.proofs.Form.{no-modes}
+use Rattle.invariants.proofs.Pairs.{none-held}
+use Rattle.effects.specs.Effects.{GivesRight, TakesRight, GetsAccess, EndsAccess, ChangesLabel}
+
+-- no request changes a subject
+pub subjects-kept : (q : Request) (m : Monitor) → step q m .monitor .subjects ≡ m .subjects
+subjects-kept q m = step-all (λ n. n .subjects ≡ m .subjects) q m refl (λ e. refl)
+
+-- and no list of byte strings does
+pub subjects-kept-after : (bs : List (List ℕ)) (m : Monitor) → after bs m .subjects ≡ m .subjects
+unfolding after
+subjects-kept-after [] m = refl
+subjects-kept-after (b ∷ bs) m =
+    subjects-kept-after bs (respond b m .monitor)
+    ∙ respond-all (λ (r : Response). r .monitor .subjects ≡ m .subjects) b m (λ e. refl) (λ q e. subjects-kept q m)
+
+-- what holds of the record of object o, and of the record that a granted request on it makes, holds of it afterwards
+frame : (P : Object → Type 0) (q : Request) (m : Monitor) (o : ℕ) → P (object m o)
+    → (checks q m ≡ Granted → target q ≡ o → P (changed q (object m (target q)))) → P (object (step q m .monitor) o)
+frame P q m o p f =
+    step-all (λ n. P (object n o)) q m p
+    (λ g. objects-after (λ j ob. j ≡ o → P ob) q m (λ j e. subst (λ (k : ℕ). P (object m k)) (sym e) p) (f g) o refl)
+
+-- no record but that of the request's object changes
+pub others-kept : (q : Request) (m : Monitor) (o : ℕ) → o ≢ target q → object (step q m .monitor) o ≡ object m o
+others-kept q m o h = frame (λ (ob : Object). ob ≡ object m o) q m o refl (λ g e. absurd (h (sym e)))
+
+-- a granted create finds an object that is not live
+create-finds : (s o : ℕ) (c : Creation) (m : Monitor) → checks (Create s o c) m ≡ Granted → object m o .live ≡ false
+create-finds s o c m g = not-on _ (granted-create m s o c g .free)
+
+-- what a granted request on a live object that stays live leaves of its record
+changed-owner : (q : Request) (m : Monitor) → object m (target q) .live ≡ true → checks q m ≡ Granted
+    → changed q (object m (target q)) .live ≡ true → changed q (object m (target q)) .owner ≡ object m (target q) .owner
+unfolding changed
+changed-owner (Get s o x) m live g e = refl
+changed-owner (Release s o x) m live g e = refl
+changed-owner (Give s t o x) m live g e = refl
+changed-owner (Rescind s t o x) m live g e = refl
+changed-owner (Create s o c) m live g e = apart live (create-finds s o c m g)
+changed-owner (Delete s o) m live g e = clash (sym e)
+changed-owner (ChangeLevel s o l) m live g e = refl
+
+-- a row after a mode was added at u: what is there was there, or is that mode
+row-add : (row : List ℕ) (u : ℕ) (y x : Mode) → ((j : ℕ) → getD row j 0 < 16) → (t : ℕ) → has x (getD (set row u (add y (getD row u 0))) t 0) ≡ true
+    → (has x (getD row t 0) ≡ true) ⊎ ((u ≡ t) × (y ≡ x))
+row-add row u y x fits =
+    set-all (λ j k. has x k ≡ true → (has x (getD row j 0) ≡ true) ⊎ ((u ≡ j) × (y ≡ x))) row u _ 0 (λ j w. inl w)
+    (λ w. held-add y x _ (fits u) w (λ p. inr (refl, sym p)) (λ p. inl p))
+
+-- what was there still is
+row-add-keeps : (row : List ℕ) (u : ℕ) (y x : Mode) → ((j : ℕ) → getD row j 0 < 16) → (t : ℕ) → has x (getD row t 0) ≡ true
+    → has x (getD (set row u (add y (getD row u 0))) t 0) ≡ true
+row-add-keeps row u y x fits t =
+    set-all (λ j k. has x (getD row j 0) ≡ true → has x k ≡ true) row u _ 0 (λ j w. w) (λ w. has-add x y _ (fits u) ∙ or-right (sameMode x y) _ w) t
+
+-- after a mode was removed at u
+row-remove : (row : List ℕ) (u : ℕ) (y x : Mode) → ((j : ℕ) → getD row j 0 < 16) → (t : ℕ) → has x (getD (set row u (remove y (getD row u 0))) t 0) ≡ true
+    → has x (getD row t 0) ≡ true
+row-remove row u y x fits t =
+    set-all (λ j k. has x k ≡ true → has x (getD row j 0) ≡ true) row u _ 0 (λ j w. w) (λ w. held-remove y x _ (fits u) w) t
+
+row-remove-keeps : (row : List ℕ) (u : ℕ) (y x : Mode) → ((j : ℕ) → getD row j 0 < 16) → (t : ℕ) → has x (getD row t 0) ≡ true
+    → (has x (getD (set row u (remove y (getD row u 0))) t 0) ≡ true) ⊎ ((u ≡ t) × (y ≡ x))
+row-remove-keeps row u y x fits t =
+    set-all (λ j k. has x (getD row j 0) ≡ true → (has x k ≡ true) ⊎ ((u ≡ j) × (y ≡ x))) row u _ 0 (λ j w. inl w)
+    (λ w. split (sameMode x y) (λ p. inr (refl, sym (same-mode x y p)))
+    (λ p. inl (has-remove x y _ (fits u) ∙ and-both (ap not p) w))) t
+
+-- the second of two cases, said otherwise
+or-else : {A B C : Type 0} → (B → C) → A ⊎ B → A ⊎ C
+or-else f (inl a) = inl a
+or-else f (inr b) = inr (f b)
+
+changed-rights : (q : Request) (m : Monitor) → WellFormed m → object m (target q) .live ≡ true → checks q m ≡ Granted
+    → (t : ℕ) (x : Mode) → has x (rightsOf (changed q (object m (target q))) t) ≡ true
+    → (has x (rightsOf (object m (target q)) t) ≡ true) ⊎ GivesRight q t (target q) x
+unfolding changed
+changed-rights (Get s o y) m W live g t x e = inl e
+changed-rights (Release s o y) m W live g t x e = inl e
+changed-rights (Give s u o y) m W live g t x e = or-else (λ p. (s, λ i. Give s (p .0 i) o (p .1 i))) (row-add (object m o .rights) u y x (W .objects-formed o .shape .rights-fit) t e)
+changed-rights (Rescind s u o y) m W live g t x e = inl (row-remove (object m o .rights) u y x (W .objects-formed o .shape .rights-fit) t e)
+changed-rights (Create s o c) m W live g t x e = apart live (create-finds s o c m g)
+changed-rights (Delete s o) m W live g t x e = none-held x _ (no-modes t) e
+changed-rights (ChangeLevel s o l) m W live g t x e = inl e
+
+changed-access : (q : Request) (m : Monitor) → WellFormed m → object m (target q) .live ≡ true → checks q m ≡ Granted
+    → (t : ℕ) (x : Mode) → has x (heldBy (changed q (object m (target q))) t) ≡ true
+    → (has x (heldBy (object m (target q)) t) ≡ true) ⊎ GetsAccess q t (target q) x
+unfolding changed
+changed-access (Get s o y) m W live g t x e = or-else (λ p. λ i. Get (p .0 i) o (p .1 i)) (row-add (object m o .held) s y x (W .objects-formed o .shape .held-fit) t e)
+changed-access (Release s o y) m W live g t x e = inl (row-remove (object m o .held) s y x (W .objects-formed o .shape .held-fit) t e)
+changed-access (Give s u o y) m W live g t x e = inl e
+changed-access (Rescind s u o y) m W live g t x e = inl (row-remove (object m o .held) u y x (W .objects-formed o .shape .held-fit) t e)
+changed-access (Create s o c) m W live g t x e = apart live (create-finds s o c m g)
+changed-access (Delete s o) m W live g t x e = none-held x _ (no-modes t) e
+changed-access (ChangeLevel s o l) m W live g t x e = inl e
+
+kept-right : (q : Request) (m : Monitor) → WellFormed m → object m (target q) .live ≡ true → checks q m ≡ Granted → changed q (object m (target q)) .live ≡ true
+    → (t : ℕ) (x : Mode) → has x (rightsOf (object m (target q)) t) ≡ true
+    → (has x (rightsOf (changed q (object m (target q))) t) ≡ true) ⊎ TakesRight q t (target q) x
+unfolding changed
+kept-right (Get s o y) m W live g stays t x e = inl e
+kept-right (Release s o y) m W live g stays t x e = inl e
+kept-right (Give s u o y) m W live g stays t x e = inl (row-add-keeps (object m o .rights) u y x (W .objects-formed o .shape .rights-fit) t e)
+kept-right (Rescind s u o y) m W live g stays t x e = or-else (λ p. (s, λ i. Rescind s (p .0 i) o (p .1 i))) (row-remove-keeps (object m o .rights) u y x (W .objects-formed o .shape .rights-fit) t e)
+kept-right (Create s o c) m W live g stays t x e = apart live (create-finds s o c m g)
+kept-right (Delete s o) m W live g stays t x e = clash (sym stays)
+kept-right (ChangeLevel s o l) m W live g stays t x e = inl e
+
+kept-access : (q : Request) (m : Monitor) → WellFormed m → object m (target q) .live ≡ true → checks q m ≡ Granted → changed q (object m (target q)) .live ≡ true
+    → (t : ℕ) (x : Mode) → has x (heldBy (object m (target q)) t) ≡ true
+    → (has x (heldBy (changed q (object m (target q))) t) ≡ true) ⊎ EndsAccess q t (target q) x
+unfolding changed
+kept-access (Get s o y) m W live g stays t x e = inl (row-add-keeps (object m o .held) s y x (W .objects-formed o .shape .held-fit) t e)
+kept-access (Release s o y) m W live g stays t x e = or-else (λ p. inl (λ i. Release (p .0 i) o (p .1 i))) (row-remove-keeps (object m o .held) s y x (W .objects-formed o .shape .held-fit) t e)
+kept-access (Give s u o y) m W live g stays t x e = inl e
+kept-access (Rescind s u o y) m W live g stays t x e = or-else (λ p. inr (s, λ i. Rescind s (p .0 i) o (p .1 i))) (row-remove-keeps (object m o .held) u y x (W .objects-formed o .shape .held-fit) t e)
+kept-access (Create s o c) m W live g stays t x e = apart live (create-finds s o c m g)
+kept-access (Delete s o) m W live g stays t x e = clash (sym stays)
+kept-access (ChangeLevel s o l) m W live g stays t x e = inl e
+
+changed-label : (q : Request) (m : Monitor) → object m (target q) .live ≡ true → checks q m ≡ Granted → changed q (object m (target q)) .live ≡ true
+    → (changed q (object m (target q)) .label ≡ object m (target q) .label) ⊎ ChangesLabel q (target q) (changed q (object m (target q)) .label)
+unfolding changed
+changed-label (Get s o x) m live g e = inl refl
+changed-label (Release s o x) m live g e = inl refl
+changed-label (Give s t o x) m live g e = inl refl
+changed-label (Rescind s t o x) m live g e = inl refl
+changed-label (Create s o c) m live g e = apart live (create-finds s o c m g)
+changed-label (Delete s o) m live g e = clash (sym e)
+changed-label (ChangeLevel s o l) m live g e = inr (s, l, refl, refl)
+
+module _ (q : Request) (m : Monitor) (W : WellFormed m) (o : ℕ) (live : object m o .live ≡ true) (stays : object (step q m .monitor) o .live ≡ true) where
+  at-target : target q ≡ o → object m (target q) .live ≡ true
+  at-target e = subst (λ (k : ℕ). object m k .live ≡ true) (sym e) live
+
+  -- an object that stays live keeps its owner
+  pub owner-kept : object (step q m .monitor) o .owner ≡ object m o .owner
+  owner-kept =
+      frame (λ (ob : Object). ob .live ≡ true → ob .owner ≡ object m o .owner) q m o (λ e. refl)
+      (λ g e h. changed-owner q m (at-target e) g h ∙ ap (λ (k : ℕ). object m k .owner) e) stays
+
+  -- gains a right only by give
+  pub right-by-give : (t : ℕ) (x : Mode) → has x (rightsOf (object (step q m .monitor) o) t) ≡ true
+      → (has x (rightsOf (object m o) t) ≡ true) ⊎ GivesRight q t o x
+  right-by-give t x =
+      frame (λ (ob : Object). has x (rightsOf ob t) ≡ true → (has x (rightsOf (object m o) t) ≡ true) ⊎ GivesRight q t o x) q m o (λ e. inl e)
+      (λ g e h. subst (λ (k : ℕ). (has x (rightsOf (object m k) t) ≡ true) ⊎ GivesRight q t k x) e (changed-rights q m W (at-target e) g t x h))
+
+  -- gains an access only by get
+  pub access-by-get : (t : ℕ) (x : Mode) → has x (heldBy (object (step q m .monitor) o) t) ≡ true
+      → (has x (heldBy (object m o) t) ≡ true) ⊎ GetsAccess q t o x
+  access-by-get t x =
+      frame (λ (ob : Object). has x (heldBy ob t) ≡ true → (has x (heldBy (object m o) t) ≡ true) ⊎ GetsAccess q t o x) q m o (λ e. inl e)
+      (λ g e h. subst (λ (k : ℕ). (has x (heldBy (object m k) t) ≡ true) ⊎ GetsAccess q t k x) e (changed-access q m W (at-target e) g t x h))
+
+  -- loses a right only by rescind
+  pub right-kept : (t : ℕ) (x : Mode) → has x (rightsOf (object m o) t) ≡ true
+      → (has x (rightsOf (object (step q m .monitor) o) t) ≡ true) ⊎ TakesRight q t o x
+  right-kept t x h =
+      frame (λ (ob : Object). ob .live ≡ true → (has x (rightsOf ob t) ≡ true) ⊎ TakesRight q t o x) q m o (λ l. inl h)
+      (λ g e l. subst (λ (k : ℕ). (has x (rightsOf (changed q (object m (target q))) t) ≡ true) ⊎ TakesRight q t k x) e
+      (kept-right q m W (at-target e) g l t x (subst (λ (k : ℕ). has x (rightsOf (object m k) t) ≡ true) (sym e) h))) stays
+
+  -- loses an access only by release or rescind
+  pub access-kept : (t : ℕ) (x : Mode) → has x (heldBy (object m o) t) ≡ true
+      → (has x (heldBy (object (step q m .monitor) o) t) ≡ true) ⊎ EndsAccess q t o x
+  access-kept t x h =
+      frame (λ (ob : Object). ob .live ≡ true → (has x (heldBy ob t) ≡ true) ⊎ EndsAccess q t o x) q m o (λ l. inl h)
+      (λ g e l. subst (λ (k : ℕ). (has x (heldBy (changed q (object m (target q))) t) ≡ true) ⊎ EndsAccess q t k x) e
+      (kept-access q m W (at-target e) g l t x (subst (λ (k : ℕ). has x (heldBy (object m k) t) ≡ true) (sym e) h))) stays
+
+  -- and changes its label only by change of level
+  pub label-by-change : (object (step q m .monitor) o .label ≡ object m o .label) ⊎ ChangesLabel q o (object (step q m .monitor) o .label)
+  label-by-change =
+      frame (λ (ob : Object). ob .live ≡ true → (ob .label ≡ object m o .label) ⊎ ChangesLabel q o (ob .label)) q m o (λ e. inl refl)
+      (λ g e h. subst (λ (k : ℕ). (changed q (object m (target q)) .label ≡ object m k .label) ⊎ ChangesLabel q k (changed q (object m (target q)) .label)) e
+      (changed-label q m (at-target e) g h)) stays
+
+-- after a granted create the record is what create says, whatever the slot held before
+pub create-fresh : (s o : ℕ) (c : Creation) (m : Monitor) → WellFormed m → o < 64 → checks (Create s o c) m ≡ Granted
+    → object (step (Create s o c) m .monitor) o ≡ created s c
+unfolding changed
+create-fresh s o c m W h g =
+    ap (λ (r : Response). object (r .monitor) o) (step-granted (Create s o c) m g) ∙ object-there (Create s o c) m W h
+
+-- ---- the life of an object
+
+-- what a request does to the life of object o: nothing, or it begins by a create of it, or it ends by a delete of it
+data Life (q : Request) (o : ℕ) (before behind : Bool) : Type 0 where
+  stays : behind ≡ before → Life q o before behind
+  begins : (s : ℕ) (c : Creation) → q ≡ Create s o c → behind ≡ true → Life q o before behind
+  ends : (s : ℕ) → q ≡ Delete s o → behind ≡ false → Life q o before behind
+
+changed-life : (q : Request) (ob : Object) → Life q (target q) (ob .live) (changed q ob .live)
+unfolding changed
+changed-life (Get s o x) ob = stays refl
+changed-life (Release s o x) ob = stays refl
+changed-life (Give s t o x) ob = stays refl
+changed-life (Rescind s t o x) ob = stays refl
+changed-life (Create s o c) ob = begins s c refl refl
+changed-life (Delete s o) ob = ends s refl refl
+changed-life (ChangeLevel s o l) ob = stays refl
+
+step-life : (q : Request) (m : Monitor) (o : ℕ) → Life q o (object m o .live) (object (step q m .monitor) o .live)
+step-life q m o =
+    frame (λ (ob : Object). Life q o (object m o .live) (ob .live)) q m o (stays refl)
+    (λ g e. subst (λ (k : ℕ). Life q k (object m k .live) (changed q (object m (target q)) .live)) e (changed-life q (object m (target q))))
+
+-- whatever the bytes and the monitor: a live object ends only by a delete of it
+pub live-kept : (m : Monitor) (g : List ℕ) (o : ℕ) → object m o .live ≡ true
+    → (object (respond g m .monitor) o .live ≡ true) ⊎ ((s : ℕ) × (decode g ≡ Says (Delete s o)))
+live-kept m g o live =
+    respond-all (λ (r : Response). (object (r .monitor) o .live ≡ true) ⊎ ((s : ℕ) × (decode g ≡ Says (Delete s o)))) g m (λ e. inl live)
+    (λ q d. elim (step-life q m o) [ stays e ↦ inl (e ∙ live) | begins s c e f ↦ inl f | ends s e f ↦ inr (s, d ∙ ap Says e) ])
+
+-- and one that is not live begins only by a create of it
+pub live-by-create : (m : Monitor) (g : List ℕ) (o : ℕ) → object m o .live ≡ false
+    → (object (respond g m .monitor) o .live ≡ false) ⊎ ((s : ℕ) × (c : Creation) × (decode g ≡ Says (Create s o c)))
+live-by-create m g o dead =
+    respond-all (λ (r : Response). (object (r .monitor) o .live ≡ false) ⊎ ((s : ℕ) × (c : Creation) × (decode g ≡ Says (Create s o c)))) g m (λ e. inl dead)
+    (λ q d. elim (step-life q m o) [ stays e ↦ inl (e ∙ dead) | begins s c e f ↦ inr (s, c, d ∙ ap Says e) | ends s e f ↦ inl f ])

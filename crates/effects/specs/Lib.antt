@@ -1,0 +1,2 @@
+-- The effect of each kind of request.
+pub mod Effects

@@ -1,0 +1,84 @@
+-- Demand 3: two images are equal in every byte exactly when every further list of requests draws the same replies from both.
+-- Assumes nothing.
+use Prim.Native.Nat.{ℕ, _≤_}
+use mathlib.Core.Path.{_≡_, sym, ap, _∙_}
+use mathlib.Core.Logic.{_↔_, _≢_}
+use mathlib.Core.List.{List, [], _∷_, map}
+use lib.ListN.{length, take}
+use Rattle.model.specs.declared.Monitor.{Monitor}
+use Rattle.model.specs.declared.Request.{Request}
+use Rattle.model.specs.State.{clearance, enrolled, object}
+use Rattle.model.specs.Decisions.{number}
+use Rattle.model.specs.Requests.{encode}
+use Rattle.model.specs.Runs.{replies}
+use Rattle.model.specs.Layout.{imageSize, imageOf}
+use Rattle.model.specs.Writing.{writing, written}
+use Rattle.model.specs.Beginnings.{Beginning, Accepted, left, Reached, AllBytes}
+use Rattle.model.proofs.Packing.{pack-bytes}
+use Rattle.model.proofs.Equal.{state-same}
+use Rattle.telling.specs.Distinguish.{search, byEnrolment, byObject, byClearance, distinguish}
+use Rattle.invariants.specs.Sound.{Sound}
+use Rattle.images.proofs.Trips.{image-tells}
+use Rattle.images.proofs.Reached.{sound-reached, fills, reached-left}
+use Rattle.equal_images.specs.Inputs.{AllInRange}
+use Rattle.equal_images.proofs.Probes.{Differs, Probe, alike, apart, probe-map, probe-or, probe-search}
+use Rattle.equal_images.proofs.ObjectProbes.{probe-enrolment, probe-object}
+use Rattle.equal_images.proofs.Clearances.{probe-clearance}
+
+-- ---- the list that tells two states apart
+
+probe-all : (m n : Monitor) → Sound m → Sound n → Probe m n (distinguish m n) (m ≡ n)
+unfolding distinguish
+probe-all m n S N =
+    probe-map m n (distinguish m n) (λ p. state-same m n (S .formed) (N .formed) (p .1 .1) (p .1 .0))
+    (probe-or m n (search 16 (byEnrolment m n)) _
+    (probe-search m n (λ s. enrolled m s ≡ enrolled n s) 16 (byEnrolment m n) (probe-enrolment m n S N))
+    (λ same. probe-or m n (search 64 (byObject m n)) (search 16 (byClearance m n))
+    (probe-search m n (λ o. object m o ≡ object n o) 64 (byObject m n) (probe-object m n S N same))
+    (λ objects. probe-search m n (λ s. clearance m s ≡ clearance n s) 16 (byClearance m n) (probe-clearance m n S N objects same))))
+
+-- what `distinguish` gives: of one state nothing, of two at most four requests on which they reply differently
+pub distinguishes : (m n : Monitor) → Sound m → Sound n → m ≢ n
+    → AllInRange (distinguish m n) × (length (distinguish m n) ≤ 4) × (replies (map encode (distinguish m n)) m ≢ replies (map encode (distinguish m n)) n)
+unfolding Differs
+distinguishes m n S N h = elim (probe-all m n S N) [ alike p e ↦ absurd (h e) | apart r l d ↦ (r, l, d) ]
+
+pub distinguishes-not : (m n : Monitor) → Sound m → Sound n → m ≡ n → distinguish m n ≡ []
+unfolding Differs
+distinguishes-not m n S N e = elim (probe-all m n S N) [ alike p k ↦ p | apart r l d ↦ absurd (d (ap (replies (map encode (distinguish m n))) e)) ]
+
+-- ---- the demand
+
+encoded-bytes : (qs : List Request) → AllBytes (map encode qs)
+encoded-bytes [] = tt
+encoded-bytes (q ∷ qs) = (pack-bytes _, encoded-bytes qs)
+
+-- two sound states that no list of byte strings tells apart are one
+pub same-replies : (m n : Monitor) → Sound m → Sound n
+    → ((further : List (List ℕ)) → AllBytes further → replies further m ≡ replies further n) → m ≡ n
+unfolding Differs
+same-replies m n S N h =
+    elim (probe-all m n S N) [ alike p e ↦ e | apart r l d ↦ absurd (d (h (map encode (distinguish m n)) (encoded-bytes (distinguish m n)))) ]
+
+-- two reached monitors, each written into a buffer with result 0
+module _ (m n : Monitor) (R : Reached m) (Q : Reached n) (buffer other : List ℕ) (u : number (writing buffer) ≡ 0) (v : number (writing other) ≡ 0) where
+  -- equal images draw the same replies, to lists of byte strings with any numbers in them
+  pub equal-images-reply-alike : take imageSize (written m buffer) ≡ take imageSize (written n other)
+      → (further : List (List ℕ)) → replies further m ≡ replies further n
+  equal-images-reply-alike p further =
+      ap (replies further) (image-tells m n (sound-reached m R) (sound-reached n Q) (sym (fills m buffer u) ∙ p ∙ fills n other v))
+
+  -- the images are equal in every byte exactly when every further list draws the same replies from both
+  pub same-image-same-replies : (take imageSize (written m buffer) ≡ take imageSize (written n other))
+      ↔ ((further : List (List ℕ)) → AllBytes further → replies further m ≡ replies further n)
+  same-image-same-replies = (
+    λ p further g. equal-images-reply-alike p further,
+    λ h. fills m buffer u ∙ ap imageOf (same-replies m n (sound-reached m R) (sound-reached n Q) h) ∙ sym (fills n other v),
+  )
+
+-- the same with the beginnings and the lists written out
+pub demand-3 : (b c : Beginning) → Accepted b → Accepted c → (qs rs : List (List ℕ))
+    → (buffer other : List ℕ) → number (writing buffer) ≡ 0 → number (writing other) ≡ 0
+    → (take imageSize (written (left b qs) buffer) ≡ take imageSize (written (left c rs) other))
+    ↔ ((further : List (List ℕ)) → AllBytes further → replies further (left b qs) ≡ replies further (left c rs))
+demand-3 b c e f qs rs = same-image-same-replies (left b qs) (left c rs) (reached-left b e qs) (reached-left c f rs)

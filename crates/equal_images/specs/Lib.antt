@@ -1,0 +1,2 @@
+-- Lists of requests in range.
+pub mod Inputs

@@ -1,0 +1,110 @@
+-- Round trips, as the readers and the writer return them.
+-- Assumes nothing.
+use Prim.Native.Nat.{ℕ, _<_, _≤_}
+use native.Mathlib.Omega.{arith}
+use mathlib.Core.Path.{_≡_, sym, ap, _∙_}
+use mathlib.Core.Logic.{_↔_, ⊎-elim}
+use mathlib.Core.List.{List, _++_}
+use lib.ListN.{length, take, drop, length-append, length-drop}
+use lib.Seq.{drop-at}
+use borrow.Author.Tests.{ltb-true, ltb-false, lt-ltb, le-ltb}
+use Rattle.bits.specs.Bits.{Bytes}
+use Rattle.bits.specs.Laws.{length-bitsToBytes}
+use Rattle.model.specs.declared.Subject.{Subject}
+use Rattle.model.specs.declared.Monitor.{Monitor}
+use Rattle.model.specs.declared.Decision.{Decision}
+use Rattle.model.specs.declared.Decision.the-variants.{Granted, ShortBuffer}
+use Rattle.model.specs.State.{emptyMonitor, fresh}
+use Rattle.model.specs.Decisions.{number, refuses}
+use Rattle.model.specs.Layout.{imageSize, imageBits, imageOf}
+use Rattle.model.specs.Reading.{tableChecks, imageChecks, tableFrom, monitorFrom, begin, readTable, readImage}
+use Rattle.model.specs.Writing.{tooShort, writing, written}
+use Rattle.model.specs.Beginnings.{image, table, Accepted, Reached}
+use Rattle.model.proofs.Tests.{split, cond-true, cond-false, le-or-lt}
+use Rattle.invariants.specs.Sound.{Sound}
+use Rattle.images.specs.Tables.{tableOf, TableFits}
+use Rattle.images.proofs.Trips.{image-read-back, image-accepted, image-bytes-back, table-accepted, table-read-back, table-bytes-back}
+use Rattle.images.proofs.Reached.{sound-reached, fills}
+
+-- what a reader returns where nothing refuses
+begin-granted : (d : Decision) (m n : Monitor) → d ≡ Granted → m ≡ n → begin d m ≡ record { decision = Granted; monitor = n }
+unfolding begin
+begin-granted d m n e p = ap (λ (k : Decision). begin k m) e ∙ (λ i. record { decision = Granted; monitor = p i })
+
+-- the image of a sound state reads back to it
+pub image-reads : (m : Monitor) → Sound m → readImage (imageOf m) ≡ record { decision = Granted; monitor = m }
+unfolding readImage
+image-reads m S = begin-granted (imageChecks (imageOf m)) (monitorFrom (imageOf m)) m (image-accepted m S) (image-read-back m S)
+
+-- "Reading a written image gives back its monitor"
+pub read-written : (m : Monitor) → Reached m → (buffer : List ℕ) → number (writing buffer) ≡ 0
+    → readImage (take imageSize (written m buffer)) ≡ record { decision = Granted; monitor = m }
+read-written m R buffer e = ap readImage (fills m buffer e) ∙ image-reads m (sound-reached m R)
+
+-- "writing from an accepted image gives back its bytes"
+pub write-read : (b : List ℕ) → Bytes b → Accepted (image b) → (buffer : List ℕ) → number (writing buffer) ≡ 0
+    → take imageSize (written (readImage b .monitor) buffer) ≡ b
+unfolding readImage begin
+write-read b hb e buffer w =
+    fills (readImage b .monitor) buffer w ∙ ap imageOf (cond-false (refuses (imageChecks b)) emptyMonitor (monitorFrom b) (ap refuses e)) ∙ image-bytes-back b hb e
+
+-- ---- the lent buffer, by its number and its length
+
+-- "buffer under the image's size, 1,274 bytes": 13
+pub write-13-exactly : (buffer : List ℕ) → (number (writing buffer) ≡ 13) ↔ (length buffer < 1274)
+unfolding writing tooShort
+write-13-exactly buffer = (
+  λ e. split (tooShort buffer) (λ w. ltb-true (length buffer) imageSize w)
+      (λ w. absurd (omega (arith, sym e ∙ ap number (cond-false (tooShort buffer) ShortBuffer Granted w)))),
+  λ h. ap number (cond-true (tooShort buffer) ShortBuffer Granted (lt-ltb (length buffer) imageSize h)),
+)
+
+-- else "a writing returns 0"
+pub write-0-exactly : (buffer : List ℕ) → (number (writing buffer) ≡ 0) ↔ (1274 ≤ length buffer)
+unfolding writing tooShort
+write-0-exactly buffer = (
+  λ e. split (tooShort buffer)
+      (λ w. absurd (omega (arith, sym e ∙ ap number (cond-true (tooShort buffer) ShortBuffer Granted w))))
+      (λ w. ltb-false (length buffer) imageSize w),
+  λ h. ap number (cond-false (tooShort buffer) ShortBuffer Granted (le-ltb (length buffer) imageSize h)),
+)
+
+-- 13 leaves "every byte of it"
+pub write-13-leaves : (m : Monitor) (buffer : List ℕ) → length buffer < 1274 → written m buffer ≡ buffer
+unfolding written tooShort
+write-13-leaves m buffer h = cond-true (tooShort buffer) buffer _ (lt-ltb (length buffer) imageSize h)
+
+-- 0 "fills the first 1,274 bytes of the lent buffer and leaves any later byte", and there are as many bytes as before
+pub write-0-fills : (m : Monitor) (buffer : List ℕ) → 1274 ≤ length buffer → written m buffer ≡ imageOf m ++ drop 1274 buffer
+unfolding written tooShort
+write-0-fills m buffer h = cond-false (tooShort buffer) buffer _ (le-ltb (length buffer) imageSize h)
+
+pub image-length : (m : Monitor) → length (imageOf m) ≡ 1274
+unfolding imageOf
+image-length m = length-bitsToBytes imageSize (imageBits m)
+
+pub write-keeps-length : (m : Monitor) (buffer : List ℕ) → length (written m buffer) ≡ length buffer
+write-keeps-length m buffer =
+    ⊎-elim
+    (λ (h : 1274 ≤ length buffer). ap length (write-0-fills m buffer h) ∙ length-append (imageOf m) (drop 1274 buffer)
+    ∙ omega (arith, image-length m, length-drop 1274 buffer))
+    (λ (h : length buffer < 1274). ap length (write-13-leaves m buffer h))
+    (le-or-lt 1274 (length buffer))
+
+-- later bytes are left, whatever the number
+pub write-leaves : (m : Monitor) (buffer : List ℕ) → drop 1274 (written m buffer) ≡ drop 1274 buffer
+write-leaves m buffer =
+    ⊎-elim
+    (λ (h : 1274 ≤ length buffer). ap (drop 1274) (write-0-fills m buffer h) ∙ drop-at (imageOf m) (drop 1274 buffer) 1274 (image-length m))
+    (λ (h : length buffer < 1274). ap (drop 1274) (write-13-leaves m buffer h))
+    (le-or-lt 1274 (length buffer))
+
+-- the same for tables
+pub read-written-table : (l : List Subject) → TableFits l → readTable (tableOf l) ≡ record { decision = Granted; monitor = fresh l }
+unfolding readTable
+read-written-table l T = begin-granted (tableChecks (tableOf l)) (fresh (tableFrom (tableOf l))) (fresh l) (table-accepted l T) (ap fresh (table-read-back l T))
+
+pub write-read-table : (b : List ℕ) → Bytes b → Accepted (table b) → tableOf (readTable b .monitor .subjects) ≡ b
+unfolding readTable begin
+write-read-table b hb e =
+    ap (λ (m : Monitor). tableOf (m .subjects)) (cond-false (refuses (tableChecks b)) emptyMonitor (fresh (tableFrom b)) (ap refuses e)) ∙ table-bytes-back b hb e

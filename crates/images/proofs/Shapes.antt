@@ -1,0 +1,71 @@
+-- What any bits read as a table or as objects give: lengths, numbers that fit, and no object where none is live.
+-- Assumes nothing.
+use Prim.Native.Nat.{ℕ, _<_}
+use native.Mathlib.Omega.{arith}
+use mathlib.Core.Path.{_≡_, _∙_}
+use mathlib.Core.Bool.{Bool}
+use mathlib.Core.List.{List}
+use lib.ListN.{length, take, drop, length-map}
+use Rattle.bits.specs.Bits.{bytesToBits, first}
+use Rattle.bits.specs.Laws.{fromBits-take}
+use Rattle.bits.specs.Records.{length-cut}
+use Rattle.model.specs.declared.Label.the-variants.{Absent}
+use Rattle.model.specs.declared.Subject.{Subject}
+use Rattle.model.specs.declared.Monitor.{Monitor}
+use Rattle.model.specs.State.{nobody, noObject, object, LabelFits, ObjectShape, WellFormed}
+use Rattle.model.specs.Layout.{tableSize}
+use Rattle.model.specs.Reading.{labelFrom, subjectFrom, rightsFrom, heldFrom, setsIn, liveFrom, objectFrom, tableRecords, objectRecords, tableFrom, objectsFrom, monitorFrom}
+use Rattle.model.proofs.Tests.{cond-all, map-all, clash}
+use Rattle.invariants.proofs.Form.{no-object-shape}
+use Rattle.images.specs.Tables.{TableFits}
+
+-- a state that is well formed, but for who is enrolled
+pub record Shape (m : Monitor) : Type 0 where
+  pub table : TableFits (m .subjects)
+  pub objects-length : length (m .objects) ≡ 64
+  pub objects : (o : ℕ) → ObjectShape (object m o)
+
+pub shape-of : (m : Monitor) → WellFormed m → Shape m
+shape-of m W =
+    record {
+      table = record { subjects-length = W .subjects-length; clearances-fit = W .clearances-fit };
+      objects-length = W .objects-length;
+      objects = λ o. W .objects-formed o .shape;
+    }
+
+label-shape : (b : List Bool) → LabelFits (labelFrom b)
+unfolding labelFrom
+label-shape b = cond-all LabelFits (first b) _ Absent (λ e. (fromBits-take 4 (drop 1 b), fromBits-take 16 (drop 5 b))) (λ e. tt)
+
+live-shape : (b : List Bool) → ObjectShape (liveFrom b)
+live-shape b =
+    record {
+      rights-length = length-map (setsIn b) rightsFrom ∙ length-cut 16 8 (drop 26 b);
+      held-length = length-map (setsIn b) heldFrom ∙ length-cut 16 8 (drop 26 b);
+      rights-fit = map-all (λ n. n < 16) rightsFrom (setsIn b) 0 (λ r. fromBits-take 4 (drop 0 r)) (omega arith);
+      held-fit = map-all (λ n. n < 16) heldFrom (setsIn b) 0 (λ r. fromBits-take 4 (drop 4 r)) (omega arith);
+      owner-fits = fromBits-take 4 (drop 1 b);
+      label-fits = label-shape (take 21 (drop 5 b));
+      not-live = λ e. clash e;
+    }
+
+object-shape : (b : List Bool) → ObjectShape (objectFrom b)
+unfolding objectFrom
+object-shape b = cond-all ObjectShape (first b) _ noObject (λ e. live-shape b) (λ e. no-object-shape)
+
+pub table-shape : (b : List ℕ) → TableFits (tableFrom b)
+unfolding tableFrom
+table-shape b =
+    record {
+      subjects-length = length-map (tableRecords b) subjectFrom ∙ length-cut 16 21 (bytesToBits b);
+      clearances-fit = map-all (λ (x : Subject). LabelFits (x .clearance)) subjectFrom (tableRecords b) nobody label-shape tt;
+    }
+
+pub image-shape : (b : List ℕ) → Shape (monitorFrom b)
+unfolding monitorFrom objectsFrom
+image-shape b =
+    record {
+      table = table-shape (take tableSize b);
+      objects-length = length-map (objectRecords (drop tableSize b)) objectFrom ∙ length-cut 64 154 (bytesToBits (drop tableSize b));
+      objects = map-all ObjectShape objectFrom (objectRecords (drop tableSize b)) noObject object-shape no-object-shape;
+    }

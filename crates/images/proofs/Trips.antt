@@ -1,0 +1,165 @@
+-- Round trips: a written image is accepted and gives its monitor back; the monitor of an accepted image is written as that image. So of tables.
+-- Assumes nothing.
+use Prim.Native.Nat.{ℕ, _*_}
+use native.Mathlib.Omega.{arith}
+use mathlib.Core.Path.{_≡_, refl, sym, ap, ap₂, _∙_}
+use mathlib.Core.Bool.{Bool, true}
+use mathlib.Core.List.{List, [], _++_, map}
+use lib.ListN.{length, getD, take, drop, length-append, length-drop, take-append-drop}
+use lib.Seq.{take-at, drop-at, length-take-le}
+use borrow.Author.Tests.{eq-eqb, eqb-true}
+use Rattle.bits.specs.Bits.{Bytes, bytesToBits, bitsToBytes, cut, join}
+use Rattle.bits.specs.Laws.{length-bytesToBits, take-bytesToBits, drop-bytesToBits, bytesToBits-append, length-bitsToBytes, bytesToBits-bitsToBytes, bitsToBytes-bytesToBits}
+use Rattle.bits.specs.Records.{length-cut, join-cut, cut-length, length-join, cut-join, map-back}
+use Rattle.model.specs.declared.Subject.{Subject}
+use Rattle.model.specs.declared.Monitor.{Monitor}
+use Rattle.model.specs.declared.Decision.the-variants.{Granted, WrongLength, StrayBits}
+use Rattle.model.specs.Tests.{allOf}
+use Rattle.model.specs.State.{nobody, noObject, clearanceAt, clearance, object}
+use Rattle.model.specs.Layout.{tableSize, imageSize, subjectBits, objectBits, tableBits, objectsBits, imageBits, imageOf}
+use Rattle.model.specs.Reading.{labelForm, subjectFrom, objectFrom, objectForm, tableFrom, tableForm, objectsFrom, objectsForm, monitorFrom, imageForm, stateChecks, tableChecks, imageChecks}
+use Rattle.model.proofs.Tests.{pass, passed, and-both, and-left, and-right, all-at, all-map-at}
+use Rattle.model.proofs.Equal.{monitor-ext}
+use Rattle.model.proofs.Records.{label-length, label-read, label-form, label-back, object-length, object-read, object-form, object-back}
+use Rattle.invariants.specs.Sound.{Sound}
+use Rattle.images.specs.Tables.{tableOf, TableFits}
+use Rattle.images.proofs.Images.{state-passes, image-passed}
+
+-- ---- a table
+
+module _ (l : List Subject) (T : TableFits l) where
+  each-subject : (i : ℕ) → length (subjectBits (getD l i nobody)) ≡ 21
+  each-subject i = label-length (clearanceAt l i)
+
+  pub table-length : length (tableBits l) ≡ 336
+  table-length = length-join subjectBits 21 nobody l each-subject ∙ omega (arith, T .subjects-length)
+
+  -- the records of bits that are those of the table
+  subject-records : (b : List ℕ) → bytesToBits b ≡ tableBits l → cut 16 21 (bytesToBits b) ≡ map subjectBits l
+  subject-records b e = ap (cut 16 21) e ∙ cut-join subjectBits 21 nobody 16 l (T .subjects-length) each-subject
+
+  pub subjects-back : (b : List ℕ) → bytesToBits b ≡ tableBits l → tableFrom b ≡ l
+  unfolding tableFrom
+  subjects-back b e =
+      ap (map subjectFrom) (subject-records b e)
+      ∙ map-back subjectBits subjectFrom nobody l
+      (λ i h. let v = label-read (clearanceAt l i) (T .clearances-fit i) in λ j. record { clearance = v j })
+
+  pub table-form : (b : List ℕ) → bytesToBits b ≡ tableBits l → tableForm b ≡ true
+  unfolding tableForm
+  table-form b e = ap (allOf labelForm) (subject-records b e) ∙ all-map-at subjectBits labelForm nobody l (λ i. label-form (clearanceAt l i))
+
+  table-bits : bytesToBits (tableOf l) ≡ tableBits l
+  unfolding tableOf
+  table-bits = bytesToBits-bitsToBytes tableSize (tableBits l) (table-length)
+
+  -- a written table is accepted, and reads back to its subjects
+  pub table-accepted : tableChecks (tableOf l) ≡ Granted
+  unfolding tableChecks tableOf
+  table-accepted =
+      pass _ WrongLength _ (eq-eqb (length (tableOf l)) tableSize (length-bitsToBytes tableSize (tableBits l)))
+      ∙ pass _ StrayBits _ (table-form (tableOf l) table-bits)
+
+  pub table-read-back : tableFrom (tableOf l) ≡ l
+  table-read-back = subjects-back (tableOf l) table-bits
+
+-- ---- a written image
+
+module _ (m : Monitor) (S : Sound m) where
+  table-fits : TableFits (m .subjects)
+  table-fits = record { subjects-length = S .formed .subjects-length; clearances-fit = S .formed .clearances-fit }
+
+  each-object : (i : ℕ) → length (objectBits (object m i)) ≡ 154
+  each-object i = object-length (object m i) (S .formed .objects-formed i .shape .rights-length) (S .formed .objects-formed i .shape .held-length)
+
+  objects-length : length (objectsBits (m .objects)) ≡ 9856
+  objects-length = length-join objectBits 154 noObject (m .objects) each-object ∙ omega (arith, S .formed .objects-length)
+
+  image-bits : bytesToBits (imageOf m) ≡ tableBits (m .subjects) ++ objectsBits (m .objects)
+  unfolding imageOf imageBits
+  image-bits =
+      bytesToBits-bitsToBytes imageSize (imageBits m)
+      (length-append (tableBits (m .subjects)) (objectsBits (m .objects)) ∙ omega (arith, table-length (m .subjects) table-fits, objects-length))
+
+  size : length (imageOf m) ≡ imageSize
+  unfolding imageOf
+  size = length-bitsToBytes imageSize (imageBits m)
+
+  table-part : bytesToBits (take tableSize (imageOf m)) ≡ tableBits (m .subjects)
+  table-part =
+      sym (take-bytesToBits tableSize (imageOf m) (omega (arith, size))) ∙ ap (take 336) image-bits
+      ∙ take-at (tableBits (m .subjects)) (objectsBits (m .objects)) 336 (table-length (m .subjects) table-fits)
+
+  object-part : bytesToBits (drop tableSize (imageOf m)) ≡ objectsBits (m .objects)
+  object-part =
+      sym (drop-bytesToBits tableSize (imageOf m) (omega (arith, size))) ∙ ap (drop 336) image-bits
+      ∙ drop-at (tableBits (m .subjects)) (objectsBits (m .objects)) 336 (table-length (m .subjects) table-fits)
+
+  object-records : cut 64 154 (bytesToBits (drop tableSize (imageOf m))) ≡ map objectBits (m .objects)
+  object-records = ap (cut 64 154) object-part ∙ cut-join objectBits 154 noObject 64 (m .objects) (S .formed .objects-length) each-object
+
+  -- reading what was written gives the monitor
+  pub image-read-back : monitorFrom (imageOf m) ≡ m
+  unfolding monitorFrom objectsFrom
+  image-read-back =
+      let subs = subjects-back (m .subjects) table-fits (take tableSize (imageOf m)) table-part in
+      let objs : map objectFrom (cut 64 154 (bytesToBits (drop tableSize (imageOf m)))) ≡ m .objects =
+      ap (map objectFrom) object-records
+      ∙ map-back objectBits objectFrom noObject (m .objects) (λ i h. object-read (m .subjects) (object m i) (S .formed .objects-formed i)) in
+      monitor-ext (monitorFrom (imageOf m)) m subs objs
+
+  image-form : imageForm (imageOf m) ≡ true
+  unfolding imageForm objectsForm
+  image-form =
+      and-both (table-form (m .subjects) table-fits (take tableSize (imageOf m)) table-part)
+      (ap (allOf objectForm) object-records
+      ∙ all-map-at objectBits objectForm noObject (m .objects) (λ i. object-form (m .subjects) (object m i) (S .formed .objects-formed i)))
+
+  -- and it is accepted
+  pub image-accepted : imageChecks (imageOf m) ≡ Granted
+  unfolding imageChecks stateChecks
+  image-accepted =
+      pass _ WrongLength _ (eq-eqb (length (imageOf m)) imageSize size) ∙ pass _ StrayBits _ image-form ∙ ap stateChecks image-read-back ∙ state-passes m S
+
+-- two states with one image are one
+pub image-tells : (m n : Monitor) → Sound m → Sound n → imageOf m ≡ imageOf n → m ≡ n
+image-tells m n S N e = sym (image-read-back m S) ∙ ap monitorFrom e ∙ image-read-back n N
+
+-- ---- an accepted image, an accepted table
+
+records-back : {A : Type 0} (f : A → List Bool) (g : List Bool → A) (form : List Bool → Bool) (n w : ℕ) (b : List Bool) → length b ≡ n * w
+    → ((r : List Bool) → length r ≡ w → form r ≡ true → f (g r) ≡ r) → allOf form (cut n w b) ≡ true → join (map f (map g (cut n w b))) ≡ b
+records-back f g form n w b l h e =
+    ap join
+    (map-back g f [] (cut n w b)
+    (λ i k. h (getD (cut n w b) i []) (cut-length n w b l i [] (omega (arith, length-cut n w b))) (all-at form [] (cut n w b) e i k)))
+    ∙ join-cut n w b l
+
+pub subjects-written : (b : List ℕ) → length b ≡ tableSize → tableForm b ≡ true → tableBits (tableFrom b) ≡ bytesToBits b
+unfolding tableForm tableFrom
+subjects-written b l e = records-back subjectBits subjectFrom labelForm 16 21 (bytesToBits b) (length-bytesToBits b ∙ omega (arith, l)) label-back e
+
+objects-written : (b : List ℕ) → length b ≡ 1232 → objectsForm b ≡ true → objectsBits (objectsFrom b) ≡ bytesToBits b
+unfolding objectsForm objectsFrom
+objects-written b l e = records-back objectBits objectFrom objectForm 64 154 (bytesToBits b) (length-bytesToBits b ∙ omega (arith, l)) object-back e
+
+-- writing the subjects of an accepted table gives its bytes
+pub table-bytes-back : (b : List ℕ) → Bytes b → tableChecks b ≡ Granted → tableOf (tableFrom b) ≡ b
+unfolding tableChecks tableOf
+table-bytes-back b hb e =
+    let ten = passed _ WrongLength _ refl e in
+    let l = eqb-true (length b) tableSize (ten .0) in
+    ap (bitsToBytes tableSize) (subjects-written b l (passed _ StrayBits _ refl (ten .1) .0)) ∙ bitsToBytes-bytesToBits tableSize b hb l
+
+-- writing from the monitor of an accepted image gives its bytes
+pub image-bytes-back : (b : List ℕ) → Bytes b → imageChecks b ≡ Granted → imageOf (monitorFrom b) ≡ b
+unfolding imageForm monitorFrom imageOf imageBits
+image-bytes-back b hb e =
+    let p = image-passed b e in
+    let f = p .1 in
+    let bits : imageBits (monitorFrom b) ≡ bytesToBits b =
+    ap₂ (λ (x y : List Bool). x ++ y)
+    (subjects-written (take tableSize b) (length-take-le tableSize b (omega (arith, p .0))) (and-left (tableForm (take tableSize b)) (objectsForm (drop tableSize b)) f))
+    (objects-written (drop tableSize b) (length-drop tableSize b ∙ omega (arith, p .0)) (and-right (tableForm (take tableSize b)) (objectsForm (drop tableSize b)) f))
+    ∙ sym (bytesToBits-append (take tableSize b) (drop tableSize b)) ∙ ap bytesToBits (take-append-drop tableSize b) in
+    ap (bitsToBytes imageSize) bits ∙ bitsToBytes-bytesToBits imageSize b hb (p .0)

@@ -1,0 +1,2 @@
+-- Tables whose clearances fit.
+pub mod Tables

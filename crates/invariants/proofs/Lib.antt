@@ -1,0 +1,8 @@
+-- What every request keeps: a state that is well formed and secure, in the order in which the files stand on each other.
+pub mod Granted
+pub mod Form
+pub mod Pairs
+pub mod Secure
+pub mod Steps
+pub mod Outcomes
+pub mod Added

@@ -1,0 +1,102 @@
+-- Every request, of any bytes, leaves a well-formed and secure state well formed and secure.
+-- Assumes nothing.
+use Prim.Native.Nat.{ℕ}
+use mathlib.Core.Path.{_≡_, refl, sym, ap, _∙_, subst}
+use mathlib.Core.Logic.{⊎-elim}
+use mathlib.Core.Bool.{true, cond}
+use mathlib.Core.List.{List, [], _∷_}
+use lib.ListN.{length-set}
+use Rattle.model.specs.declared.Monitor.{Monitor}
+use Rattle.model.specs.declared.Request.{Request}
+use Rattle.model.specs.declared.Decoded.{Decoded}
+use Rattle.model.specs.declared.Decoded.the-variants.{Malformed, Says}
+use Rattle.model.specs.declared.Decision.the-variants.{Granted, Already}
+use Rattle.model.specs.declared.Response.{Response}
+use Rattle.model.specs.State.{objectAt, object, WellFormedObject}
+use Rattle.model.specs.Properties.{Secure}
+use Rattle.model.specs.Decisions.{refuses}
+use Rattle.model.specs.Requests.{decode, InRange}
+use Rattle.model.specs.Rules.{target, already, afterwards, checkList, checks, answer, step}
+use Rattle.model.specs.Runs.{carryOut, respond, after}
+use Rattle.model.proofs.Tests.{cond-true, cond-false}
+use Rattle.model.proofs.Requests.{decode-range}
+use Rattle.model.proofs.After.{objects-after}
+use Rattle.model.proofs.Checks.{granted-or-refusal}
+use Rattle.invariants.specs.Sound.{Sound}
+use Rattle.invariants.proofs.Granted.{only-refusals}
+use Rattle.invariants.proofs.Form.{changed-formed}
+use Rattle.invariants.proofs.Secure.{SecureObject, object-secure, changed-secure, StarFor, star-of, changed-star}
+
+-- ---- the two cases of a step
+
+-- every request is granted or refused
+pub granted-or-refused : {P : Type 0} (q : Request) (m : Monitor) → (checks q m ≡ Granted → P) → (refuses (checks q m) ≡ true → P) → P
+unfolding checks
+granted-or-refused q m f g = ⊎-elim f g (granted-or-refusal (checkList q m) (only-refusals q m))
+
+-- the answer of a granted one, and of a refused one
+pub step-granted : (q : Request) (m : Monitor) → checks q m ≡ Granted
+    → step q m ≡ record { decision = cond (already q (object m (target q))) Already Granted; monitor = afterwards q m }
+unfolding step answer
+step-granted q m e = cond-false (refuses (checks q m)) _ _ (ap refuses e)
+
+pub step-refused : (q : Request) (m : Monitor) → refuses (checks q m) ≡ true → step q m ≡ record { decision = checks q m; monitor = m }
+unfolding step answer
+step-refused q m e = cond-true (refuses (checks q m)) _ _ e
+
+-- what holds of the state before, and after a granted request, holds of the state left
+pub step-all : (P : Monitor → Type 0) (q : Request) (m : Monitor) → P m → (checks q m ≡ Granted → P (afterwards q m)) → P (step q m .monitor)
+step-all P q m p f =
+    granted-or-refused q m
+    (λ e. subst (λ (r : Response). P (r .monitor)) (sym (step-granted q m e)) (f e))
+    (λ e. subst (λ (r : Response). P (r .monitor)) (sym (step-refused q m e)) p)
+
+-- ---- soundness is kept
+
+pub secure-of : (m : Monitor) → ((o : ℕ) → SecureObject (m .subjects) (object m o)) → ((s : ℕ) → StarFor s (m .objects)) → Secure m
+secure-of m h t =
+    record {
+      discretionary = λ s o. h o .discretionary s;
+      labelled = λ s o. h o .labelled s;
+      simple = λ s o. h o .simple s;
+      star = star-of m t;
+    }
+
+pub sound-afterwards : (q : Request) (m : Monitor) → InRange q → Sound m → checks q m ≡ Granted → Sound (afterwards q m)
+sound-afterwards q m r S e =
+    let W = S .formed in
+    let F : (o : ℕ) → WellFormedObject (m .subjects) (objectAt (afterwards q m .objects) o) =
+    objects-after (λ j ob. WellFormedObject (m .subjects) ob) q m (W .objects-formed) (changed-formed m q r W e) in
+    record {
+      formed = record {
+        subjects-length = W .subjects-length;
+        clearances-fit = W .clearances-fit;
+        objects-length = length-set (m .objects) (target q) _ ∙ W .objects-length;
+        objects-formed = F;
+      };
+      secure = secure-of (afterwards q m)
+          (objects-after (λ j ob. SecureObject (m .subjects) ob) q m (object-secure m (S .secure)) (changed-secure m W (S .secure) q e))
+          (changed-star q m W (S .secure) (λ o. F o .shape .held-length) e);
+    }
+
+pub sound-step : (q : Request) (m : Monitor) → InRange q → Sound m → Sound (step q m .monitor)
+sound-step q m r S = step-all Sound q m S (sound-afterwards q m r S)
+
+-- the request that bytes say, or none
+pub respond-all : (P : Response → Type 0) (b : List ℕ) (m : Monitor)
+    → (decode b ≡ Malformed → P (carryOut Malformed m)) → ((q : Request) → decode b ≡ Says q → P (step q m)) → P (respond b m)
+unfolding respond
+respond-all P b m f g = go (decode b) f g
+  where
+    go : (d : Decoded) → (d ≡ Malformed → P (carryOut Malformed m)) → ((q : Request) → d ≡ Says q → P (step q m)) → P (carryOut d m)
+    go Malformed f g = f refl
+    go (Says q) f g = g q refl
+
+pub sound-respond : (b : List ℕ) (m : Monitor) → Sound m → Sound (respond b m .monitor)
+sound-respond b m S =
+    respond-all (λ (r : Response). Sound (r .monitor)) b m (λ e. S) (λ q e. sound-step q m (decode-range b q e) S)
+
+pub sound-after : (bs : List (List ℕ)) (m : Monitor) → Sound m → Sound (after bs m)
+unfolding after
+sound-after [] m S = S
+sound-after (b ∷ bs) m S = sound-after bs (respond b m .monitor) (sound-respond b m S)

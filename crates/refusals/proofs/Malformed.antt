@@ -1,0 +1,150 @@
+-- A byte string is malformed exactly when it is one of the first row of "Refused causes".
+-- Assumes nothing.
+use Prim.Native.Nat.{ℕ, _<_, _≤_}
+use native.Mathlib.Omega.{arith}
+use mathlib.Core.Path.{_≡_, refl, sym, ap, _∙_}
+use mathlib.Core.Logic.{inl, inr, ⊎-elim, _↔_, _≢_}
+use mathlib.Core.Bool.{Bool, true, false, cond, _&&_, _||_}
+use mathlib.Core.List.{List}
+use lib.ListN.{length}
+use lib.Dec.{eqb, ltb, leb}
+use borrow.Author.Tests.{eq-eqb, eqb-true, le-leb, leb-true, lt-ltb}
+use Rattle.model.specs.declared.Fields.{Fields}
+use Rattle.model.specs.declared.Request.{Request}
+use Rattle.model.specs.declared.Decoded.{Decoded}
+use Rattle.model.specs.declared.Decoded.the-variants.{Malformed, Says}
+use Rattle.model.specs.Requests.{fields, modeAllowed, unusedZero, wellFormed, decode}
+use Rattle.model.proofs.Tests.{split, apart, clash, and-left, and-right, and-false, or-cases, or-false, cond-true, cond-false, le-or-lt}
+use Rattle.model.proofs.Requests.{in-kinds, actor-in, other-in, object-in, last-two, decode-says, says-decode}
+use Rattle.refusals.specs.Causes.{ModeNotAllowed, UnusedSet, MalformedBytes, not-six-bytes, kind-below, kind-above, actor-above, other-above, object-above, mode-not-allowed, unused-set}
+
+-- ---- tests of numbers that fail
+
+leb-false : (a b : ℕ) → leb a b ≡ false → b < a
+leb-false a b e = ⊎-elim (λ (h : a ≤ b). apart (le-leb a b h) e) (λ (h : b < a). h) (le-or-lt a b)
+
+ltb-false : (a b : ℕ) → ltb a b ≡ false → b ≤ a
+ltb-false a b e = ⊎-elim (λ (h : b ≤ a). h) (λ (h : a < b). apart (lt-ltb a b h) e) (le-or-lt b a)
+
+eqb-false : (a b : ℕ) → eqb a b ≡ false → a ≢ b
+eqb-false a b e w = apart (eq-eqb a b w) e
+
+-- ---- a field test that fails
+
+mode-fails : (k x : ℕ) → modeAllowed k x ≡ false → ModeNotAllowed k x
+unfolding modeAllowed
+mode-fails k x e =
+    split (leb k 4)
+    (λ w. inl (
+      leb-true k 4 w,
+      and-false (leb 1 x) (leb x 4) (sym (cond-true (leb k 4) _ _ w) ∙ e)
+          (λ u. inl (let h : x < 1 = leb-false 1 x u in omega arith)) (λ u. inr (leb-false x 4 u)),
+    ))
+    (λ w. split (eqb k 5)
+    (λ v.
+    let f = or-false (eqb x 0) (eqb x 4) (sym (cond-true (eqb k 5) _ _ v) ∙ sym (cond-false (leb k 4) _ _ w) ∙ e) in
+    inr (inl (eqb-true k 5 v, eqb-false x 0 (f .0), eqb-false x 4 (f .1))))
+    (λ v.
+    let n : k ≢ 5 = eqb-false k 5 v in
+    let h : 4 < k = leb-false k 4 w in
+    inr (inr (above k h n, eqb-false x 0 (sym (cond-false (eqb k 5) _ _ v) ∙ sym (cond-false (leb k 4) _ _ w) ∙ e)))))
+  where
+    above : (k : ℕ) → 4 < k → k ≢ 5 → 5 < k
+    above k h n = ⊎-elim (λ (w : k ≤ 5). absurd (n (omega arith))) (λ (w : 5 < k). w) (le-or-lt k 5)
+
+mode-passes : (k x : ℕ) → modeAllowed k x ≡ true → ModeNotAllowed k x → ⊥
+unfolding modeAllowed
+mode-passes k x e (inl p) =
+    let t : (leb 1 x && leb x 4) ≡ true = sym (cond-true (leb k 4) _ _ (le-leb k 4 (p .0))) ∙ e in
+    let low : 1 ≤ x = leb-true 1 x (and-left (leb 1 x) _ t) in
+    let high : x ≤ 4 = leb-true x 4 (and-right (leb 1 x) _ t) in
+    ⊎-elim (λ (w : x ≡ 0). absurd (omega arith)) (λ (w : 4 < x). absurd (omega arith)) (p .1)
+mode-passes k x e (inr (inl p)) =
+    let t : (eqb x 0 || eqb x 4) ≡ true = sym (ap (λ (j : ℕ). cond (leb j 4) (leb 1 x && leb x 4) (cond (eqb j 5) (eqb x 0 || eqb x 4) (eqb x 0))) (p .0)) ∙ e in
+    or-cases (eqb x 0) (eqb x 4) t (λ w. p .1 (eqb-true x 0 w)) (λ w. p .2 (eqb-true x 4 w))
+mode-passes k x e (inr (inr p)) =
+    let a : leb k 4 ≡ false = not-true (leb k 4) (λ w. absurd (omega (arith, p .0, leb-true k 4 w))) in
+    let b : eqb k 5 ≡ false = not-true (eqb k 5) (λ w. absurd (omega (arith, p .0, eqb-true k 5 w))) in
+    p .1 (eqb-true x 0 (sym (cond-false (eqb k 5) _ _ b) ∙ sym (cond-false (leb k 4) _ _ a) ∙ e))
+  where
+    not-true : (b : Bool) → (b ≡ true → ⊥) → b ≡ false
+    not-true true h = absurd (h refl)
+    not-true false h = refl
+
+unused-fails : (f : Fields) → unusedZero f ≡ false → UnusedSet f
+unfolding unusedZero
+unused-fails f e =
+    and-false (eqb (f .kind) 3 || (eqb (f .kind) 4 || eqb (f .other) 0)) _ e
+    (λ w.
+    let a = or-false (eqb (f .kind) 3) (eqb (f .kind) 4 || eqb (f .other) 0) w in
+    let b = or-false (eqb (f .kind) 4) (eqb (f .other) 0) (a .1) in
+    inl (eqb-false _ _ (a .0), eqb-false _ _ (b .0), eqb-false _ _ (b .1)))
+    (λ w. and-false (eqb (f .kind) 7 || (eqb (f .class) 0 && eqb (f .needs) 0)) (eqb (f .spare) 0) w
+    (λ v.
+    let a = or-false (eqb (f .kind) 7) (eqb (f .class) 0 && eqb (f .needs) 0) v in
+    inr (inl (eqb-false _ _ (a .0), and-false (eqb (f .class) 0) (eqb (f .needs) 0) (a .1) (λ u. inl (eqb-false _ _ u)) (λ u. inr (eqb-false _ _ u)))))
+    (λ v. inr (inr (eqb-false _ _ v))))
+
+unused-passes : (f : Fields) → unusedZero f ≡ true → UnusedSet f → ⊥
+unfolding unusedZero
+unused-passes f e (inl p) =
+    or-cases (eqb (f .kind) 3) (eqb (f .kind) 4 || eqb (f .other) 0) (and-left (eqb (f .kind) 3 || (eqb (f .kind) 4 || eqb (f .other) 0)) _ e)
+    (λ w. p .0 (eqb-true _ _ w))
+    (λ w. or-cases (eqb (f .kind) 4) (eqb (f .other) 0) w (λ v. p .1 (eqb-true _ _ v)) (λ v. p .2 (eqb-true _ _ v)))
+unused-passes f e (inr (inl p)) =
+    let rest = and-right (eqb (f .kind) 3 || (eqb (f .kind) 4 || eqb (f .other) 0)) _ e in
+    or-cases (eqb (f .kind) 7) (eqb (f .class) 0 && eqb (f .needs) 0) (and-left (eqb (f .kind) 7 || (eqb (f .class) 0 && eqb (f .needs) 0)) _ rest)
+    (λ w. p .0 (eqb-true _ _ w))
+    (λ w. ⊎-elim (λ (u : f .class ≢ 0). u (eqb-true _ _ (and-left (eqb (f .class) 0) _ w)))
+    (λ (u : f .needs ≢ 0). u (eqb-true _ _ (and-right (eqb (f .class) 0) _ w))) (p .1))
+unused-passes f e (inr (inr p)) =
+    let rest = and-right (eqb (f .kind) 3 || (eqb (f .kind) 4 || eqb (f .other) 0)) _ e in
+    p (eqb-true _ _ (and-right (eqb (f .kind) 7 || (eqb (f .class) 0 && eqb (f .needs) 0)) _ rest))
+
+-- ---- the theorem
+
+fields-fail : (b : List ℕ) → wellFormed (fields b) ≡ false → MalformedBytes b
+unfolding wellFormed
+fields-fail b e =
+    let f = fields b in
+    and-false (leb 1 (f .kind) && leb (f .kind) 7) _ e
+    (λ w. and-false (leb 1 (f .kind)) (leb (f .kind) 7) w (λ v. kind-below (leb-false 1 _ v)) (λ v. kind-above (leb-false _ 7 v)))
+    (λ w. and-false (ltb (f .actor) 16) _ w (λ v. actor-above (ltb-false _ 16 v))
+    (λ v. and-false (ltb (f .other) 16) _ v (λ u. other-above (ltb-false _ 16 u))
+    (λ u. and-false (ltb (f .object) 64) _ u (λ t. object-above (ltb-false _ 64 t))
+    (λ t. and-false (modeAllowed (f .kind) (f .mode)) _ t (λ r. mode-not-allowed (mode-fails _ _ r)) (λ r. unused-set (unused-fails f r))))))
+
+says-not-malformed : (b : List ℕ) (q : Request) → decode b ≡ Says q → MalformedBytes b → ⊥
+says-not-malformed b q e w =
+    let d = decode-says b q e in
+    let f = fields b in
+    let kinds = in-kinds f (d .1) in
+    elim w [
+      | not-six-bytes h ↦ h (d .0)
+      | kind-below h ↦ absurd (omega (arith, h, leb-true 1 (f .kind) (and-left (leb 1 (f .kind)) _ kinds)))
+      | kind-above h ↦ absurd (omega (arith, h, leb-true (f .kind) 7 (and-right (leb 1 (f .kind)) _ kinds)))
+      | actor-above h ↦ absurd (omega (arith, h, actor-in f (d .1)))
+      | other-above h ↦ absurd (omega (arith, h, other-in f (d .1)))
+      | object-above h ↦ absurd (omega (arith, h, object-in f (d .1)))
+      | mode-not-allowed h ↦ mode-passes _ _ (and-left (modeAllowed (f .kind) (f .mode)) _ (last-two f (d .1))) h
+      | unused-set h ↦ unused-passes f (and-right (modeAllowed (f .kind) (f .mode)) _ (last-two f (d .1))) h
+    ]
+
+pub malformed-exactly : (b : List ℕ) → (decode b ≡ Malformed) ↔ MalformedBytes b
+malformed-exactly b = (
+  λ e. split (eqb (length b) 6)
+      (λ l. split (wellFormed (fields b)) (λ w. absurd (not-both (sym e ∙ says-decode b (eqb-true (length b) 6 l) w))) (fields-fail b))
+      (λ l. not-six-bytes (eqb-false (length b) 6 l)),
+  λ w. go (decode b) (λ q e. says-not-malformed b q e w),
+)
+  where
+    isSays : Decoded → Bool
+    isSays Malformed = false
+    isSays (Says q) = true
+
+    not-both : {q : Request} → Malformed ≡ Says q → ⊥
+    not-both e = clash (sym (ap isSays e))
+
+    go : (d : Decoded) → ((q : Request) → d ≡ Says q → ⊥) → d ≡ Malformed
+    go Malformed h = refl
+    go (Says q) h = absurd (h q refl)

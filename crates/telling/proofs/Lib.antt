@@ -1,0 +1,1 @@
+-- No theorem here: those about the search are in `equal_images`.

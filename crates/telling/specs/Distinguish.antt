@@ -1,0 +1,100 @@
+-- A list of at most four requests on which two states reply differently, empty where they are the same state.
+-- Assumes nothing.
+use Prim.Native.Nat.{ℕ, zero, suc}
+use mathlib.Core.Bool.{Bool, true, false, cond, not, Bool·beq}
+use mathlib.Core.List.{List, [], _∷_}
+use lib.Dec.{eqb}
+use Rattle.model.specs.declared.Level.{Level}
+use Rattle.model.specs.declared.Label.{Label}
+use Rattle.model.specs.declared.Label.the-variants.{Absent, Present}
+use Rattle.model.specs.declared.Monitor.{Monitor}
+use Rattle.model.specs.declared.Mode.{Mode}
+use Rattle.model.specs.declared.Mode.the-variants.{Read, Write, Append, Execute}
+use Rattle.model.specs.declared.Request.{Request}
+use Rattle.model.specs.declared.Request.the-variants.{Get, Release, Create, Delete, ChangeLevel}
+use Rattle.model.specs.Levels.{levelDominates, sameLabel}
+use Rattle.model.specs.Modes.{has}
+use Rattle.model.specs.State.{subjectCount, objectCount, clearance, enrolled, object, rightsOf, heldBy}
+use Rattle.model.specs.Requests.{creation}
+
+-- ---- the first list that is not empty
+
+unfoldable pub orElse : List Request → List Request → List Request
+orElse [] later = later
+orElse (q ∷ qs) later = q ∷ qs
+
+-- of the lists for 0, 1 and so on below n
+unfoldable pub search : ℕ → (ℕ → List Request) → List Request
+search zero f = []
+search (suc n) f = orElse (search n f) (f n)
+
+abbrev pub searchModes : (Mode → List Request) → List Request
+searchModes f = orElse (f Read) (orElse (f Write) (orElse (f Append) (f Execute)))
+
+-- the request, where the test passes
+unfoldable pub when : Bool → Request → List Request
+when true q = q ∷ []
+when false q = []
+
+abbrev pub differ : Bool → Bool → Bool
+differ a b = not (Bool·beq a b)
+
+module _ (m n : Monitor) where
+  -- enrolled in one only: any request by that subject, 3 or not
+  unfoldable pub byEnrolment : ℕ → List Request
+  byEnrolment s = when (differ (enrolled m s) (enrolled n s)) (Delete s 0)
+
+  -- live in one only: a release, 4 or not
+  unfoldable pub byLife : ℕ → List Request
+  byLife o = when (differ (object m o .live) (object n o .live)) (Release (cond (object m o .live) (object m o .owner) (object n o .owner)) o Read)
+
+  -- another owner: a delete by one of them, 6 or not
+  unfoldable pub byOwner : ℕ → List Request
+  byOwner o = when (not (eqb (object m o .owner) (object n o .owner))) (Delete (object m o .owner) o)
+
+  -- another label: the owner changes the level to one of them, 1 or not
+  unfoldable pub toLabel : ℕ → ℕ → Label → Label → List Request
+  toLabel s o Absent Absent = []
+  toLabel s o Absent (Present b) = ChangeLevel s o b ∷ []
+  toLabel s o (Present a) b = when (not (sameLabel (Present a) b)) (ChangeLevel s o a)
+
+  unfoldable pub byLabel : ℕ → List Request
+  byLabel o = toLabel (object m o .owner) o (object m o .label) (object n o .label)
+
+  -- a right in one only: a get, 6 or not
+  unfoldable pub byRight : ℕ → ℕ → Mode → List Request
+  byRight o s x = when (differ (has x (rightsOf (object m o) s)) (has x (rightsOf (object n o) s))) (Get s o x)
+
+  -- an access in one only: a release, 0 or 1
+  unfoldable pub byAccess : ℕ → ℕ → Mode → List Request
+  byAccess o s x = when (differ (has x (heldBy (object m o) s)) (has x (heldBy (object n o) s))) (Release s o x)
+
+  unfoldable pub byObject : ℕ → List Request
+  byObject o =
+      orElse (byLife o) (orElse (byOwner o) (orElse (byLabel o)
+      (orElse (search subjectCount (λ s. searchModes (byRight o s))) (search subjectCount (λ s. searchModes (byAccess o s))))))
+
+-- the last object below k that is not live, 0 where all are
+unfoldable pub freeBelow : ℕ → Monitor → ℕ
+freeBelow zero m = 0
+freeBelow (suc k) m = cond (object m k .live) (freeBelow k m) k
+
+-- the owner makes room where none is; then the subject creates an object, labels it and asks to read it
+unfoldable pub readAt : Monitor → ℕ → ℕ → Level → List Request
+readAt m o s l =
+    cond (object m o .live) (Delete (object m o .owner) o ∷ Create s o (creation false) ∷ ChangeLevel s o l ∷ Get s o Read ∷ [])
+    (Create s o (creation false) ∷ ChangeLevel s o l ∷ Get s o Read ∷ [])
+
+-- another clearance: s reads at a level that one of the two does not dominate, 8 or not
+unfoldable pub toClearance : Monitor → ℕ → Label → Label → List Request
+toClearance m s Absent b = []
+toClearance m s (Present a) Absent = []
+toClearance m s (Present a) (Present b) =
+    cond (levelDominates b a) (cond (levelDominates a b) [] (readAt m (freeBelow objectCount m) s b)) (readAt m (freeBelow objectCount m) s a)
+
+unfoldable pub byClearance : Monitor → Monitor → ℕ → List Request
+byClearance m n s = toClearance m s (clearance m s) (clearance n s)
+
+-- first who is enrolled, then the objects, and where these are equal the clearances
+unfoldable pub distinguish : Monitor → Monitor → List Request
+distinguish m n = orElse (search subjectCount (byEnrolment m n)) (orElse (search objectCount (byObject m n)) (search subjectCount (byClearance m n)))

@@ -1,0 +1,2 @@
+-- The search for requests on which two states reply differently.
+pub mod Distinguish
