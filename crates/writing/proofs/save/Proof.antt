@@ -21,11 +21,11 @@ use Rattle.writing.proofs.save.Tie as tie
 -- the two answers of the writer
 short : (m : Monitor) (s : List ℕ) → length s < imageSize → (ShortBuffer ≡ writing s) × (s ≡ written m s)
 unfolding writing written tooShort
-short m s h = let e = lt-ltb (length s) 1274 h in (rw e, rw e)
+short m s h = let e = lt-ltb (length s) imageSize h in (rw e, rw e)
 
 long : (m : Monitor) (s t : List ℕ) → imageSize ≤ length s → t ≡ imageOf m ++ drop imageSize s → (Granted ≡ writing s) × (t ≡ written m s)
 unfolding writing written tooShort
-long m s t h p = let e = le-ltb (length s) 1274 h in (rw e, rw e p)
+long m s t h p = let e = le-ltb (length s) imageSize h in (rw e, rw e p)
 
 returns : tie.Need-returns
 returns c = let a = c .before .before .args in short (stateIn (a .unit .now)) (a .out .now) (c .if1 .taken)
@@ -48,10 +48,10 @@ returns-2 c =
     let m = stateIn (a .unit .now) in
     let s = a .out .now in
     let t = objects .last .0 in
-    let all : Appends s 0 0 (imageBits m) t (8 * 1274) (objects .result) =
+    let all : Appends s 0 0 (imageBits m) t (8 * imageSize) (objects .result) =
     next _ _ (omega arith) (subjects .ensures) (objects .ensures) in
     long m s t (omega arith)
-    (whole 1274 s t (imageBits m) (objects .result) (λ i. omega (arith, c .slice-known3 .given i)) (omega arith) all)
+    (whole imageSize s t (imageBits m) (objects .result) (λ i. omega (arith, c .slice-known3 .given i)) (omega arith) all)
 
 pub save-spec : {M : Type 1} → statement M
 save-spec =
