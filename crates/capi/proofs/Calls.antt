@@ -16,7 +16,7 @@ use Rattle.model.specs.declared.Response.{Response}
 use Rattle.model.specs.Decisions.{refuses}
 use Rattle.model.specs.Requests.{encode}
 use Rattle.model.specs.Runs.{respond, reply, after, replies}
-use Rattle.model.specs.Layout.{imageOf}
+use Rattle.model.specs.Layout.{imageSize, imageOf}
 use Rattle.model.specs.Reading.{readTable, readImage}
 use Rattle.model.specs.Beginnings.{table, image, Accepted, AllBytes}
 use Rattle.model.proofs.Tests.{cond-false}
@@ -72,7 +72,7 @@ calls-from-image a ha A bs =
     (written-back a ha A) (calls-image bs (readImage a .monitor) (sound-begun (image a) A))
 
 -- the same in a buffer of 1,274 bytes into which `circmon_begin` wrote
-pub calls-from-table : (t buffer : List ℕ) → length buffer ≡ 1274 → Accepted (table t) → (bs : List (List ℕ))
+pub calls-from-table : (t buffer : List ℕ) → length buffer ≡ imageSize → Accepted (table t) → (bs : List (List ℕ))
     → (numbers bs (beginBytes t buffer) ≡ replies bs (readTable t .monitor)) × (bytesLeft bs (beginBytes t buffer) ≡ imageOf (after bs (readTable t .monitor)))
 calls-from-table t buffer size A bs =
     let fresh : beginBytes t buffer ≡ imageOf (readTable t .monitor) =

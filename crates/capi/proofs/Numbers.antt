@@ -13,7 +13,7 @@ use Rattle.model.specs.declared.Decision.the-variants.{Granted, ShortBuffer}
 use Rattle.model.specs.Decisions.{number, refuses}
 use Rattle.model.specs.Requests.{encode}
 use Rattle.model.specs.Runs.{replies}
-use Rattle.model.specs.Layout.{imageOf}
+use Rattle.model.specs.Layout.{imageSize, imageOf}
 use Rattle.model.specs.Reading.{readTable, readImage}
 use Rattle.model.specs.Writing.{writing}
 use Rattle.model.specs.Program.{pieces}
@@ -45,14 +45,14 @@ pub begin-table-refused : (t buffer : List ℕ) → 2 ≤ number (readTable t .d
 begin-table-refused t buffer h = turned (begin-refused t buffer (readTable t) refl (refusing (readTable t .decision) h) _ refl)
 
 -- an accepted one and a buffer under 1,274 bytes: 13, and every byte left
-pub begin-13 : (t buffer : List ℕ) → Accepted (table t) → length buffer < 1274 → (beginNumber t buffer ≡ 13) × (beginBytes t buffer ≡ buffer)
+pub begin-13 : (t buffer : List ℕ) → Accepted (table t) → length buffer < imageSize → (beginNumber t buffer ≡ 13) × (beginBytes t buffer ≡ buffer)
 begin-13 t buffer A h =
     let p = turned (begin-written t buffer (readTable t) refl (ap refuses A) _ (writing buffer) refl refl _ refl) in
     (p .0 ∙ write-13-exactly buffer .1 h, p .1 ∙ write-13-leaves _ buffer h)
 
 -- else 0: the image of the monitor begun from the table in the first 1,274 bytes, and any later byte left
-pub begin-0 : (t buffer : List ℕ) → Accepted (table t) → 1274 ≤ length buffer
-    → (beginNumber t buffer ≡ 0) × (beginBytes t buffer ≡ imageOf (readTable t .monitor) ++ drop 1274 buffer)
+pub begin-0 : (t buffer : List ℕ) → Accepted (table t) → imageSize ≤ length buffer
+    → (beginNumber t buffer ≡ 0) × (beginBytes t buffer ≡ imageOf (readTable t .monitor) ++ drop imageSize buffer)
 begin-0 t buffer A h =
     let p = turned (begin-written t buffer (readTable t) refl (ap refuses A) _ (writing buffer) refl refl _ refl) in
     (p .0 ∙ write-0-exactly buffer .1 h, p .1 ∙ write-0-fills _ buffer h)

@@ -52,7 +52,7 @@ write-read b hb e buffer w =
 -- ---- the lent buffer, by its number and its length
 
 -- "buffer under the image's size, 1,274 bytes": 13
-pub write-13-exactly : (buffer : List ℕ) → (number (writing buffer) ≡ 13) ↔ (length buffer < 1274)
+pub write-13-exactly : (buffer : List ℕ) → (number (writing buffer) ≡ 13) ↔ (length buffer < imageSize)
 unfolding writing tooShort
 write-13-exactly buffer = (
   λ e. split (tooShort buffer) (λ w. ltb-true (length buffer) imageSize w)
@@ -61,7 +61,7 @@ write-13-exactly buffer = (
 )
 
 -- else "a writing returns 0"
-pub write-0-exactly : (buffer : List ℕ) → (number (writing buffer) ≡ 0) ↔ (1274 ≤ length buffer)
+pub write-0-exactly : (buffer : List ℕ) → (number (writing buffer) ≡ 0) ↔ (imageSize ≤ length buffer)
 unfolding writing tooShort
 write-0-exactly buffer = (
   λ e. split (tooShort buffer)
@@ -71,34 +71,34 @@ write-0-exactly buffer = (
 )
 
 -- 13 leaves "every byte of it"
-pub write-13-leaves : (m : Monitor) (buffer : List ℕ) → length buffer < 1274 → written m buffer ≡ buffer
+pub write-13-leaves : (m : Monitor) (buffer : List ℕ) → length buffer < imageSize → written m buffer ≡ buffer
 unfolding written tooShort
 write-13-leaves m buffer h = cond-true (tooShort buffer) buffer _ (lt-ltb (length buffer) imageSize h)
 
 -- 0 "fills the first 1,274 bytes of the lent buffer and leaves any later byte", and there are as many bytes as before
-pub write-0-fills : (m : Monitor) (buffer : List ℕ) → 1274 ≤ length buffer → written m buffer ≡ imageOf m ++ drop 1274 buffer
+pub write-0-fills : (m : Monitor) (buffer : List ℕ) → imageSize ≤ length buffer → written m buffer ≡ imageOf m ++ drop imageSize buffer
 unfolding written tooShort
 write-0-fills m buffer h = cond-false (tooShort buffer) buffer _ (le-ltb (length buffer) imageSize h)
 
-pub image-length : (m : Monitor) → length (imageOf m) ≡ 1274
+pub image-length : (m : Monitor) → length (imageOf m) ≡ imageSize
 unfolding imageOf
 image-length m = length-bitsToBytes imageSize (imageBits m)
 
 pub write-keeps-length : (m : Monitor) (buffer : List ℕ) → length (written m buffer) ≡ length buffer
 write-keeps-length m buffer =
     ⊎-elim
-    (λ (h : 1274 ≤ length buffer). ap length (write-0-fills m buffer h) ∙ length-append (imageOf m) (drop 1274 buffer)
-    ∙ omega (arith, image-length m, length-drop 1274 buffer))
-    (λ (h : length buffer < 1274). ap length (write-13-leaves m buffer h))
-    (le-or-lt 1274 (length buffer))
+    (λ (h : imageSize ≤ length buffer). ap length (write-0-fills m buffer h) ∙ length-append (imageOf m) (drop imageSize buffer)
+    ∙ omega (arith, image-length m, length-drop imageSize buffer))
+    (λ (h : length buffer < imageSize). ap length (write-13-leaves m buffer h))
+    (le-or-lt imageSize (length buffer))
 
 -- later bytes are left, whatever the number
-pub write-leaves : (m : Monitor) (buffer : List ℕ) → drop 1274 (written m buffer) ≡ drop 1274 buffer
+pub write-leaves : (m : Monitor) (buffer : List ℕ) → drop imageSize (written m buffer) ≡ drop imageSize buffer
 write-leaves m buffer =
     ⊎-elim
-    (λ (h : 1274 ≤ length buffer). ap (drop 1274) (write-0-fills m buffer h) ∙ drop-at (imageOf m) (drop 1274 buffer) 1274 (image-length m))
-    (λ (h : length buffer < 1274). ap (drop 1274) (write-13-leaves m buffer h))
-    (le-or-lt 1274 (length buffer))
+    (λ (h : imageSize ≤ length buffer). ap (drop imageSize) (write-0-fills m buffer h) ∙ drop-at (imageOf m) (drop imageSize buffer) imageSize (image-length m))
+    (λ (h : length buffer < imageSize). ap (drop imageSize) (write-13-leaves m buffer h))
+    (le-or-lt imageSize (length buffer))
 
 -- the same for tables
 pub read-written-table : (l : List Subject) → TableFits l → readTable (tableOf l) ≡ record { decision = Granted; monitor = fresh l }

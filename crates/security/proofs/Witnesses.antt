@@ -156,7 +156,7 @@ pub short-piece-met : (0 < length {A = ℕ} (0x10 ∷ [])) × (length {A = ℕ} 
 short-piece-met = (omega arith, omega arith)
 
 -- all that the program reads
-pub input-met : length (tableW ++ replicate 24576 0) ≡ 42 + 6 * 4096
+pub input-met : length (tableW ++ replicate 24576 0) ≡ tableSize + 6 * 4096
 unfolding tableW
 input-met = length-append tableW (replicate 24576 0) ∙ omega (arith, length-replicate {A = ℕ} 24576 0)
 
