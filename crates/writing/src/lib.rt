@@ -154,12 +154,8 @@ fn write_objects(out: &mut [u8], acc: u32, unit: &[[u8; 16]]) -> u32
     let mut o: usize = 0;
     while o < Monitor::OBJECTS {
         let object = object_in(unit, o as u8);
-        waiting = write_object(
-            out,
-            Monitor::TABLE_BITS + Monitor::OBJECT_BITS * o,
-            waiting,
-            object,
-        );
+        let at = Monitor::TABLE_BITS + Monitor::OBJECT_BITS * o;
+        waiting = write_object(out, at, waiting, object);
         o += 1;
     }
     waiting

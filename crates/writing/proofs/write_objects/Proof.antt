@@ -33,11 +33,11 @@ cast-object-in c = search needs
 object-in-requires : tie.Need-object-in-requires Inv-loop μ-loop
 object-in-requires c κs = search needs
 
-mul-write-object : tie.Need-mul-write-object Inv-loop μ-loop
-mul-write-object c = search needs
+mul-at : tie.Need-mul-at Inv-loop μ-loop
+mul-at c = search needs
 
-add-write-object : tie.Need-add-write-object Inv-loop μ-loop
-add-write-object c = search needs
+add-at : tie.Need-add-at Inv-loop μ-loop
+add-at c = search needs
 
 write-object-requires : tie.Need-write-object-requires Inv-loop μ-loop
 write-object-requires c κs = search needs
@@ -74,8 +74,8 @@ write-objects-spec =
     loop-holds
     cast-object-in
     object-in-requires
-    mul-write-object
-    add-write-object
+    mul-at
+    add-at
     write-object-requires
     add-o
     loop-less
