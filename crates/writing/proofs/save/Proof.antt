@@ -2,17 +2,19 @@
 -- Assumes nothing.
 -- A buffer that is too short is left; in any other the two parts, one behind the other, are the whole image.
 -- Assumes nothing.
-use mathlib.Core.Path.{_≡_}
+use mathlib.Core.Path.{_≡_, sym, _∙_}
 use mathlib.Core.List.{List, _++_}
 use Prim.Native.Nat.{ℕ, _*_, _≤_, _<_}
 use native.Mathlib.Omega.{arith}
-use borrow.Author.Tests.{lt-ltb, le-ltb}
 use lib.ListN.{length, drop}
 use Rattle.bits.specs.Stream.{Appends, next, whole}
 use Rattle.model.specs.declared.Monitor.{Monitor}
 use Rattle.model.specs.declared.Decision.the-variants.{Granted, ShortBuffer}
 use Rattle.model.specs.Layout.{imageSize, imageBits, imageOf}
-use Rattle.model.specs.Writing.{tooShort, writing, written}
+use Rattle.model.specs.Buffers.{tooShort}
+use Rattle.model.specs.Writing.{writing, written}
+use Rattle.model.proofs.Tests.{cond-true, cond-false}
+use Rattle.model.proofs.Buffers.{short-is, room-is, filled-short, filled-front}
 use Rattle.unit.specs.Rows.{stateIn}
 use borrow.Author.Needs.{needs}
 use Rattle.writing.proofs.save.Statement.{statement}
@@ -20,12 +22,12 @@ use Rattle.writing.proofs.save.Tie as tie
 
 -- the two answers of the writer
 short : (m : Monitor) (s : List ℕ) → length s < imageSize → (ShortBuffer ≡ writing s) × (s ≡ written m s)
-unfolding writing written tooShort
-short m s h = let e = lt-ltb (length s) imageSize h in (rw e, rw e)
+unfolding writing written
+short m s h = (sym (cond-true (tooShort imageSize s) ShortBuffer Granted (short-is imageSize s h)), sym (filled-short imageSize imageSize (imageOf m) s h))
 
 long : (m : Monitor) (s t : List ℕ) → imageSize ≤ length s → t ≡ imageOf m ++ drop imageSize s → (Granted ≡ writing s) × (t ≡ written m s)
-unfolding writing written tooShort
-long m s t h p = let e = le-ltb (length s) imageSize h in (rw e, rw e p)
+unfolding writing written
+long m s t h p = (sym (cond-false (tooShort imageSize s) ShortBuffer Granted (room-is imageSize s h)), p ∙ sym (filled-front imageSize imageSize (imageOf m) s h))
 
 returns : tie.Need-returns
 returns c = let a = c .before .before .args in short (stateIn (a .unit .now)) (a .out .now) (c .if1 .taken)
