@@ -14,12 +14,13 @@ use Rattle.model.specs.declared.Monitor.{Monitor}
 use Rattle.model.specs.declared.Request.{Request}
 use Rattle.model.specs.declared.Response.{Response}
 use Rattle.model.specs.Decisions.{refuses}
-use Rattle.model.specs.Requests.{encode}
+use Rattle.model.specs.Requests.{fieldsOf, encode}
 use Rattle.model.specs.Runs.{respond, reply, after, replies}
 use Rattle.model.specs.Layout.{imageSize, imageOf}
 use Rattle.model.specs.Reading.{readTable, readImage}
 use Rattle.model.specs.Beginnings.{table, image, Accepted, AllBytes}
 use Rattle.model.proofs.Tests.{cond-false}
+use Rattle.model.proofs.Packing.{pack-length}
 use Rattle.security.specs.Inputs.{SixEach}
 use Rattle.security.specs.Distinguish.{distinguish}
 use Rattle.security.specs.Sound.{Sound}
@@ -29,7 +30,6 @@ use Rattle.security.proofs.Demand3.{same-replies}
 use Rattle.security.proofs.RoundTrips.{image-length, write-0-fills, image-reads}
 use Rattle.security.proofs.ToldApart.{written-back, equal-images-told, different-images-told}
 use Rattle.security.proofs.Programs.{cut-whole}
-use Rattle.distinguish.proofs.Storing.{length-encode}
 use Rattle.capi.specs.Boundary.{beginBytes, requestNumber, requestBytes, distinguishNumber, distinguishBytes}
 use Rattle.capi.specs.Calls.{numbers, bytesLeft}
 use Rattle.capi.proofs.Numbers.{begin-0, distinguish-requests}
@@ -106,7 +106,7 @@ equal-bytes-same-numbers a b ha hb A B qs rs =
 
 six-encoded : (l : List Request) → SixEach (map encode l)
 six-encoded [] = tt
-six-encoded (q ∷ l) = (length-encode q, six-encoded l)
+six-encoded (q ∷ l) = (pack-length (fieldsOf q), six-encoded l)
 
 cut-encoded : (l : List Request) (rest : List ℕ) → cut (length l) 6 (join (map encode l) ++ rest) ≡ map encode l
 unfolding cut
