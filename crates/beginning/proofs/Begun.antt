@@ -6,22 +6,22 @@ use mathlib.Core.Logic.{⊎-elim}
 use mathlib.Core.Bool.{Bool, true, false, cond}
 use mathlib.Core.List.{List, [], _∷_, _++_}
 use native.Mathlib.Omega.{arith}
-use borrow.Author.Tests.{lt-ltb, le-ltb, eqb-true}
+use borrow.Author.Tests.{eqb-true}
 use lib.Dec.{eqb, lit<}
 use lib.ListN.{length, getD, take, drop, replicate, length-append, length-replicate}
 use lib.Seq.{take-length}
 use Rattle.bits.specs.Bits.{Bytes, bytesToBits, bitsToBytes, join, toBits, odd}
 use Rattle.bits.specs.Laws.{bytesToBits-append, bitsToBytes-bytesToBits}
-use Rattle.model.specs.declared.Monitor.{Monitor}
-use Rattle.model.specs.declared.Decision.the-variants.{Granted, WrongLength, StrayBits, ShortBuffer}
+use Rattle.model.specs.declared.Decision.the-variants.{Granted, WrongLength, StrayBits}
 use Rattle.model.specs.State.{objectCount, noObject, emptyMonitor, fresh}
 use Rattle.model.specs.Tests.{unless}
 use Rattle.model.specs.Decisions.{refuses}
 use Rattle.model.specs.Layout.{tableSize, objectsSize, imageSize, labelBits, setsBits, objectBits, objectsBits, imageBits, imageOf}
 use Rattle.model.specs.Reading.{tableFrom, tableForm, tableChecks, begin, readTable}
-use Rattle.model.specs.Writing.{tooShort, writing, written}
+use Rattle.model.specs.Writing.{writing, written}
 use Rattle.model.proofs.Tests.{cond-false, passed, apart}
 use Rattle.model.proofs.Checks.{granted-or-refusal}
+use Rattle.model.proofs.Buffers.{writing-done}
 use Rattle.image_records.specs.declared.TableRead.{TableRead}
 use Rattle.image_records.specs.Records.{subjectsRead}
 use Rattle.images.proofs.Trips.{subjects-written}
@@ -76,18 +76,11 @@ module _ (b : List ℕ) (accepted : refuses (readTable b .decision) ≡ false) w
   -- the buffer after the table was copied into zeros, and these to the front of it
   pub begun-copied : Bytes b → (buffer image last : List ℕ) → imageSize ≤ length buffer → image ≡ take (length b) b ++ drop (length b) (replicate imageSize 0)
       → last ≡ take (length image) image ++ drop (length image) buffer → (Granted ≡ writing buffer) × (last ≡ written (readTable b .monitor) buffer)
-  unfolding writing written tooShort
   begun-copied hb buffer image last h e f =
-      let room = le-ltb (length buffer) imageSize h in
       let whole : image ≡ b ++ zeros = e ∙ ap₂ (λ (x y : List ℕ). x ++ y) (take-length b) (ap (λ (n : ℕ). drop n (replicate {A = ℕ} imageSize 0)) size) in
-      let front = take-length image ∙ whole ∙ sym (begun-bytes hb) in
+      let first = take-length image ∙ whole ∙ sym (begun-bytes hb) in
       let behind = ap (λ (n : ℕ). drop n buffer) (ap length whole ∙ full) in
-      (rw room, rw room (f ∙ ap₂ (λ (x y : List ℕ). x ++ y) front behind))
-
--- a buffer that is too short is left
-pub begun-short : (m : Monitor) (buffer : List ℕ) → length buffer < imageSize → (ShortBuffer ≡ writing buffer) × (buffer ≡ written m buffer)
-unfolding writing written tooShort
-begun-short m buffer h = let e = lt-ltb (length buffer) imageSize h in (rw e, rw e)
+      writing-done (readTable b .monitor) buffer last h (f ∙ ap₂ (λ (x y : List ℕ). x ++ y) first behind)
 
 -- checks 10 and 11, of what was read of the table
 either : (b : Bool) (x y : TableRead) → unless b WrongLength (unless (cond b x y .formed) StrayBits Granted) ≡ unless b WrongLength (unless (x .formed) StrayBits Granted)

@@ -14,12 +14,13 @@ use Rattle.model.specs.declared.Monitor.{Monitor}
 use Rattle.model.specs.declared.Request.{Request}
 use Rattle.model.specs.declared.Response.{Response}
 use Rattle.model.specs.Decisions.{refuses}
-use Rattle.model.specs.Requests.{encode}
+use Rattle.model.specs.Requests.{fieldsOf, encode}
 use Rattle.model.specs.Runs.{respond, reply, after, replies}
-use Rattle.model.specs.Layout.{imageOf}
+use Rattle.model.specs.Layout.{imageSize, imageOf}
 use Rattle.model.specs.Reading.{readTable, readImage}
 use Rattle.model.specs.Beginnings.{table, image, Accepted, AllBytes}
 use Rattle.model.proofs.Tests.{cond-false}
+use Rattle.model.proofs.Packing.{pack-length}
 use Rattle.runs.specs.Inputs.{SixEach}
 use Rattle.telling.specs.Distinguish.{distinguish}
 use Rattle.invariants.specs.Sound.{Sound}
@@ -29,7 +30,6 @@ use Rattle.equal_images.proofs.Demand3.{same-replies}
 use Rattle.images.proofs.RoundTrips.{image-length, write-0-fills, image-reads}
 use Rattle.equal_images.proofs.ToldApart.{written-back, equal-images-told, different-images-told}
 use Rattle.runs.proofs.Programs.{cut-whole}
-use Rattle.distinguish.proofs.Storing.{length-encode}
 use Rattle.capi.specs.Boundary.{beginBytes, requestNumber, requestBytes, distinguishNumber, distinguishBytes}
 use Rattle.capi.specs.Calls.{numbers, bytesLeft}
 use Rattle.capi.proofs.Numbers.{begin-0, distinguish-requests}
@@ -72,7 +72,7 @@ calls-from-image a ha A bs =
     (written-back a ha A) (calls-image bs (readImage a .monitor) (sound-begun (image a) A))
 
 -- the same in a buffer of 1,274 bytes into which `circmon_begin` wrote
-pub calls-from-table : (t buffer : List ℕ) → length buffer ≡ 1274 → Accepted (table t) → (bs : List (List ℕ))
+pub calls-from-table : (t buffer : List ℕ) → length buffer ≡ imageSize → Accepted (table t) → (bs : List (List ℕ))
     → (numbers bs (beginBytes t buffer) ≡ replies bs (readTable t .monitor)) × (bytesLeft bs (beginBytes t buffer) ≡ imageOf (after bs (readTable t .monitor)))
 calls-from-table t buffer size A bs =
     let fresh : beginBytes t buffer ≡ imageOf (readTable t .monitor) =
@@ -106,7 +106,7 @@ equal-bytes-same-numbers a b ha hb A B qs rs =
 
 six-encoded : (l : List Request) → SixEach (map encode l)
 six-encoded [] = tt
-six-encoded (q ∷ l) = (length-encode q, six-encoded l)
+six-encoded (q ∷ l) = (pack-length (fieldsOf q), six-encoded l)
 
 cut-encoded : (l : List Request) (rest : List ℕ) → cut (length l) 6 (join (map encode l) ++ rest) ≡ map encode l
 unfolding cut

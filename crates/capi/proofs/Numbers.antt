@@ -11,21 +11,23 @@ use Rattle.bits.specs.Bits.{join}
 use Rattle.model.specs.declared.Decision.{Decision}
 use Rattle.model.specs.declared.Decision.the-variants.{Granted, ShortBuffer}
 use Rattle.model.specs.Decisions.{number, refuses}
-use Rattle.model.specs.Requests.{encode}
+use Rattle.model.specs.Requests.{requestSize, encode}
 use Rattle.model.specs.Runs.{replies}
-use Rattle.model.specs.Layout.{imageOf}
+use Rattle.model.specs.Layout.{imageSize, imageOf}
 use Rattle.model.specs.Reading.{readTable, readImage}
+use Rattle.model.specs.Buffers.{tooShort}
 use Rattle.model.specs.Writing.{writing}
 use Rattle.model.specs.Program.{pieces}
 use Rattle.model.specs.Beginnings.{table, image, Accepted}
 use Rattle.model.proofs.Tests.{cond-true, cond-false}
+use Rattle.model.proofs.Buffers.{short-is, room-is, filled-short, filled-front}
 use Rattle.runs.specs.Inputs.{SixEach}
 use Rattle.telling.specs.Distinguish.{distinguish}
 use Rattle.images.proofs.RoundTrips.{write-13-exactly, write-0-exactly, write-13-leaves, write-0-fills}
 use Rattle.runs.proofs.Programs.{whole-length, pieces-whole, pieces-short}
 use Rattle.turns.specs.Turns.{pieceCount}
 use Rattle.replay.specs.Replay.{replayAnswer, replayed}
-use Rattle.distinguish.specs.Telling.{bytesOf, noRoom, toldNumber, toldBytes}
+use Rattle.distinguish.specs.Telling.{bytesOf, most, toldNumber, toldBytes}
 use Rattle.capi.specs.Boundary.{beginNumber, beginBytes, requestNumber, requestBytes, distinguishNumber, distinguishBytes}
 use Rattle.capi.proofs.Boundary.{begin-refused, begin-written, request-refused, first-refused, second-refused, told-apart}
 
@@ -45,14 +47,14 @@ pub begin-table-refused : (t buffer : List ℕ) → 2 ≤ number (readTable t .d
 begin-table-refused t buffer h = turned (begin-refused t buffer (readTable t .decision) refl (refusing (readTable t .decision) h) _ refl)
 
 -- an accepted one and a buffer under 1,274 bytes: 13, and every byte left
-pub begin-13 : (t buffer : List ℕ) → Accepted (table t) → length buffer < 1274 → (beginNumber t buffer ≡ 13) × (beginBytes t buffer ≡ buffer)
+pub begin-13 : (t buffer : List ℕ) → Accepted (table t) → length buffer < imageSize → (beginNumber t buffer ≡ 13) × (beginBytes t buffer ≡ buffer)
 begin-13 t buffer A h =
     let p = turned (begin-written t buffer (readTable t .decision) refl (ap refuses A) _ (writing buffer) refl refl _ refl) in
     (p .0 ∙ write-13-exactly buffer .1 h, p .1 ∙ write-13-leaves _ buffer h)
 
 -- else 0: the image of the monitor begun from the table in the first 1,274 bytes, and any later byte left
-pub begin-0 : (t buffer : List ℕ) → Accepted (table t) → 1274 ≤ length buffer
-    → (beginNumber t buffer ≡ 0) × (beginBytes t buffer ≡ imageOf (readTable t .monitor) ++ drop 1274 buffer)
+pub begin-0 : (t buffer : List ℕ) → Accepted (table t) → imageSize ≤ length buffer
+    → (beginNumber t buffer ≡ 0) × (beginBytes t buffer ≡ imageOf (readTable t .monitor) ++ drop imageSize buffer)
 begin-0 t buffer A h =
     let p = turned (begin-written t buffer (readTable t .decision) refl (ap refuses A) _ (writing buffer) refl refl _ refl) in
     (p .0 ∙ write-0-exactly buffer .1 h, p .1 ∙ write-0-fills _ buffer h)
@@ -133,16 +135,18 @@ distinguish-192 a b buffer A h = turned (second-refused a b buffer (readImage a 
 -- both are accepted, and the buffer has under 24 bytes: 13, and every byte left
 pub distinguish-13 : (a b buffer : List ℕ) → Accepted (image a) → Accepted (image b) → length buffer < 24
     → (distinguishNumber a b buffer ≡ 13) × (distinguishBytes a b buffer ≡ buffer)
-unfolding toldNumber toldBytes noRoom
+unfolding toldNumber toldBytes
 distinguish-13 a b buffer A B h =
+    let qs = distinguish (readImage a .monitor) (readImage b .monitor) in
     let p = turned (told-apart a b buffer (readImage a .decision) refl (ap refuses A) (readImage b .decision) refl (ap refuses B) _ _ refl refl _ refl _ refl) in
-    (p .0 ∙ cond-true (noRoom buffer) _ _ (lt-ltb (length buffer) 24 h), p .1 ∙ cond-true (noRoom buffer) _ _ (lt-ltb (length buffer) 24 h))
+    (p .0 ∙ cond-true (tooShort most buffer) _ _ (short-is most buffer h), p .1 ∙ filled-short most (requestSize * length qs) (bytesOf qs) buffer h)
 
 -- else the number of requests, which stand in the first bytes, six for each, and any later byte left
 pub distinguish-requests : (a b buffer : List ℕ) → Accepted (image a) → Accepted (image b) → 24 ≤ length buffer
     → let qs = distinguish (readImage a .monitor) (readImage b .monitor) in
     (distinguishNumber a b buffer ≡ length qs) × (distinguishBytes a b buffer ≡ join (map encode qs) ++ drop (6 * length qs) buffer)
-unfolding toldNumber toldBytes noRoom bytesOf
+unfolding toldNumber toldBytes bytesOf
 distinguish-requests a b buffer A B h =
+    let qs = distinguish (readImage a .monitor) (readImage b .monitor) in
     let p = turned (told-apart a b buffer (readImage a .decision) refl (ap refuses A) (readImage b .decision) refl (ap refuses B) _ _ refl refl _ refl _ refl) in
-    (p .0 ∙ cond-false (noRoom buffer) _ _ (le-ltb (length buffer) 24 h), p .1 ∙ cond-false (noRoom buffer) _ _ (le-ltb (length buffer) 24 h))
+    (p .0 ∙ cond-false (tooShort most buffer) _ _ (room-is most buffer h), p .1 ∙ filled-front most (requestSize * length qs) (bytesOf qs) buffer h)

@@ -1,20 +1,20 @@
 // The requests on which the states of two units reply differently, found and written one behind the other.
 ghost use mathlib.Core.Path.{_≡_};
-ghost use Prim.Native.Nat.{_+_, _≤_};
+ghost use Prim.Native.Nat.{_+_, _*_, _≤_};
 ghost use lib.ListN.{length};
-ghost use lib.Seq.{sets};
-ghost use Rattle.model.specs.Requests.{encode};
+ghost use Rattle.model.specs.Requests.{requestSize};
+ghost use Rattle.model.specs.Buffers.{put};
 ghost use Rattle.telling.specs.Distinguish.{distinguish};
 ghost use Rattle.unit.specs.Rows.{rowCount, stateIn};
 ghost use Rattle.differences.specs.Sequences.{readingOf, requestsOf};
-ghost use Rattle.distinguish.specs.Telling.{bytesOf, toldNumber, toldBytes};
+ghost use Rattle.distinguish.specs.Telling.{bytesOf, most, toldNumber, toldBytes};
 use differences::Sequence;
 use differences::clearances_apart;
 use differences::enrolments_apart;
 use differences::free_place;
 use differences::is_found;
 use differences::objects_apart;
-use encoding::encode;
+use encoding::put_request;
 use labels::number;
 use model::Creation;
 use model::Decision;
@@ -45,39 +45,25 @@ fn sequence_of(a: &[[u8; 16]], b: &[[u8; 16]]) -> Sequence
 
 // ---- the requests, written one behind the other
 
-// The six bytes of the request from at on.
-fn write_request(out: &mut [u8], at: usize, q: Request)
-    requires { ⌜ at + 6 ≤ length (now out) ⌝ }
-    ensures { λ _. ⌜ now (out .exit) ≡ sets (now (out .entry)) at (encode q) ⌝ }
-{
-    let bytes = encode(q);
-    out[at] = bytes[0];
-    out[at + 1] = bytes[1];
-    out[at + 2] = bytes[2];
-    out[at + 3] = bytes[3];
-    out[at + 4] = bytes[4];
-    out[at + 5] = bytes[5];
-}
-
 // Create, change of level and get.
 fn write_reading(out: &mut [u8], at: usize, s: u8, o: u8, l: Level)
-    requires { ⌜ at + 18 ≤ length (now out) ⌝ }
-    ensures { λ _. ⌜ now (out .exit) ≡ sets (now (out .entry)) at (bytesOf (readingOf s o l)) ⌝ }
+    requires { ⌜ at + 3 * requestSize ≤ length (now out) ⌝ }
+    ensures { λ _. ⌜ now (out .exit) ≡ put (now (out .entry)) at (bytesOf (readingOf s o l)) ⌝ }
 {
-    write_request(out, at, Request::Create(s, o, Creation { execute: false }));
-    write_request(out, at + 6, Request::ChangeLevel(s, o, l));
-    write_request(out, at + 12, Request::Get(s, o, Mode::Read));
+    put_request(out, at, Request::Create(s, o, Creation { execute: false }));
+    put_request(out, at + 6, Request::ChangeLevel(s, o, l));
+    put_request(out, at + 12, Request::Get(s, o, Mode::Read));
 }
 
 // The requests of the sequence from the first byte on; returns how many there are.
 fn write_sequence(out: &mut [u8], q: Sequence) -> u8
-    requires { ⌜ 24 ≤ length (now out) ⌝ }
-    ensures { λ r. ⌜ (r ≡ length (requestsOf q)) × (now (out .exit) ≡ sets (now (out .entry)) 0 (bytesOf (requestsOf q))) ⌝ }
+    requires { ⌜ most ≤ length (now out) ⌝ }
+    ensures { λ r. ⌜ (r ≡ length (requestsOf q)) × (now (out .exit) ≡ put (now (out .entry)) 0 (bytesOf (requestsOf q))) ⌝ }
 {
     match q {
         Sequence::Nothing => 0,
         Sequence::One(only) => {
-            write_request(out, 0, only);
+            put_request(out, 0, only);
             1
         }
         Sequence::Reading(o, s, l) => {
@@ -85,7 +71,7 @@ fn write_sequence(out: &mut [u8], q: Sequence) -> u8
             3
         }
         Sequence::Replacing(owner, o, s, l) => {
-            write_request(out, 0, Request::Delete(owner, o));
+            put_request(out, 0, Request::Delete(owner, o));
             write_reading(out, 6, s, o, l);
             4
         }

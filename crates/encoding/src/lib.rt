@@ -1,7 +1,11 @@
 // The six bytes of a request.
 ghost use mathlib.Core.Path.{_≡_};
-ghost use Rattle.model.specs.Requests.{modeNumber, fieldsOf, pack, encode};
+ghost use Prim.Native.Nat.{_+_, _≤_};
+ghost use lib.ListN.{length};
+ghost use Rattle.model.specs.Requests.{requestSize, modeNumber, fieldsOf, pack, encode};
+ghost use Rattle.model.specs.Buffers.{put};
 ghost use Rattle.encoding.specs.Word.{withoutLevel, wordOf, wordBytes};
+use buffers::put_bytes;
 use model::Fields;
 use model::Mode;
 use model::Request;
@@ -100,4 +104,13 @@ pub fn encode(q: Request) -> [u8; 6]
     ensures { λ r. ⌜ r ≡ encode q ⌝ }
 {
     pack(fields_of(q))
+}
+
+// These bytes into a lent buffer, from at on.
+pub fn put_request(out: &mut [u8], at: usize, q: Request)
+    requires { ⌜ at + requestSize ≤ length (now out) ⌝ }
+    ensures { λ _. ⌜ now (out .exit) ≡ put (now (out .entry)) at (encode q) ⌝ }
+{
+    let bytes = encode(q);
+    put_bytes(out, at, &bytes);
 }

@@ -9,6 +9,7 @@ use lib.ListN.{length, take, drop, length-drop}
 use lib.Seq.{take-all, length-take-le}
 use borrow.Author.Tests.{eq-eqb, ne-eqb}
 use lib.Dec.{eqb}
+use Rattle.model.specs.Layout.{tableSize, imageSize}
 use Rattle.model.specs.declared.Monitor.{Monitor}
 use Rattle.model.specs.declared.Decision.{Decision}
 use Rattle.model.specs.declared.Decision.the-variants.{WrongLength, StrayBits}
@@ -46,16 +47,16 @@ right-length s n later d h e = e ∙ sym (pass (eqb (length s) n) WrongLength la
 
 -- ---- an image of the right length: the rows that its two parts leave, and the answer of its checks
 
-module _ (s : List ℕ) (size : length s ≡ 1274) (t : TableRead) (t-is : t ≡ subjectsRead (take 42 s)) where
-  table-is : t ≡ record { subjects = tableFrom (take 42 s); formed = tableForm (take 42 s) }
-  table-is = t-is ∙ table-read (take 42 s) (length-take-le 42 s (omega arith))
+module _ (s : List ℕ) (size : length s ≡ imageSize) (t : TableRead) (t-is : t ≡ subjectsRead (take tableSize s)) where
+  table-is : t ≡ record { subjects = tableFrom (take tableSize s); formed = tableForm (take tableSize s) }
+  table-is = t-is ∙ table-read (take tableSize s) (length-take-le tableSize s (omega arith))
 
   -- the slice from byte 42 on
-  rest : take (length s - 42) (drop 42 s) ≡ drop 42 s
-  rest = take-all (length s - 42) (drop 42 s) (rw (length-drop 42 s) (omega arith))
+  rest : take (length s - tableSize) (drop tableSize s) ≡ drop tableSize s
+  rest = take-all (length s - tableSize) (drop tableSize s) (rw (length-drop tableSize s) (omega arith))
 
-  module _ (u w : Rows) (formed : Bool) (begun : u ≡ unitOf (fresh (t .subjects))) (formed-is : formed ≡ objectsForm (take (length s - 42) (drop 42 s)))
-      (stored : ObjectsStored (objectsFrom (take (length s - 42) (drop 42 s))) w 64) (kept : SameClearances u w) where
+  module _ (u w : Rows) (formed : Bool) (begun : u ≡ unitOf (fresh (t .subjects))) (formed-is : formed ≡ objectsForm (take (length s - tableSize) (drop tableSize s)))
+      (stored : ObjectsStored (objectsFrom (take (length s - tableSize) (drop tableSize s))) w 64) (kept : SameClearances u w) where
     pub image-rows : w ≡ unitOf (monitorFrom s)
     unfolding monitorFrom
     image-rows =
@@ -65,7 +66,7 @@ module _ (s : List ℕ) (size : length s ≡ 1274) (t : TableRead) (t-is : t ≡
     pub image-answer : (k d : Decision) → k ≡ stateChecks (stateIn w) → d ≡ unless (t .formed && formed) StrayBits k → d ≡ imageChecks s
     unfolding imageForm imageChecks stateChecks
     image-answer k d e f =
-        right-length s 1274 (unless (imageForm s) StrayBits (stateChecks (monitorFrom s))) d size
+        right-length s imageSize (unless (imageForm s) StrayBits (stateChecks (monitorFrom s))) d size
         (f
         ∙ ap₂ (λ b (later : Decision). unless b StrayBits later)
         (ap₂ (λ (r : TableRead) b. r .formed && b) table-is (formed-is ∙ ap objectsForm rest))

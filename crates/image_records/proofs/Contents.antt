@@ -17,12 +17,13 @@ use Rattle.model.specs.declared.Level.{Level}
 use Rattle.model.specs.declared.Label.the-variants.{Absent, Present}
 use Rattle.model.specs.declared.Object.{Object}
 use Rattle.model.specs.Levels.{present}
-use Rattle.model.specs.State.{noObject, withOwner, withLabel, withRows}
+use Rattle.model.specs.State.{needsWidth, noObject, withOwner, withLabel, withRows}
+use Rattle.model.specs.Layout.{labelWidth, ownerWidth, labelOffset, setWidth, pairWidth, setsOffset, setsWidth, objectWidth}
 use Rattle.model.specs.Reading.{fieldOf, labelFrom, labelForm, rightsFrom, heldFrom, objectFrom, objectForm}
 use Rattle.image_records.specs.declared.FlagRead.{FlagRead}
 use Rattle.image_records.specs.declared.LabelRead.{LabelRead}
 use Rattle.image_records.specs.declared.SetsRead.{SetsRead}
-use Rattle.image_records.specs.Records.{flagOf, labelOf, setsOf, objectOf}
+use Rattle.image_records.specs.Records.{flagWidth, flagOf, labelOf, setsOf, objectOf}
 
 -- ---- no bit set
 
@@ -47,7 +48,7 @@ flag-is : (x : Bool) (n : ℕ) → n < 16 → leb 16 (bit x * 16 + n) ≡ x
 flag-is true n h = le-leb 16 (1 * 16 + n) (omega arith)
 flag-is false n h = lt-leb 16 (0 * 16 + n) (omega arith)
 
-pub flag-from : (b : List Bool) (v : ℕ) → length b ≡ 5 → v ≡ fromBits b
+pub flag-from : (b : List Bool) (v : ℕ) → length b ≡ flagWidth → v ≡ fromBits b
     → record { flag = leb 16 v; number = bitAnd v 15; blank = eqb v 0 } ≡ flagOf b
 unfolding fromBits
 flag-from [] v l e = absurd (omega arith)
@@ -62,29 +63,29 @@ flag-from (x ∷ b) v l e =
     λ i. record { flag = flag-eq i; number = number-eq i; blank = blank-eq i }
 
 -- the flag of a longer record is in its first five bits
-module _ (b : List Bool) (r : FlagRead) (e : r ≡ flagOf (take 5 b)) where
+module _ (b : List Bool) (r : FlagRead) (e : r ≡ flagOf (take flagWidth b)) where
   flag-first : r .flag ≡ first b
   flag-first = ap (λ (f : FlagRead). f .flag) e ∙ same b
     where
-      same : (b : List Bool) → first (take 5 b) ≡ first b
+      same : (b : List Bool) → first (take flagWidth b) ≡ first b
       same [] = refl
       same (x ∷ b) = refl
 
-  flag-number : r .number ≡ fieldOf b 1 4
+  flag-number : r .number ≡ fieldOf b 1 ownerWidth
   flag-number = ap (λ (f : FlagRead). f .number) e ∙ same b
     where
-      same : (b : List Bool) → fieldOf (take 5 b) 1 4 ≡ fieldOf b 1 4
+      same : (b : List Bool) → fieldOf (take flagWidth b) 1 ownerWidth ≡ fieldOf b 1 ownerWidth
       same [] = refl
-      same (x ∷ b) = ap fromBits (take-take 4 4 b (omega arith))
+      same (x ∷ b) = ap fromBits (take-take ownerWidth ownerWidth b (omega arith))
 
 -- ---- a label
 
-module _ (b : List Bool) (l : length b ≡ 21) (r : FlagRead) (e : r ≡ flagOf (take 5 b)) (n : ℕ) (p : n ≡ fieldOf b 5 16) where
+module _ (b : List Bool) (l : length b ≡ labelWidth) (r : FlagRead) (e : r ≡ flagOf (take flagWidth b)) (n : ℕ) (p : n ≡ fieldOf b flagWidth needsWidth) where
   label-blank : (r .blank && eqb n 0) ≡ allZero b
   label-blank =
-      let rest : take 16 (drop 5 b) ≡ drop 5 b = take-all 16 (drop 5 b) (rw (length-drop 5 b) (omega arith)) in
-      let head : r .blank ≡ allZero (take 5 b) = ap (λ (f : FlagRead). f .blank) e in
-      ap₂ (λ (x y : Bool). x && y) head (ap (λ (k : ℕ). eqb k 0) p ∙ sym (allZero-fromBits (take 16 (drop 5 b))) ∙ ap allZero rest) ∙ zero-parts 5 b
+      let rest : take needsWidth (drop flagWidth b) ≡ drop flagWidth b = take-all needsWidth (drop flagWidth b) (rw (length-drop flagWidth b) (omega arith)) in
+      let head : r .blank ≡ allZero (take flagWidth b) = ap (λ (f : FlagRead). f .blank) e in
+      ap₂ (λ (x y : Bool). x && y) head (ap (λ (k : ℕ). eqb k 0) p ∙ sym (allZero-fromBits (take needsWidth (drop flagWidth b))) ∙ ap allZero rest) ∙ zero-parts flagWidth b
 
   pub label-present : r .flag ≡ true → record { label = Present (record { class = r .number; needs = n }); blank = r .blank && eqb n 0 } ≡ labelOf b
   unfolding labelFrom
@@ -108,25 +109,30 @@ label-formed b r e = ap (λ (k : LabelRead). present (k .label) || k .blank) e �
 
 -- ---- two sets
 
-pub halves : (b : List Bool) → length b ≡ 8 → (fromBits b / 16 ≡ rightsFrom b) × (fromBits b % 16 ≡ heldFrom b)
+pub halves : (b : List Bool) → length b ≡ pairWidth → (fromBits b / 16 ≡ rightsFrom b) × (fromBits b % 16 ≡ heldFrom b)
 halves b l = (
-  omega (arith, fromBits-split 4 4 b l, fromBits-take 4 (drop 4 b)),
-  omega (arith, fromBits-split 4 4 b l, fromBits-take 4 (drop 4 b)),
+  omega (arith, fromBits-split setWidth setWidth b l, fromBits-take setWidth (drop setWidth b)),
+  omega (arith, fromBits-split setWidth setWidth b l, fromBits-take setWidth (drop setWidth b)),
 )
 
 -- ---- an object
 
-module _ (b : List Bool) (f : FlagRead) (pf : f ≡ flagOf (take 5 b)) (a : LabelRead) (pa : a ≡ labelOf (take 21 (drop 5 b)))
-    (u : SetsRead) (pu : u ≡ setsOf (drop 26 b)) where
+-- behind its sets a record has no bit
+sets-last : (b : List Bool) → length b ≡ objectWidth → take setsWidth (drop setsOffset b) ≡ drop setsOffset b
+sets-last b l = take-all setsWidth (drop setsOffset b) (rw (length-drop setsOffset b) (omega arith))
+
+module _ (b : List Bool) (l : length b ≡ objectWidth) (f : FlagRead) (pf : f ≡ flagOf (take flagWidth b))
+    (a : LabelRead) (pa : a ≡ labelOf (take labelWidth (drop labelOffset b))) (u : SetsRead) (pu : u ≡ setsOf (take setsWidth (drop setsOffset b))) where
   pub object-off : (ob : Object) → ob ≡ noObject → f .flag ≡ false → record { object = ob; formed = f .blank && (a .blank && u .blank) } ≡ objectOf b
   unfolding objectFrom objectForm
   object-off ob e h =
-      let d : drop 21 (drop 5 b) ≡ drop 26 b = drop-drop 21 5 b in
+      let tail = drop labelOffset b in
+      let d : take setsWidth (drop setsOffset b) ≡ drop labelWidth tail = sets-last b l ∙ sym (drop-drop labelWidth labelOffset b) in
       let blank : (f .blank && (a .blank && u .blank)) ≡ allZero b =
       ap (λ (x : FlagRead). x .blank && (a .blank && u .blank)) pf
-      ∙ ap₂ (λ (x : LabelRead) (y : SetsRead). allZero (take 5 b) && (x .blank && y .blank)) pa pu
-      ∙ ap (λ (x : List Bool). allZero (take 5 b) && (allZero (take 21 (drop 5 b)) && allZero x)) (sym d)
-      ∙ ap (λ (x : Bool). allZero (take 5 b) && x) (zero-parts 21 (drop 5 b)) ∙ zero-parts 5 b in
+      ∙ ap₂ (λ (x : LabelRead) (y : SetsRead). allZero (take flagWidth b) && (x .blank && y .blank)) pa pu
+      ∙ ap (λ (x : List Bool). allZero (take flagWidth b) && (allZero (take labelWidth tail) && allZero x)) d
+      ∙ ap (λ (x : Bool). allZero (take flagWidth b) && x) (zero-parts labelWidth tail) ∙ zero-parts flagWidth b in
       rw (sym (flag-first b f pf) ∙ h) (λ i. record { object = e i; formed = blank i })
 
   pub object-on : (v : Bool) → v ≡ present (a .label) → f .flag ≡ true
@@ -134,6 +140,6 @@ module _ (b : List Bool) (f : FlagRead) (pf : f ≡ flagOf (take 5 b)) (a : Labe
   unfolding objectFrom objectForm
   object-on v e h =
       let c = flag-number b f pf in
-      let formed-eq = ap (λ (x : Bool). x || a .blank) e ∙ label-formed (take 21 (drop 5 b)) a pa in
+      let formed-eq = ap (λ (x : Bool). x || a .blank) e ∙ label-formed (take labelWidth (drop labelOffset b)) a pa in
       rw (sym (flag-first b f pf) ∙ h)
       (λ i. record { object = withRows (withLabel (withOwner noObject (c i)) (pa i .label)) (pu i .rights) (pu i .held); formed = formed-eq i })

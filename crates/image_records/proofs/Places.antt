@@ -5,7 +5,7 @@ use mathlib.Core.List.{List}
 use Prim.Native.Nat.{ℕ, _+_, _*_, _≤_}
 use native.Mathlib.Omega.{arith}
 use lib.ListN.{length, take, drop, length-drop}
-use lib.Seq.{take-all, length-take-le, drop-drop}
+use lib.Seq.{length-take-le, drop-drop}
 use Rattle.bits.specs.Bits.{fromBits, bytesToBits, field}
 use Rattle.bits.specs.Laws.{length-bytesToBits}
 use Rattle.bits.specs.Fields.{field-within}
@@ -22,12 +22,6 @@ module _ (s : List ℕ) (at n i w from : ℕ) (e : from ≡ at + i) (h : i + w �
 
   pub field-at : at + n ≤ 8 * length s → field s from w ≡ fromBits (take w (drop i (bitsAt s at n)))
   field-at f = field-within s from w (omega arith) ∙ ap fromBits part-at
-
--- the last part
-pub last-at : (s : List ℕ) (at i w from : ℕ) → from ≡ at + i → at + (i + w) ≤ 8 * length s → bitsAt s from w ≡ drop i (bitsAt s at (i + w))
-last-at s at i w from e h =
-    part-at s at (i + w) i w from e (omega arith)
-    ∙ take-all w (drop i (bitsAt s at (i + w))) (rw (length-drop i (bitsAt s at (i + w)), length-at s at (i + w) h) (omega arith))
 
 -- byte i of the bits from bit at on
 pub byte-at : (s : List ℕ) (at i : ℕ) → bitsAt s (at + 8 * i) 8 ≡ take 8 (drop (8 * i) (drop at (bytesToBits s)))

@@ -1,14 +1,14 @@
 -- What is read of the bits of each record: what they say, and whether they have the form.
 -- Assumes nothing.
-use Prim.Native.Nat.{ℕ, _-_}
+use Prim.Native.Nat.{ℕ, _+_}
 use mathlib.Core.Bool.{Bool, false, cond}
 use mathlib.Core.List.{List, map}
 use lib.ListN.{length, take, drop, replicate}
 use lib.Dec.{eqb}
 use Rattle.bits.specs.Bits.{bytesToBits, cut, first, allZero}
-use Rattle.model.specs.Layout.{tableSize, imageSize}
-use Rattle.model.specs.State.{subjectCount, objectCount, nobody, noObject}
-use Rattle.model.specs.Reading.{fieldOf, labelFrom, rightsFrom, heldFrom, objectFrom, objectForm, tableFrom, tableForm, objectsFrom, objectsForm}
+use Rattle.model.specs.Layout.{ownerWidth, pairWidth, tableSize}
+use Rattle.model.specs.State.{subjectCount, nobody}
+use Rattle.model.specs.Reading.{fieldOf, labelFrom, rightsFrom, heldFrom, objectFrom, objectForm, tableFrom, tableForm}
 use Rattle.image_records.specs.declared.FlagRead.{FlagRead}
 use Rattle.image_records.specs.declared.LabelRead.{LabelRead}
 use Rattle.image_records.specs.declared.SetsRead.{SetsRead}
@@ -19,9 +19,12 @@ use Rattle.image_records.specs.declared.TableRead.{TableRead}
 abbrev pub bitsAt : List ℕ → ℕ → ℕ → List Bool
 bitsAt s at w = take w (drop at (bytesToBits s))
 
--- of five bits
+-- a bit and a number behind it: live and owner, and as wide present and class
+abbrev pub flagWidth : ℕ
+flagWidth = 1 + ownerWidth
+
 abbrev pub flagOf : List Bool → FlagRead
-flagOf b = record { flag = first b; number = fieldOf b 1 4; blank = allZero b }
+flagOf b = record { flag = first b; number = fieldOf b 1 ownerWidth; blank = allZero b }
 
 -- of a label's record
 abbrev pub labelOf : List Bool → LabelRead
@@ -29,7 +32,7 @@ labelOf b = record { label = labelFrom b; blank = allZero b }
 
 -- of the sets of sixteen subjects
 abbrev pub setsOf : List Bool → SetsRead
-setsOf b = record { rights = map rightsFrom (cut subjectCount 8 b); held = map heldFrom (cut subjectCount 8 b); blank = allZero b }
+setsOf b = record { rights = map rightsFrom (cut subjectCount pairWidth b); held = map heldFrom (cut subjectCount pairWidth b); blank = allZero b }
 
 -- of an object's record
 abbrev pub objectOf : List Bool → ObjectRead

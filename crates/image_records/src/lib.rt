@@ -1,9 +1,9 @@
-// The records of table and image, of 21 and of 154 bits, read across byte borders: what they say, and whether they have their form.
+// The records of table and image, read across byte borders: what they say, and whether they have their form.
 ghost use mathlib.Core.Path.{_≡_};
 ghost use Prim.Native.Nat.{_+_, _*_, _≤_};
 ghost use lib.ListN.{length};
-ghost use Rattle.model.specs.Layout.{imageSize};
-ghost use Rattle.image_records.specs.Records.{bitsAt, flagOf, labelOf, setsOf, objectOf, subjectsRead};
+ghost use Rattle.model.specs.Layout.{labelWidth, setsWidth, objectWidth, objectsSize, imageSize};
+ghost use Rattle.image_records.specs.Records.{flagWidth, bitsAt, flagOf, labelOf, setsOf, objectOf, subjectsRead};
 ghost use Rattle.model.specs.State.{objectCount};
 ghost use Rattle.model.specs.Reading.{objectsFrom, objectsForm};
 ghost use Rattle.unit.specs.Rows.{rowCount};
@@ -50,8 +50,8 @@ pub struct TableRead {
 
 // Five bits: live and owner, or present and class.
 fn read_flag(bytes: &[u8], at: usize) -> FlagRead
-    requires { ⌜ at + 5 ≤ 8 * length (now bytes) ⌝ }
-    ensures { λ r. ⌜ r ≡ flagOf (bitsAt (now (bytes .entry)) at 5) ⌝ }
+    requires { ⌜ at + flagWidth ≤ 8 * length (now bytes) ⌝ }
+    ensures { λ r. ⌜ r ≡ flagOf (bitsAt (now (bytes .entry)) at flagWidth) ⌝ }
 {
     let head = bits::read_field(bytes, at, 5);
     FlagRead {
@@ -61,10 +61,10 @@ fn read_flag(bytes: &[u8], at: usize) -> FlagRead
     }
 }
 
-// A label's record, of 21 bits from bit at on.
+// A label's record, from bit at on.
 fn read_label(bytes: &[u8], at: usize) -> LabelRead
-    requires { ⌜ (at + 21 ≤ 8 * length (now bytes)) × (length (now bytes) ≤ imageSize) ⌝ }
-    ensures { λ r. ⌜ r ≡ labelOf (bitsAt (now (bytes .entry)) at 21) ⌝ }
+    requires { ⌜ (at + labelWidth ≤ 8 * length (now bytes)) × (length (now bytes) ≤ imageSize) ⌝ }
+    ensures { λ r. ⌜ r ≡ labelOf (bitsAt (now (bytes .entry)) at labelWidth) ⌝ }
 {
     let head = read_flag(bytes, at);
     let needs = bits::read_field(bytes, at + 5, 16);
@@ -86,8 +86,8 @@ fn read_label(bytes: &[u8], at: usize) -> LabelRead
 
 // The sets of the sixteen subjects at one object: eight bits for each, the rights and then the accesses.
 fn read_sets(bytes: &[u8], at: usize) -> SetsRead
-    requires { ⌜ (at + 128 ≤ 8 * length (now bytes)) × (length (now bytes) ≤ imageSize) ⌝ }
-    ensures { λ r. ⌜ r ≡ setsOf (bitsAt (now (bytes .entry)) at 128) ⌝ }
+    requires { ⌜ (at + setsWidth ≤ 8 * length (now bytes)) × (length (now bytes) ≤ imageSize) ⌝ }
+    ensures { λ r. ⌜ r ≡ setsOf (bitsAt (now (bytes .entry)) at setsWidth) ⌝ }
 {
     let mut rights = [0u8; 16];
     let mut held = [0u8; 16];
@@ -107,14 +107,14 @@ fn read_sets(bytes: &[u8], at: usize) -> SetsRead
     }
 }
 
-// An object's record, of 154 bits from bit at on.
+// An object's record, from bit at on.
 fn read_object(bytes: &[u8], at: usize) -> ObjectRead
-    requires { ⌜ (at + 154 ≤ 8 * length (now bytes)) × (length (now bytes) ≤ imageSize) ⌝ }
-    ensures { λ r. ⌜ r ≡ objectOf (bitsAt (now (bytes .entry)) at 154) ⌝ }
+    requires { ⌜ (at + objectWidth ≤ 8 * length (now bytes)) × (length (now bytes) ≤ imageSize) ⌝ }
+    ensures { λ r. ⌜ r ≡ objectOf (bitsAt (now (bytes .entry)) at objectWidth) ⌝ }
 {
     let head = read_flag(bytes, at);
-    let read = read_label(bytes, at + 5);
-    let sets = read_sets(bytes, at + 26);
+    let read = read_label(bytes, at + Monitor::LABEL_AT);
+    let sets = read_sets(bytes, at + Monitor::SETS_AT);
     if !head.flag {
         return ObjectRead {
             object: no_object(),
@@ -152,7 +152,7 @@ pub fn read_subjects(bytes: &[u8]) -> TableRead
     let mut formed = true;
     let mut s: usize = 0;
     while s < Monitor::SUBJECTS {
-        let read = read_label(bytes, 21 * s);
+        let read = read_label(bytes, Monitor::LABEL_BITS * s);
         let clearance = read.label;
         subjects[s] = Subject { clearance };
         formed = formed & (labels::is_present(clearance) | read.blank);
@@ -164,7 +164,7 @@ pub fn read_subjects(bytes: &[u8]) -> TableRead
 // The object records, in the part of an image that begins with them, into the rows of a unit; whether each has its form.
 pub fn read_objects(unit: &mut [[u8; 16]], bytes: &[u8]) -> bool
     requires { do ⌜ (← ⟦unit.len()⟧) ≡ rowCount ⌝ }
-    requires { do ⌜ (← ⟦bytes.len()⟧) ≡ 1232 ⌝ }
+    requires { do ⌜ (← ⟦bytes.len()⟧) ≡ objectsSize ⌝ }
     ensures formed { λ r. ⌜ r ≡ objectsForm (now (bytes .entry)) ⌝ }
     ensures stored { λ r. ⌜ ObjectsStored (objectsFrom (now (bytes .entry))) (now (unit .exit)) objectCount ⌝ }
     ensures kept { λ r. ⌜ SameClearances (now (unit .entry)) (now (unit .exit)) ⌝ }
@@ -172,7 +172,7 @@ pub fn read_objects(unit: &mut [[u8; 16]], bytes: &[u8]) -> bool
     let mut formed = true;
     let mut o: usize = 0;
     while o < Monitor::OBJECTS {
-        let read = read_object(bytes, 154 * o);
+        let read = read_object(bytes, Monitor::OBJECT_BITS * o);
         let object = read.object;
         set_object(unit, o as u8, object);
         formed = formed & read.formed;

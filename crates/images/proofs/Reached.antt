@@ -4,8 +4,7 @@ use Prim.Native.Nat.{ℕ}
 use native.Mathlib.Omega.{arith}
 use mathlib.Core.Path.{_≡_, refl, sym, ap, _∙_, subst}
 use mathlib.Core.List.{List, _++_}
-use lib.ListN.{take, drop}
-use lib.Seq.{take-at}
+use lib.ListN.{take}
 use Rattle.bits.specs.Laws.{length-bitsToBytes}
 use Rattle.model.specs.declared.Monitor.{Monitor}
 use Rattle.model.specs.declared.Request.{Request}
@@ -18,10 +17,12 @@ use Rattle.model.specs.Rules.{step}
 use Rattle.model.specs.Runs.{carryOut, respond, after}
 use Rattle.model.specs.Layout.{imageSize, imageBits, imageOf}
 use Rattle.model.specs.Reading.{tableChecks, imageChecks, begin, readTable, readImage}
-use Rattle.model.specs.Writing.{tooShort, writing, written}
+use Rattle.model.specs.Buffers.{tooShort}
+use Rattle.model.specs.Writing.{writing, written}
 use Rattle.model.specs.Beginnings.{Beginning, table, image, begun, Accepted, left, Reached}
 use Rattle.model.proofs.Tests.{split, cond-true, cond-false}
 use Rattle.model.proofs.Lists.{after-append}
+use Rattle.model.proofs.Buffers.{has-room, filled-front, front-new}
 use Rattle.invariants.specs.Sound.{Sound}
 use Rattle.invariants.proofs.Steps.{sound-after}
 use Rattle.images.proofs.Images.{image-passed, table-sound}
@@ -55,10 +56,10 @@ sound-reached m r = subst Sound (r .reaches) (sound-left (r .beginning) (r .acce
 pub fills : (m : Monitor) (buffer : List ℕ) → number (writing buffer) ≡ 0 → take imageSize (written m buffer) ≡ imageOf m
 unfolding writing written imageOf
 fills m buffer e =
-    split (tooShort buffer)
-    (λ w. absurd (omega (arith, sym e ∙ ap number (cond-true (tooShort buffer) ShortBuffer Granted w))))
-    (λ w. ap (take imageSize) (cond-false (tooShort buffer) buffer (imageOf m ++ drop imageSize buffer) w)
-    ∙ take-at (imageOf m) (drop imageSize buffer) imageSize (length-bitsToBytes imageSize (imageBits m)))
+    split (tooShort imageSize buffer)
+    (λ w. absurd (omega (arith, sym e ∙ ap number (cond-true (tooShort imageSize buffer) ShortBuffer Granted w))))
+    (λ w. ap (take imageSize) (filled-front imageSize imageSize (imageOf m) buffer (has-room imageSize buffer w))
+    ∙ front-new imageSize (imageOf m) buffer (length-bitsToBytes imageSize (imageBits m)))
 
 -- ---- what a byte string says
 

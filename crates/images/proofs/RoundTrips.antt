@@ -3,11 +3,9 @@
 use Prim.Native.Nat.{ℕ, _<_, _≤_}
 use native.Mathlib.Omega.{arith}
 use mathlib.Core.Path.{_≡_, sym, ap, _∙_}
-use mathlib.Core.Logic.{_↔_, ⊎-elim}
+use mathlib.Core.Logic.{_↔_}
 use mathlib.Core.List.{List, _++_}
-use lib.ListN.{length, take, drop, length-append, length-drop}
-use lib.Seq.{drop-at}
-use borrow.Author.Tests.{ltb-true, ltb-false, lt-ltb, le-ltb}
+use lib.ListN.{length, take, drop}
 use Rattle.bits.specs.Bits.{Bytes}
 use Rattle.bits.specs.Laws.{length-bitsToBytes}
 use Rattle.model.specs.declared.Subject.{Subject}
@@ -18,9 +16,11 @@ use Rattle.model.specs.State.{emptyMonitor, fresh}
 use Rattle.model.specs.Decisions.{number, refuses}
 use Rattle.model.specs.Layout.{imageSize, imageBits, imageOf}
 use Rattle.model.specs.Reading.{tableChecks, imageChecks, tableFrom, monitorFrom, begin, readTable, readImage}
-use Rattle.model.specs.Writing.{tooShort, writing, written}
+use Rattle.model.specs.Buffers.{tooShort}
+use Rattle.model.specs.Writing.{writing, written}
 use Rattle.model.specs.Beginnings.{image, table, Accepted, Reached}
-use Rattle.model.proofs.Tests.{split, cond-true, cond-false, le-or-lt}
+use Rattle.model.proofs.Tests.{split, cond-true, cond-false}
+use Rattle.model.proofs.Buffers.{short-is, room-is, is-short, has-room, filled-short, filled-front, filled-later, filled-length}
 use Rattle.invariants.specs.Sound.{Sound}
 use Rattle.images.specs.Tables.{tableOf, TableFits}
 use Rattle.images.proofs.Trips.{image-read-back, image-accepted, image-bytes-back, table-accepted, table-read-back, table-bytes-back}
@@ -51,53 +51,46 @@ write-read b hb e buffer w =
 -- ---- the lent buffer, by its number and its length
 
 -- "buffer under the image's size, 1,274 bytes": 13
-pub write-13-exactly : (buffer : List ℕ) → (number (writing buffer) ≡ 13) ↔ (length buffer < 1274)
-unfolding writing tooShort
+pub write-13-exactly : (buffer : List ℕ) → (number (writing buffer) ≡ 13) ↔ (length buffer < imageSize)
+unfolding writing
 write-13-exactly buffer = (
-  λ e. split (tooShort buffer) (λ w. ltb-true (length buffer) imageSize w)
-      (λ w. absurd (omega (arith, sym e ∙ ap number (cond-false (tooShort buffer) ShortBuffer Granted w)))),
-  λ h. ap number (cond-true (tooShort buffer) ShortBuffer Granted (lt-ltb (length buffer) imageSize h)),
+  λ e. split (tooShort imageSize buffer) (is-short imageSize buffer)
+      (λ w. absurd (omega (arith, sym e ∙ ap number (cond-false (tooShort imageSize buffer) ShortBuffer Granted w)))),
+  λ h. ap number (cond-true (tooShort imageSize buffer) ShortBuffer Granted (short-is imageSize buffer h)),
 )
 
 -- else "a writing returns 0"
-pub write-0-exactly : (buffer : List ℕ) → (number (writing buffer) ≡ 0) ↔ (1274 ≤ length buffer)
-unfolding writing tooShort
+pub write-0-exactly : (buffer : List ℕ) → (number (writing buffer) ≡ 0) ↔ (imageSize ≤ length buffer)
+unfolding writing
 write-0-exactly buffer = (
-  λ e. split (tooShort buffer)
-      (λ w. absurd (omega (arith, sym e ∙ ap number (cond-true (tooShort buffer) ShortBuffer Granted w))))
-      (λ w. ltb-false (length buffer) imageSize w),
-  λ h. ap number (cond-false (tooShort buffer) ShortBuffer Granted (le-ltb (length buffer) imageSize h)),
+  λ e. split (tooShort imageSize buffer)
+      (λ w. absurd (omega (arith, sym e ∙ ap number (cond-true (tooShort imageSize buffer) ShortBuffer Granted w))))
+      (has-room imageSize buffer),
+  λ h. ap number (cond-false (tooShort imageSize buffer) ShortBuffer Granted (room-is imageSize buffer h)),
 )
 
 -- 13 leaves "every byte of it"
-pub write-13-leaves : (m : Monitor) (buffer : List ℕ) → length buffer < 1274 → written m buffer ≡ buffer
-unfolding written tooShort
-write-13-leaves m buffer h = cond-true (tooShort buffer) buffer _ (lt-ltb (length buffer) imageSize h)
+pub write-13-leaves : (m : Monitor) (buffer : List ℕ) → length buffer < imageSize → written m buffer ≡ buffer
+unfolding written
+write-13-leaves m buffer h = filled-short imageSize imageSize (imageOf m) buffer h
 
 -- 0 "fills the first 1,274 bytes of the lent buffer and leaves any later byte", and there are as many bytes as before
-pub write-0-fills : (m : Monitor) (buffer : List ℕ) → 1274 ≤ length buffer → written m buffer ≡ imageOf m ++ drop 1274 buffer
-unfolding written tooShort
-write-0-fills m buffer h = cond-false (tooShort buffer) buffer _ (le-ltb (length buffer) imageSize h)
+pub write-0-fills : (m : Monitor) (buffer : List ℕ) → imageSize ≤ length buffer → written m buffer ≡ imageOf m ++ drop imageSize buffer
+unfolding written
+write-0-fills m buffer h = filled-front imageSize imageSize (imageOf m) buffer h
 
-pub image-length : (m : Monitor) → length (imageOf m) ≡ 1274
+pub image-length : (m : Monitor) → length (imageOf m) ≡ imageSize
 unfolding imageOf
 image-length m = length-bitsToBytes imageSize (imageBits m)
 
 pub write-keeps-length : (m : Monitor) (buffer : List ℕ) → length (written m buffer) ≡ length buffer
-write-keeps-length m buffer =
-    ⊎-elim
-    (λ (h : 1274 ≤ length buffer). ap length (write-0-fills m buffer h) ∙ length-append (imageOf m) (drop 1274 buffer)
-    ∙ omega (arith, image-length m, length-drop 1274 buffer))
-    (λ (h : length buffer < 1274). ap length (write-13-leaves m buffer h))
-    (le-or-lt 1274 (length buffer))
+unfolding written
+write-keeps-length m buffer = filled-length imageSize imageSize (imageOf m) buffer (image-length m) (omega arith)
 
 -- later bytes are left, whatever the number
-pub write-leaves : (m : Monitor) (buffer : List ℕ) → drop 1274 (written m buffer) ≡ drop 1274 buffer
-write-leaves m buffer =
-    ⊎-elim
-    (λ (h : 1274 ≤ length buffer). ap (drop 1274) (write-0-fills m buffer h) ∙ drop-at (imageOf m) (drop 1274 buffer) 1274 (image-length m))
-    (λ (h : length buffer < 1274). ap (drop 1274) (write-13-leaves m buffer h))
-    (le-or-lt 1274 (length buffer))
+pub write-leaves : (m : Monitor) (buffer : List ℕ) → drop imageSize (written m buffer) ≡ drop imageSize buffer
+unfolding written
+write-leaves m buffer = filled-later imageSize imageSize (imageOf m) buffer (image-length m)
 
 -- the same for tables
 pub read-written-table : (l : List Subject) → TableFits l → readTable (tableOf l) ≡ record { decision = Granted; monitor = fresh l }

@@ -1,6 +1,6 @@
 -- What any bits read as a table or as objects give: lengths, numbers that fit, and no object where none is live.
 -- Assumes nothing.
-use Prim.Native.Nat.{ℕ, _<_}
+use Prim.Native.Nat.{ℕ, _+_, _<_}
 use native.Mathlib.Omega.{arith}
 use mathlib.Core.Path.{_≡_, _∙_}
 use mathlib.Core.Bool.{Bool}
@@ -12,8 +12,8 @@ use Rattle.bits.specs.Records.{length-cut}
 use Rattle.model.specs.declared.Label.the-variants.{Absent}
 use Rattle.model.specs.declared.Subject.{Subject}
 use Rattle.model.specs.declared.Monitor.{Monitor}
-use Rattle.model.specs.State.{nobody, noObject, object, LabelFits, ObjectShape, WellFormed}
-use Rattle.model.specs.Layout.{tableSize}
+use Rattle.model.specs.State.{subjectCount, objectCount, classWidth, needsWidth, nobody, noObject, object, LabelFits, ObjectShape, WellFormed}
+use Rattle.model.specs.Layout.{labelWidth, ownerWidth, labelOffset, setWidth, pairWidth, setsOffset, setsWidth, objectWidth, tableSize}
 use Rattle.model.specs.Reading.{labelFrom, subjectFrom, rightsFrom, heldFrom, setsIn, liveFrom, objectFrom, tableRecords, objectRecords, tableFrom, objectsFrom, monitorFrom}
 use Rattle.model.proofs.Tests.{cond-all, map-all, clash}
 use Rattle.invariants.proofs.Form.{no-object-shape}
@@ -35,17 +35,17 @@ shape-of m W =
 
 label-shape : (b : List Bool) → LabelFits (labelFrom b)
 unfolding labelFrom
-label-shape b = cond-all LabelFits (first b) _ Absent (λ e. (fromBits-take 4 (drop 1 b), fromBits-take 16 (drop 5 b))) (λ e. tt)
+label-shape b = cond-all LabelFits (first b) _ Absent (λ e. (fromBits-take classWidth (drop 1 b), fromBits-take needsWidth (drop (1 + classWidth) b))) (λ e. tt)
 
 live-shape : (b : List Bool) → ObjectShape (liveFrom b)
 live-shape b =
     record {
-      rights-length = length-map (setsIn b) rightsFrom ∙ length-cut 16 8 (drop 26 b);
-      held-length = length-map (setsIn b) heldFrom ∙ length-cut 16 8 (drop 26 b);
-      rights-fit = map-all (λ n. n < 16) rightsFrom (setsIn b) 0 (λ r. fromBits-take 4 (drop 0 r)) (omega arith);
-      held-fit = map-all (λ n. n < 16) heldFrom (setsIn b) 0 (λ r. fromBits-take 4 (drop 4 r)) (omega arith);
-      owner-fits = fromBits-take 4 (drop 1 b);
-      label-fits = label-shape (take 21 (drop 5 b));
+      rights-length = length-map (setsIn b) rightsFrom ∙ length-cut subjectCount pairWidth (take setsWidth (drop setsOffset b));
+      held-length = length-map (setsIn b) heldFrom ∙ length-cut subjectCount pairWidth (take setsWidth (drop setsOffset b));
+      rights-fit = map-all (λ n. n < 16) rightsFrom (setsIn b) 0 (λ r. fromBits-take setWidth (drop 0 r)) (omega arith);
+      held-fit = map-all (λ n. n < 16) heldFrom (setsIn b) 0 (λ r. fromBits-take setWidth (drop setWidth r)) (omega arith);
+      owner-fits = fromBits-take ownerWidth (drop 1 b);
+      label-fits = label-shape (take labelWidth (drop labelOffset b));
       not-live = λ e. clash e;
     }
 
@@ -57,7 +57,7 @@ pub table-shape : (b : List ℕ) → TableFits (tableFrom b)
 unfolding tableFrom
 table-shape b =
     record {
-      subjects-length = length-map (tableRecords b) subjectFrom ∙ length-cut 16 21 (bytesToBits b);
+      subjects-length = length-map (tableRecords b) subjectFrom ∙ length-cut subjectCount labelWidth (bytesToBits b);
       clearances-fit = map-all (λ (x : Subject). LabelFits (x .clearance)) subjectFrom (tableRecords b) nobody label-shape tt;
     }
 
@@ -66,6 +66,6 @@ unfolding monitorFrom objectsFrom
 image-shape b =
     record {
       table = table-shape (take tableSize b);
-      objects-length = length-map (objectRecords (drop tableSize b)) objectFrom ∙ length-cut 64 154 (bytesToBits (drop tableSize b));
+      objects-length = length-map (objectRecords (drop tableSize b)) objectFrom ∙ length-cut objectCount objectWidth (bytesToBits (drop tableSize b));
       objects = map-all ObjectShape objectFrom (objectRecords (drop tableSize b)) noObject object-shape no-object-shape;
     }

@@ -15,8 +15,8 @@ use Rattle.model.specs.declared.Subject.{Subject}
 use Rattle.model.specs.declared.Monitor.{Monitor}
 use Rattle.model.specs.declared.Decision.the-variants.{Granted, WrongLength, StrayBits}
 use Rattle.model.specs.Tests.{allOf}
-use Rattle.model.specs.State.{nobody, noObject, clearanceAt, clearance, object}
-use Rattle.model.specs.Layout.{tableSize, imageSize, subjectBits, objectBits, tableBits, objectsBits, imageBits, imageOf}
+use Rattle.model.specs.State.{subjectCount, objectCount, nobody, noObject, clearanceAt, clearance, object}
+use Rattle.model.specs.Layout.{labelWidth, objectWidth, tableWidth, tableSize, objectsWidth, objectsSize, imageSize, subjectBits, objectBits, tableBits, objectsBits, imageBits, imageOf}
 use Rattle.model.specs.Reading.{labelForm, subjectFrom, objectFrom, objectForm, tableFrom, tableForm, objectsFrom, objectsForm, monitorFrom, imageForm, stateChecks, tableChecks, imageChecks}
 use Rattle.model.proofs.Tests.{pass, passed, and-both, and-left, and-right, all-at, all-map-at}
 use Rattle.model.proofs.Equal.{monitor-ext}
@@ -28,15 +28,15 @@ use Rattle.images.proofs.Images.{state-passes, image-passed}
 -- ---- a table
 
 module _ (l : List Subject) (T : TableFits l) where
-  each-subject : (i : ℕ) → length (subjectBits (getD l i nobody)) ≡ 21
+  each-subject : (i : ℕ) → length (subjectBits (getD l i nobody)) ≡ labelWidth
   each-subject i = label-length (clearanceAt l i)
 
-  pub table-length : length (tableBits l) ≡ 336
-  table-length = length-join subjectBits 21 nobody l each-subject ∙ omega (arith, T .subjects-length)
+  pub table-length : length (tableBits l) ≡ tableWidth
+  table-length = length-join subjectBits labelWidth nobody l each-subject ∙ omega (arith, T .subjects-length)
 
   -- the records of bits that are those of the table
-  subject-records : (b : List ℕ) → bytesToBits b ≡ tableBits l → cut 16 21 (bytesToBits b) ≡ map subjectBits l
-  subject-records b e = ap (cut 16 21) e ∙ cut-join subjectBits 21 nobody 16 l (T .subjects-length) each-subject
+  subject-records : (b : List ℕ) → bytesToBits b ≡ tableBits l → cut subjectCount labelWidth (bytesToBits b) ≡ map subjectBits l
+  subject-records b e = ap (cut subjectCount labelWidth) e ∙ cut-join subjectBits labelWidth nobody subjectCount l (T .subjects-length) each-subject
 
   pub subjects-back : (b : List ℕ) → bytesToBits b ≡ tableBits l → tableFrom b ≡ l
   unfolding tableFrom
@@ -69,11 +69,11 @@ module _ (m : Monitor) (S : Sound m) where
   table-fits : TableFits (m .subjects)
   table-fits = record { subjects-length = S .formed .subjects-length; clearances-fit = S .formed .clearances-fit }
 
-  each-object : (i : ℕ) → length (objectBits (object m i)) ≡ 154
+  each-object : (i : ℕ) → length (objectBits (object m i)) ≡ objectWidth
   each-object i = object-length (object m i) (S .formed .objects-formed i .shape .rights-length) (S .formed .objects-formed i .shape .held-length)
 
-  objects-length : length (objectsBits (m .objects)) ≡ 9856
-  objects-length = length-join objectBits 154 noObject (m .objects) each-object ∙ omega (arith, S .formed .objects-length)
+  objects-length : length (objectsBits (m .objects)) ≡ objectsWidth
+  objects-length = length-join objectBits objectWidth noObject (m .objects) each-object ∙ omega (arith, S .formed .objects-length)
 
   image-bits : bytesToBits (imageOf m) ≡ tableBits (m .subjects) ++ objectsBits (m .objects)
   unfolding imageOf imageBits
@@ -87,23 +87,23 @@ module _ (m : Monitor) (S : Sound m) where
 
   table-part : bytesToBits (take tableSize (imageOf m)) ≡ tableBits (m .subjects)
   table-part =
-      sym (take-bytesToBits tableSize (imageOf m) (omega (arith, size))) ∙ ap (take 336) image-bits
-      ∙ take-at (tableBits (m .subjects)) (objectsBits (m .objects)) 336 (table-length (m .subjects) table-fits)
+      sym (take-bytesToBits tableSize (imageOf m) (omega (arith, size))) ∙ ap (take tableWidth) image-bits
+      ∙ take-at (tableBits (m .subjects)) (objectsBits (m .objects)) tableWidth (table-length (m .subjects) table-fits)
 
   object-part : bytesToBits (drop tableSize (imageOf m)) ≡ objectsBits (m .objects)
   object-part =
-      sym (drop-bytesToBits tableSize (imageOf m) (omega (arith, size))) ∙ ap (drop 336) image-bits
-      ∙ drop-at (tableBits (m .subjects)) (objectsBits (m .objects)) 336 (table-length (m .subjects) table-fits)
+      sym (drop-bytesToBits tableSize (imageOf m) (omega (arith, size))) ∙ ap (drop tableWidth) image-bits
+      ∙ drop-at (tableBits (m .subjects)) (objectsBits (m .objects)) tableWidth (table-length (m .subjects) table-fits)
 
-  object-records : cut 64 154 (bytesToBits (drop tableSize (imageOf m))) ≡ map objectBits (m .objects)
-  object-records = ap (cut 64 154) object-part ∙ cut-join objectBits 154 noObject 64 (m .objects) (S .formed .objects-length) each-object
+  object-records : cut objectCount objectWidth (bytesToBits (drop tableSize (imageOf m))) ≡ map objectBits (m .objects)
+  object-records = ap (cut objectCount objectWidth) object-part ∙ cut-join objectBits objectWidth noObject objectCount (m .objects) (S .formed .objects-length) each-object
 
   -- reading what was written gives the monitor
   pub image-read-back : monitorFrom (imageOf m) ≡ m
   unfolding monitorFrom objectsFrom
   image-read-back =
       let subs = subjects-back (m .subjects) table-fits (take tableSize (imageOf m)) table-part in
-      let objs : map objectFrom (cut 64 154 (bytesToBits (drop tableSize (imageOf m)))) ≡ m .objects =
+      let objs : map objectFrom (cut objectCount objectWidth (bytesToBits (drop tableSize (imageOf m)))) ≡ m .objects =
       ap (map objectFrom) object-records
       ∙ map-back objectBits objectFrom noObject (m .objects) (λ i h. object-read (m .subjects) (object m i) (S .formed .objects-formed i)) in
       monitor-ext (monitorFrom (imageOf m)) m subs objs
@@ -137,11 +137,11 @@ records-back f g form n w b l h e =
 
 pub subjects-written : (b : List ℕ) → length b ≡ tableSize → tableForm b ≡ true → tableBits (tableFrom b) ≡ bytesToBits b
 unfolding tableForm tableFrom
-subjects-written b l e = records-back subjectBits subjectFrom labelForm 16 21 (bytesToBits b) (length-bytesToBits b ∙ omega (arith, l)) label-back e
+subjects-written b l e = records-back subjectBits subjectFrom labelForm subjectCount labelWidth (bytesToBits b) (length-bytesToBits b ∙ omega (arith, l)) label-back e
 
-objects-written : (b : List ℕ) → length b ≡ 1232 → objectsForm b ≡ true → objectsBits (objectsFrom b) ≡ bytesToBits b
+objects-written : (b : List ℕ) → length b ≡ objectsSize → objectsForm b ≡ true → objectsBits (objectsFrom b) ≡ bytesToBits b
 unfolding objectsForm objectsFrom
-objects-written b l e = records-back objectBits objectFrom objectForm 64 154 (bytesToBits b) (length-bytesToBits b ∙ omega (arith, l)) object-back e
+objects-written b l e = records-back objectBits objectFrom objectForm objectCount objectWidth (bytesToBits b) (length-bytesToBits b ∙ omega (arith, l)) object-back e
 
 -- writing the subjects of an accepted table gives its bytes
 pub table-bytes-back : (b : List ℕ) → Bytes b → tableChecks b ≡ Granted → tableOf (tableFrom b) ≡ b

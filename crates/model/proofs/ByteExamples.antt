@@ -81,10 +81,10 @@ abbrev traceBytes : List ℕ
 traceBytes =
     0xAE ∷ 0x44 ∷ 0x8D ∷ 0x32 ∷ 0x18 ∷ 0x80 ∷ 0x00 ∷ 0x00 ∷ 0x3D ∷ 0x00 ∷ 0x00 ∷ 0x00 ∷ 0x00 ∷ 0x00 ∷ 0x00 ∷ 0x00 ∷ 0x00 ∷ 0x00 ∷ 0x2C ∷ 0x40 ∷ []
 
-pub record-bits : objectBits trace ≡ take 154 (bytesToBits traceBytes)
+pub record-bits : objectBits trace ≡ take objectWidth (bytesToBits traceBytes)
 unfolding objectBits labelBits setsBits bytesToBits toBits odd
 record-bits = refl
 
-pub record-read : (objectFrom (take 154 (bytesToBits traceBytes)) ≡ trace) × (objectForm (take 154 (bytesToBits traceBytes)) ≡ true)
+pub record-read : (objectFrom (take objectWidth (bytesToBits traceBytes)) ≡ trace) × (objectForm (take objectWidth (bytesToBits traceBytes)) ≡ true)
 unfolding objectFrom objectForm labelFrom labelForm bytesToBits toBits odd fromBits cut
 record-read = (refl, refl)

@@ -15,3 +15,4 @@ pub mod RuleExamples
 pub mod ByteExamples
 pub mod StateExamples
 pub mod Arrays
+pub mod Buffers

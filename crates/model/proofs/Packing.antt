@@ -11,18 +11,19 @@ use Rattle.bits.specs.Bits.{toBits, fromBits, bytesToBits, bitsToBytes, field, 
 use Rattle.bits.specs.Laws.{fromBits-toBits, length-bytesToBits, bytesToBits-bitsToBytes, bitsToBytes-bytesToBits, bytes-bitsToBytes, length-bitsToBytes}
 use Rattle.bits.specs.Fields.{field-lt, field-within, toBits-field}
 use Rattle.model.specs.declared.Fields.{Fields}
-use Rattle.model.specs.Requests.{requestSize, fields, pack}
+use Rattle.model.specs.State.{classWidth, needsWidth}
+use Rattle.model.specs.Requests.{requestSize, kindWidth, actorWidth, otherWidth, objectNumberWidth, modeWidth, spareWidth, actorOffset, otherOffset, objectNumberOffset, modeOffset, classOffset, needsOffset, spareOffset, fields, packedBits, pack}
 
 -- each number fits its width
 pub record FieldsFit (f : Fields) : Type 0 where
-  pub kind : f .kind < 2 ^ 4
-  pub actor : f .actor < 2 ^ 5
-  pub other : f .other < 2 ^ 5
-  pub object : f .object < 2 ^ 7
-  pub mode : f .mode < 2 ^ 3
-  pub class : f .class < 2 ^ 4
-  pub needs : f .needs < 2 ^ 16
-  pub spare : f .spare < 2 ^ 4
+  pub kind : f .kind < 2 ^ kindWidth
+  pub actor : f .actor < 2 ^ actorWidth
+  pub other : f .other < 2 ^ otherWidth
+  pub object : f .object < 2 ^ objectNumberWidth
+  pub mode : f .mode < 2 ^ modeWidth
+  pub class : f .class < 2 ^ classWidth
+  pub needs : f .needs < 2 ^ needsWidth
+  pub spare : f .spare < 2 ^ spareWidth
 
 pub fields-fit : (b : List ℕ) → FieldsFit (fields b)
 unfolding fields
@@ -37,11 +38,6 @@ fields-fit b =
       needs = field-lt b _ _;
       spare = field-lt b _ _;
     }
-
-abbrev packedBits : Fields → List Bool
-packedBits f =
-    toBits 4 (f .kind) ++ (toBits 5 (f .actor) ++ (toBits 5 (f .other) ++ (toBits 7 (f .object)
-    ++ (toBits 3 (f .mode) ++ (toBits 4 (f .class) ++ (toBits 16 (f .needs) ++ toBits 4 (f .spare)))))))
 
 packed-bits : (f : Fields) → bytesToBits (pack f) ≡ packedBits f
 unfolding pack toBits
@@ -64,14 +60,14 @@ field-packed f at w v h fits e =
 pub fields-packed : (f : Fields) → FieldsFit f → fields (pack f) ≡ f
 unfolding fields toBits
 fields-packed f F =
-    let k = field-packed f 0 4 (f .kind) (omega arith) (F .kind) refl in
-    let a = field-packed f 4 5 (f .actor) (omega arith) (F .actor) refl in
-    let t = field-packed f 9 5 (f .other) (omega arith) (F .other) refl in
-    let o = field-packed f 14 7 (f .object) (omega arith) (F .object) refl in
-    let x = field-packed f 21 3 (f .mode) (omega arith) (F .mode) refl in
-    let c = field-packed f 24 4 (f .class) (omega arith) (F .class) refl in
-    let n = field-packed f 28 16 (f .needs) (omega arith) (F .needs) refl in
-    let z = field-packed f 44 4 (f .spare) (omega arith) (F .spare) refl in
+    let k = field-packed f 0 kindWidth (f .kind) (omega arith) (F .kind) refl in
+    let a = field-packed f actorOffset actorWidth (f .actor) (omega arith) (F .actor) refl in
+    let t = field-packed f otherOffset otherWidth (f .other) (omega arith) (F .other) refl in
+    let o = field-packed f objectNumberOffset objectNumberWidth (f .object) (omega arith) (F .object) refl in
+    let x = field-packed f modeOffset modeWidth (f .mode) (omega arith) (F .mode) refl in
+    let c = field-packed f classOffset classWidth (f .class) (omega arith) (F .class) refl in
+    let n = field-packed f needsOffset needsWidth (f .needs) (omega arith) (F .needs) refl in
+    let z = field-packed f spareOffset spareWidth (f .spare) (omega arith) (F .spare) refl in
     λ i. record { kind = k i; actor = a i; other = t i; object = o i; mode = x i; class = c i; needs = n i; spare = z i }
 
 -- two parts of a list side by side
@@ -87,20 +83,20 @@ packed-fields b hb e =
     let whole : take 48 (drop 0 l) ≡ l = take-all 48 l (omega arith) in
     let row : packedBits (fields b) ≡ l =
     rw (
-      toBits-field b 0 4 (omega arith),
-      toBits-field b 4 5 (omega arith),
-      toBits-field b 9 5 (omega arith),
-      toBits-field b 14 7 (omega arith),
-      toBits-field b 21 3 (omega arith),
-      toBits-field b 24 4 (omega arith),
-      toBits-field b 28 16 (omega arith),
-      toBits-field b 44 4 (omega arith),
-      ← side-by-side l 28 16 4,
-      ← side-by-side l 24 4 20,
-      ← side-by-side l 21 3 24,
-      ← side-by-side l 14 7 27,
-      ← side-by-side l 9 5 34,
-      ← side-by-side l 4 5 39,
-      ← side-by-side l 0 4 44,
+      toBits-field b 0 kindWidth (omega arith),
+      toBits-field b actorOffset actorWidth (omega arith),
+      toBits-field b otherOffset otherWidth (omega arith),
+      toBits-field b objectNumberOffset objectNumberWidth (omega arith),
+      toBits-field b modeOffset modeWidth (omega arith),
+      toBits-field b classOffset classWidth (omega arith),
+      toBits-field b needsOffset needsWidth (omega arith),
+      toBits-field b spareOffset spareWidth (omega arith),
+      ← side-by-side l needsOffset needsWidth 4,
+      ← side-by-side l classOffset classWidth 20,
+      ← side-by-side l modeOffset modeWidth 24,
+      ← side-by-side l objectNumberOffset objectNumberWidth 27,
+      ← side-by-side l otherOffset otherWidth 34,
+      ← side-by-side l actorOffset actorWidth 39,
+      ← side-by-side l 0 kindWidth 44,
     ) whole in
     ap (bitsToBytes 6) row ∙ bitsToBytes-bytesToBits 6 b hb e

@@ -10,14 +10,7 @@ use Rattle.model.specs.declared.Label.the-variants.{Absent, Present}
 use Rattle.model.specs.declared.Subject.{Subject}
 use Rattle.model.specs.declared.Object.{Object}
 use Rattle.model.specs.declared.Monitor.{Monitor}
-use Rattle.model.specs.State.{subjectCount, objectCount}
-
--- "class 4, needs 16"
-abbrev pub classWidth : ℕ
-classWidth = 4
-
-abbrev pub needsWidth : ℕ
-needsWidth = 16
+use Rattle.model.specs.State.{subjectCount, objectCount, classWidth, needsWidth}
 
 -- "subject records of 21 bits (enrolled 1, class 4, needs 16)"; a label has the same form
 abbrev pub labelWidth : ℕ
@@ -34,11 +27,14 @@ labelOffset = 1 + ownerWidth
 abbrev pub setWidth : ℕ
 setWidth = 4
 
+abbrev pub pairWidth : ℕ
+pairWidth = setWidth + setWidth
+
 abbrev pub setsOffset : ℕ
 setsOffset = labelOffset + labelWidth
 
 abbrev pub setsWidth : ℕ
-setsWidth = subjectCount * (setWidth + setWidth)
+setsWidth = subjectCount * pairWidth
 
 -- "object records of 154 bits"
 abbrev pub objectWidth : ℕ

@@ -10,6 +10,7 @@ pub mod Rules
 pub mod Runs
 pub mod Layout
 pub mod Reading
+pub mod Buffers
 pub mod Writing
 pub mod Beginnings
 pub mod Program

@@ -1,8 +1,8 @@
 -- The program `circmon`: from the bytes on standard input to the bytes on standard output.
 -- Assumes nothing.
-use Prim.Native.Nat.{ℕ, _+_, _*_, _/_, _%_}
+use Prim.Native.Nat.{ℕ, _+_, _*_, _/_}
 use mathlib.Core.Bool.{cond}
-use mathlib.Core.List.{List, [], _∷_, map}
+use mathlib.Core.List.{List, [], _∷_, _++_, map}
 use lib.ListN.{length, take, drop}
 use lib.Dec.{ltb}
 use Rattle.bits.specs.Bits.{cut, join}
@@ -12,6 +12,7 @@ use Rattle.model.specs.Requests.{requestSize}
 use Rattle.model.specs.Runs.{replies}
 use Rattle.model.specs.Layout.{tableSize}
 use Rattle.model.specs.Reading.{readTable}
+use Rattle.model.specs.Buffers.{digit, twoDigits}
 
 -- "at most 4,096 six-byte requests"
 abbrev pub mostRequests : ℕ
@@ -23,7 +24,7 @@ pieces b = cut ((length b + 5) / requestSize) requestSize b
 
 -- "one line for each request, the reply in decimal": digits, then a newline
 unfoldable pub line : ℕ → List ℕ
-line n = cond (ltb n 10) ((48 + n) ∷ 10 ∷ []) ((48 + n / 10) ∷ (48 + n % 10) ∷ 10 ∷ [])
+line n = cond (ltb n 10) (digit n ∷ 10 ∷ []) (twoDigits n ++ (10 ∷ []))
 
 -- the replies to the requests in a row, or what the table's reader answered
 unfoldable pub linesAfter : Response → List ℕ → List ℕ

@@ -1,6 +1,6 @@
 -- Reading a table and an image: what the bits say, their form, and the checks in order.
 -- Assumes nothing.
-use Prim.Native.Nat.{ℕ}
+use Prim.Native.Nat.{ℕ, _+_}
 use mathlib.Core.Bool.{Bool, true, cond, _&&_, _||_}
 use mathlib.Core.List.{List, [], _∷_, map}
 use lib.ListN.{length, take, drop}
@@ -17,10 +17,10 @@ use Rattle.model.specs.declared.Response.{Response}
 use Rattle.model.specs.Tests.{allBelow, allOf, implies, firstFailing}
 use Rattle.model.specs.Levels.{subset, present}
 use Rattle.model.specs.Modes.{anyNeedsLabel}
-use Rattle.model.specs.State.{subjectCount, objectCount, noObject, clearanceAt, rightsOf, heldBy, fresh, emptyMonitor}
+use Rattle.model.specs.State.{subjectCount, objectCount, classWidth, needsWidth, noObject, clearanceAt, rightsOf, heldBy, fresh, emptyMonitor}
 use Rattle.model.specs.Decisions.{refuses}
 use Rattle.model.specs.Rules.{simpleAll, starAll}
-use Rattle.model.specs.Layout.{labelWidth, classWidth, needsWidth, objectWidth, ownerWidth, setWidth, labelOffset, setsOffset, tableSize, imageSize}
+use Rattle.model.specs.Layout.{labelWidth, objectWidth, ownerWidth, setWidth, pairWidth, labelOffset, setsOffset, setsWidth, tableSize, imageSize}
 
 -- ---- what the bits of a record say
 
@@ -30,7 +30,7 @@ fieldOf b i w = fromBits (take w (drop i b))
 
 -- present 1, class 4, needs 16
 unfoldable pub labelFrom : List Bool → Label
-labelFrom b = cond (first b) (Present (record { class = fieldOf b 1 classWidth; needs = fieldOf b 5 needsWidth })) Absent
+labelFrom b = cond (first b) (Present (record { class = fieldOf b 1 classWidth; needs = fieldOf b (1 + classWidth) needsWidth })) Absent
 
 abbrev pub subjectFrom : List Bool → Subject
 subjectFrom b = record { clearance = labelFrom b }
@@ -42,9 +42,9 @@ rightsFrom b = fieldOf b 0 setWidth
 abbrev pub heldFrom : List Bool → ℕ
 heldFrom b = fieldOf b setWidth setWidth
 
--- the sets of the sixteen subjects, eight bits each
+-- the sets of the sixteen subjects, side by side in the part of the record that is theirs
 abbrev pub setsIn : List Bool → List (List Bool)
-setsIn b = cut subjectCount 8 (drop setsOffset b)
+setsIn b = cut subjectCount pairWidth (take setsWidth (drop setsOffset b))
 
 abbrev pub liveFrom : List Bool → Object
 liveFrom b =

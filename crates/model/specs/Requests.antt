@@ -1,6 +1,6 @@
 -- A request's six bytes ("Requests" in the scope): its fields, the rules for unused ones, what it says, and how it is packed.
 -- Assumes nothing.
-use Prim.Native.Nat.{ℕ, _<_}
+use Prim.Native.Nat.{ℕ, _+_, _<_}
 use mathlib.Core.Bool.{Bool, cond, _&&_, _||_}
 use mathlib.Core.List.{List, _++_}
 use lib.ListN.{length}
@@ -14,24 +14,63 @@ use Rattle.model.specs.declared.Request.{Request}
 use Rattle.model.specs.declared.Request.the-variants.{Get, Release, Give, Rescind, Create, Delete, ChangeLevel}
 use Rattle.model.specs.declared.Decoded.{Decoded}
 use Rattle.model.specs.declared.Decoded.the-variants.{Malformed, Says}
-use Rattle.model.specs.State.{subjectCount, objectCount, LevelFits}
+use Rattle.model.specs.State.{subjectCount, objectCount, classWidth, needsWidth, LevelFits}
 
 -- "Six bytes"
 abbrev pub requestSize : ℕ
 requestSize = 6
 
--- "kind 4 bits, actor 5, other subject 5, object 7, mode 3, class 4, needs 16, spare 4"
+-- "kind 4 bits, actor 5, other subject 5, object 7, mode 3, class 4, needs 16, spare 4": how wide each field is, and where it begins
+abbrev pub kindWidth : ℕ
+kindWidth = 4
+
+abbrev pub actorWidth : ℕ
+actorWidth = 5
+
+abbrev pub actorOffset : ℕ
+actorOffset = kindWidth
+
+abbrev pub otherWidth : ℕ
+otherWidth = 5
+
+abbrev pub otherOffset : ℕ
+otherOffset = actorOffset + actorWidth
+
+abbrev pub objectNumberWidth : ℕ
+objectNumberWidth = 7
+
+abbrev pub objectNumberOffset : ℕ
+objectNumberOffset = otherOffset + otherWidth
+
+abbrev pub modeWidth : ℕ
+modeWidth = 3
+
+abbrev pub modeOffset : ℕ
+modeOffset = objectNumberOffset + objectNumberWidth
+
+abbrev pub classOffset : ℕ
+classOffset = modeOffset + modeWidth
+
+abbrev pub needsOffset : ℕ
+needsOffset = classOffset + classWidth
+
+abbrev pub spareWidth : ℕ
+spareWidth = 4
+
+abbrev pub spareOffset : ℕ
+spareOffset = needsOffset + needsWidth
+
 unfoldable pub fields : List ℕ → Fields
 fields b =
     record {
-      kind = field b 0 4;
-      actor = field b 4 5;
-      other = field b 9 5;
-      object = field b 14 7;
-      mode = field b 21 3;
-      class = field b 24 4;
-      needs = field b 28 16;
-      spare = field b 44 4;
+      kind = field b 0 kindWidth;
+      actor = field b actorOffset actorWidth;
+      other = field b otherOffset otherWidth;
+      object = field b objectNumberOffset objectNumberWidth;
+      mode = field b modeOffset modeWidth;
+      class = field b classOffset classWidth;
+      needs = field b needsOffset needsWidth;
+      spare = field b spareOffset spareWidth;
     }
 
 -- "Modes: 0 none, 1 r, 2 w, 3 a, 4 e"
@@ -102,11 +141,13 @@ fieldsOf (Delete s o) = record { kind = 6; actor = s; other = 0; object = o; mod
 fieldsOf (ChangeLevel s o l) = record { kind = 7; actor = s; other = 0; object = o; mode = 0; class = l .class; needs = l .needs; spare = 0 }
 
 -- "bit-packed, most significant first"
+abbrev pub packedBits : Fields → List Bool
+packedBits f =
+    toBits kindWidth (f .kind) ++ (toBits actorWidth (f .actor) ++ (toBits otherWidth (f .other) ++ (toBits objectNumberWidth (f .object)
+    ++ (toBits modeWidth (f .mode) ++ (toBits classWidth (f .class) ++ (toBits needsWidth (f .needs) ++ toBits spareWidth (f .spare)))))))
+
 unfoldable pub pack : Fields → List ℕ
-pack f =
-    bitsToBytes requestSize
-    (toBits 4 (f .kind) ++ (toBits 5 (f .actor) ++ (toBits 5 (f .other) ++ (toBits 7 (f .object)
-    ++ (toBits 3 (f .mode) ++ (toBits 4 (f .class) ++ (toBits 16 (f .needs) ++ toBits 4 (f .spare))))))))
+pack f = bitsToBytes requestSize (packedBits f)
 
 abbrev pub encode : Request → List ℕ
 encode q = pack (fieldsOf q)

@@ -20,6 +20,13 @@ subjectCount = 16
 abbrev pub objectCount : ℕ
 objectCount = 64
 
+-- the bits of a level, wherever it is packed: "class 4, needs 16"
+abbrev pub classWidth : ℕ
+classWidth = 4
+
+abbrev pub needsWidth : ℕ
+needsWidth = 16
+
 -- "a row of sixteen sets, one for each subject", all empty
 abbrev pub noModes : List ℕ
 noModes = replicate subjectCount 0

@@ -58,10 +58,22 @@ impl Monitor {
 
     pub const OBJECTS: usize = 64;
 
-    // The size of an enrolment table, which is also where the object records of an image begin.
-    pub const TABLE_BYTES: usize = 42;
+    // A label's record: present, class, needs. A subject's record in the table has the same form.
+    pub const LABEL_BITS: usize = 1 + 4 + 16;
 
-    pub const IMAGE_BYTES: usize = 1274;
+    // Where the label stands in an object's record, behind live and owner, and the sets behind it.
+    pub const LABEL_AT: usize = 1 + 4;
+
+    pub const SETS_AT: usize = Self::LABEL_AT + Self::LABEL_BITS;
+
+    pub const OBJECT_BITS: usize = Self::SETS_AT + Self::SUBJECTS * 8;
+
+    // The size of an enrolment table, which is also where the object records of an image begin.
+    pub const TABLE_BITS: usize = Self::SUBJECTS * Self::LABEL_BITS;
+
+    pub const TABLE_BYTES: usize = Self::TABLE_BITS / 8;
+
+    pub const IMAGE_BYTES: usize = Self::TABLE_BYTES + Self::OBJECTS * Self::OBJECT_BITS / 8;
 
     // A monitor begun fresh from an enrolment table, with no live object.
     pub fn begin(table: [Subject; Monitor::SUBJECTS]) -> Monitor

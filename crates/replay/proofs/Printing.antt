@@ -12,13 +12,14 @@ use Rattle.bits.specs.Bits.{join}
 use Rattle.model.specs.declared.Response.{Response}
 use Rattle.model.specs.Decisions.{number, refuses}
 use Rattle.model.specs.Runs.{replies}
+use Rattle.model.specs.Layout.{tableSize}
 use Rattle.model.specs.Reading.{readTable}
 use Rattle.model.specs.Program.{pieces, line, linesAfter, program}
 use Rattle.model.proofs.Tests.{cond-true, cond-false, le-or-lt}
 use Rattle.turns.specs.Turns.{pieceCount, turns}
 use Rattle.model.proofs.Lists.{length-replies}
 use Rattle.turns.proofs.Runs.{taken, length-pieces}
-use Rattle.replay.specs.Lines.{put}
+use Rattle.model.specs.Buffers.{put}
 use Rattle.replay.proofs.Putting.{line-short, lines-short}
 
 -- the rest of a list that ends before
@@ -32,25 +33,25 @@ drop-end l n h = empty (drop n l) (length-drop n l ∙ omega arith)
 none : (n : ℕ) → take {A = ℕ} n [] ≡ []
 none n = take-all n [] (omega arith)
 
-module _ (input : List ℕ) (e : ℕ) (is : e ≡ min 42 (length input)) where
-  table-bytes : take (e - 0) (drop 0 input) ≡ take 42 input
+module _ (input : List ℕ) (e : ℕ) (is : e ≡ min tableSize (length input)) where
+  table-bytes : take (e - 0) (drop 0 input) ≡ take tableSize input
   table-bytes =
-      let k : e - 0 ≡ min (length input) 42 = omega (arith, is) in
-      ap (λ n. take n input) k ∙ taken input 42
+      let k : e - 0 ≡ min (length input) tableSize = omega (arith, is) in
+      ap (λ n. take n input) k ∙ taken input tableSize
 
-  request-bytes : (l : ℕ) → l ≡ min (length input) (e + 24576) → take (l - e) (drop e input) ≡ take 24576 (drop 42 input)
+  request-bytes : (l : ℕ) → l ≡ min (length input) (e + 24576) → take (l - e) (drop e input) ≡ take 24576 (drop tableSize input)
   request-bytes l p =
       ⊎-elim
-      (λ (w : 42 ≤ length input).
-      let q : e ≡ 42 = omega (arith, is) in
+      (λ (w : tableSize ≤ length input).
+      let q : e ≡ tableSize = omega (arith, is) in
       let k : l - e ≡ min (length (drop e input)) 24576 = omega (arith, is, p, length-drop e input) in
       ap (λ n. take n (drop e input)) k ∙ taken (drop e input) 24576 ∙ ap (λ n. take 24576 (drop n input)) q)
-      (λ (w : length input < 42).
-      ap (take (l - e)) (drop-end input e (omega (arith, is))) ∙ none (l - e) ∙ sym (ap (take 24576) (drop-end input 42 (omega arith)) ∙ none 24576))
-      (le-or-lt 42 (length input))
+      (λ (w : length input < tableSize).
+      ap (take (l - e)) (drop-end input e (omega (arith, is))) ∙ none (l - e) ∙ sym (ap (take 24576) (drop-end input tableSize (omega arith)) ∙ none 24576))
+      (le-or-lt tableSize (length input))
 
   module _ (r : Response) (read : r ≡ readTable (take (e - 0) (drop 0 input))) where
-    read-is : r ≡ readTable (take 42 input)
+    read-is : r ≡ readTable (take tableSize input)
     read-is = read ∙ ap readTable table-bytes
 
     -- a refused table: its number
@@ -60,7 +61,7 @@ module _ (input : List ℕ) (e : ℕ) (is : e ≡ min 42 (length input)) where
     prints-refusal w n p zeros last k f g =
         let q : line n ≡ program input =
         ap line (p ∙ ap (λ (x : Response). number (x .decision)) read-is)
-        ∙ sym (cond-true (refuses (readTable (take 42 input) .decision)) _ _ (ap (λ (x : Response). refuses (x .decision)) (sym read-is) ∙ w)) in
+        ∙ sym (cond-true (refuses (readTable (take tableSize input) .decision)) _ _ (ap (λ (x : Response). refuses (x .decision)) (sym read-is) ∙ w)) in
         (f ∙ ap (put zeros 0) q, g ∙ (let z : 0 + length (line n) ≡ length (line n) = omega arith in z) ∙ ap length q, omega (arith, g, line-short n))
 
     -- else a line for each reply
@@ -82,5 +83,5 @@ module _ (input : List ℕ) (e : ℕ) (is : e ≡ min 42 (length input)) where
         let q : join (map line (take c out)) ≡ program input =
         ap (λ x. join (map line x))
         (front ∙ ap₂ (λ y (x : Response). replies (pieces y) (x .monitor)) (request-bytes l p) read-is)
-        ∙ sym (cond-false (refuses (readTable (take 42 input) .decision)) _ _ (ap (λ (x : Response). refuses (x .decision)) (sym read-is) ∙ w)) in
+        ∙ sym (cond-false (refuses (readTable (take tableSize input) .decision)) _ _ (ap (λ (x : Response). refuses (x .decision)) (sym read-is) ∙ w)) in
         (h ∙ ap (put zeros 0) q, j ∙ ap length q, omega (arith, j, room, lines-short (take c out), length-take c out))

@@ -1,3 +1,2 @@
 -- A whole run from a table.
 pub mod Replay
-pub mod Lines

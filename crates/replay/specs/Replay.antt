@@ -2,14 +2,15 @@
 -- Assumes nothing.
 use Prim.Native.Nat.{ℕ}
 use mathlib.Core.Bool.{cond}
-use mathlib.Core.List.{List, _++_}
-use lib.ListN.{length, drop}
+use mathlib.Core.List.{List}
+use lib.ListN.{length}
 use lib.Dec.{ltb}
 use Rattle.model.specs.declared.Decision.{Decision}
 use Rattle.model.specs.declared.Decision.the-variants.{Granted, ShortBuffer}
 use Rattle.model.specs.Decisions.{refuses}
 use Rattle.model.specs.Runs.{replies}
 use Rattle.model.specs.Reading.{readTable}
+use Rattle.model.specs.Buffers.{front}
 use Rattle.model.specs.Program.{pieces}
 use Rattle.turns.specs.Turns.{pieceCount}
 
@@ -23,4 +24,4 @@ replayAnswer table requests room =
 unfoldable pub replayed : List ℕ → List ℕ → List ℕ → List ℕ
 replayed table requests out =
     cond (refuses (replayAnswer table requests (length out))) out
-    (replies (pieces requests) (readTable table .monitor) ++ drop (pieceCount (length requests)) out)
+    (front (pieceCount (length requests)) (replies (pieces requests) (readTable table .monitor)) out)

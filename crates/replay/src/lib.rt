@@ -6,10 +6,11 @@ ghost use lib.ListN.{length, take, replicate};
 ghost use Rattle.bits.specs.Bits.{join};
 ghost use Rattle.model.specs.Requests.{requestSize};
 ghost use Rattle.model.specs.Layout.{tableSize};
+ghost use Rattle.model.specs.Buffers.{put};
 ghost use Rattle.model.specs.Program.{mostRequests, line, program};
-ghost use Rattle.replay.specs.Lines.{put};
 ghost use Rattle.replay.specs.Replay.{replayAnswer, replayed};
 use bits::smaller;
+use buffers::put_two;
 use image::start;
 use labels::number;
 use labels::refuses;
@@ -47,8 +48,7 @@ fn put_line(out: &mut [u8], at: usize, n: u8) -> usize
         out[at + 1] = 10;
         return at + 2;
     }
-    out[at] = 48 + n / 10;
-    out[at + 1] = 48 + n % 10;
+    put_two(out, at, n);
     out[at + 2] = 10;
     at + 3
 }
@@ -68,7 +68,7 @@ fn put_lines(out: &mut [u8], numbers: &[u8], count: usize) -> usize
 }
 
 // All that the program reads: a table and 4,096 requests of six bytes.
-pub const INPUT_BYTES: usize = 24618;
+pub const INPUT_BYTES: usize = Monitor::TABLE_BYTES + 6 * 4096;
 
 // Room for it, each byte 0.
 pub fn input_room() -> [u8; INPUT_BYTES]

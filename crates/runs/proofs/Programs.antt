@@ -64,9 +64,9 @@ pieces-short qs h short some less =
 
 -- ---- accepted tables
 
-accepted-length : (t : List ℕ) → Accepted (table t) → length t ≡ 42
+accepted-length : (t : List ℕ) → Accepted (table t) → length t ≡ tableSize
 unfolding readTable begin tableChecks
-accepted-length t e = eqb-true (length t) 42 (passed (eqb (length t) tableSize) WrongLength _ refl e .0)
+accepted-length t e = eqb-true (length t) tableSize (passed (eqb (length t) tableSize) WrongLength _ refl e .0)
 
 -- what is printed for an accepted table and at most 24,576 bytes of requests
 prints : (t rest : List ℕ) → Accepted (table t) → length rest ≤ 24576
@@ -74,8 +74,8 @@ prints : (t rest : List ℕ) → Accepted (table t) → length rest ≤ 24576
 unfolding program linesAfter
 prints t rest e h =
     let size = accepted-length t e in
-    let front : take 42 (t ++ rest) ≡ t = take-at t rest 42 size in
-    let behind : take 24576 (drop 42 (t ++ rest)) ≡ rest = ap (take 24576) (drop-at t rest 42 size) ∙ take-all 24576 rest h in
+    let front : take tableSize (t ++ rest) ≡ t = take-at t rest tableSize size in
+    let behind : take 24576 (drop tableSize (t ++ rest)) ≡ rest = ap (take 24576) (drop-at t rest tableSize size) ∙ take-all 24576 rest h in
     ap₂ (λ (a b : List ℕ). linesAfter (readTable a) b) front behind ∙ cond-false (refuses (readTable t .decision)) _ _ (ap refuses e)
 
 -- "one line for each request, the reply in decimal", at most 4,096
@@ -100,30 +100,30 @@ program-short-piece t qs short e h few some less =
     ∙ ap (λ (l : List ℕ). replies qs m ++ l) two)
 
 -- "with bytes after these unread"
-pub program-unread : (input rest : List ℕ) → length input ≡ 42 + 6 * 4096 → program (input ++ rest) ≡ program input
+pub program-unread : (input rest : List ℕ) → length input ≡ tableSize + 6 * 4096 → program (input ++ rest) ≡ program input
 unfolding program
 program-unread input rest size =
-    let front : take 42 (input ++ rest) ≡ take 42 input = take-append-le 42 input rest (omega (arith, size)) in
-    let behind : take 24576 (drop 42 (input ++ rest)) ≡ take 24576 (drop 42 input) =
-    ap (take 24576) (drop-append-le 42 input rest (omega (arith, size)))
-    ∙ take-append-le 24576 (drop 42 input) rest (omega (arith, size, length-drop 42 input)) in
+    let front : take tableSize (input ++ rest) ≡ take tableSize input = take-append-le tableSize input rest (omega (arith, size)) in
+    let behind : take 24576 (drop tableSize (input ++ rest)) ≡ take 24576 (drop tableSize input) =
+    ap (take 24576) (drop-append-le tableSize input rest (omega (arith, size)))
+    ∙ take-append-le 24576 (drop tableSize input) rest (omega (arith, size, length-drop tableSize input)) in
     ap₂ (λ (a b : List ℕ). linesAfter (readTable a) b) front behind
 
 -- ---- refused tables
 
 -- "a table that is refused .. prints its number and nothing more"
-pub program-refused : (input : List ℕ) → refuses (readTable (take 42 input) .decision) ≡ true
-    → program input ≡ line (number (readTable (take 42 input) .decision))
+pub program-refused : (input : List ℕ) → refuses (readTable (take tableSize input) .decision) ≡ true
+    → program input ≡ line (number (readTable (take tableSize input) .decision))
 unfolding program linesAfter
-program-refused input e = cond-true (refuses (readTable (take 42 input) .decision)) _ _ e
+program-refused input e = cond-true (refuses (readTable (take tableSize input) .decision)) _ _ e
 
 -- "also a short one": 10
-pub program-short-table : (input : List ℕ) → length input < 42 → program input ≡ 49 ∷ 48 ∷ 10 ∷ []
+pub program-short-table : (input : List ℕ) → length input < tableSize → program input ≡ 49 ∷ 48 ∷ 10 ∷ []
 unfolding readTable begin tableChecks line
 program-short-table input h =
-    let t = take 42 input in
+    let t = take tableSize input in
     let ten : readTable t .decision ≡ WrongLength =
-    stop (eqb (length t) tableSize) WrongLength _ (ne-eqb (length t) 42 (λ e. absurd (omega (arith, e, length-take 42 input)))) in
+    stop (eqb (length t) tableSize) WrongLength _ (ne-eqb (length t) tableSize (λ e. absurd (omega (arith, e, length-take tableSize input)))) in
     program-refused input (ap refuses ten) ∙ ap (λ (d : Decision). line (number d)) ten
 
 -- ---- computed lines

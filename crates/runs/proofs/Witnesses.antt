@@ -25,9 +25,11 @@ use Rattle.model.specs.Rules.{target, simpleAll, starPair, starFrom, starFor, s
 use Rattle.model.specs.Runs.{respond, reply, after}
 use Rattle.model.specs.Layout.{tableSize, tableBits, imageSize, imageBits, imageOf}
 use Rattle.model.specs.Reading.{labelFrom, labelForm, tableFrom, tableForm, tableChecks, imageChecks, begin, readTable, readImage}
-use Rattle.model.specs.Writing.{tooShort, writing}
+use Rattle.model.specs.Buffers.{tooShort}
+use Rattle.model.specs.Writing.{writing}
 use Rattle.model.specs.Beginnings.{table, image, Accepted, left, Reached, AllBytes}
 use Rattle.model.proofs.Tests.{clash, cond-false}
+use Rattle.model.proofs.Buffers.{room-is}
 use Rattle.model.proofs.Packing.{pack-bytes}
 use Rattle.invariants.specs.Sound.{Sound}
 use Rattle.images.specs.Tables.{tableOf, TableFits}
@@ -65,8 +67,8 @@ image-bytes-met m = bytes-bitsToBytes imageSize (imageBits m)
 
 -- a buffer that is long enough: the image itself
 pub buffer-met : (m : Monitor) → number (writing (imageOf m)) ≡ 0
-unfolding writing tooShort imageOf
-buffer-met m = ap number (cond-false (tooShort (imageOf m)) _ Granted (le-ltb (length (imageOf m)) imageSize (omega (arith, length-bitsToBytes imageSize (imageBits m)))))
+unfolding writing imageOf
+buffer-met m = ap number (cond-false (tooShort imageSize (imageOf m)) _ Granted (room-is imageSize (imageOf m) (omega (arith, length-bitsToBytes imageSize (imageBits m)))))
 
 -- the state after the first k requests of the marked run
 abbrev pub stateAt : ℕ → Monitor
@@ -156,7 +158,7 @@ pub short-piece-met : (0 < length {A = ℕ} (0x10 ∷ [])) × (length {A = ℕ} 
 short-piece-met = (omega arith, omega arith)
 
 -- all that the program reads
-pub input-met : length (tableW ++ replicate 24576 0) ≡ 42 + 6 * 4096
+pub input-met : length (tableW ++ replicate 24576 0) ≡ tableSize + 6 * 4096
 unfolding tableW
 input-met = length-append tableW (replicate 24576 0) ∙ omega (arith, length-replicate {A = ℕ} 24576 0)
 

@@ -13,7 +13,7 @@ use Rattle.bits.specs.Laws.{toBits-join, toBits-mod, toBits-low, toBits-split}
 use Rattle.bits.proofs.Machine.{behind}
 use Rattle.model.specs.declared.Level.{Level}
 use Rattle.model.specs.declared.Label.the-variants.{Absent, Present}
-use Rattle.model.specs.Layout.{labelBits}
+use Rattle.model.specs.Layout.{labelWidth, labelBits}
 
 -- ---- two numbers of four bits side by side
 
@@ -35,21 +35,21 @@ flag-bits b n = pair-bits 1 (boolByte b) n (omega arith) ∙ ap (λ (l : List Bo
 
 -- ---- labels
 
-pub absent-bits : toBits 21 0 ≡ labelBits Absent
+pub absent-bits : toBits labelWidth 0 ≡ labelBits Absent
 unfolding labelBits toBits odd
 absent-bits = refl
 
 -- the needs behind the five bits of a class that is present
 pub present-bits : (v : Level) (head : ℕ) → head ≡ 16 + v .class % 16 → v .needs < 65536
-    → toBits 21 (bitOr ((head * 65536) % 2 ^ 32) (v .needs)) ≡ labelBits (Present v)
+    → toBits labelWidth (bitOr ((head * 65536) % 2 ^ 32) (v .needs)) ≡ labelBits (Present v)
 unfolding labelBits
 present-bits v head e h =
     let small : head < 32 = omega arith in
     let bits : toBits 5 head ≡ true ∷ toBits 4 (v .class) = ap (toBits 5) e ∙ flag-bits true (v .class) in
-    ap (toBits 21) (behind 5 16 32 small h (omega arith)) ∙ toBits-join 5 16 head h ∙ ap (λ (l : List Bool). l ++ toBits 16 (v .needs)) bits
+    ap (toBits labelWidth) (behind 5 16 32 small h (omega arith)) ∙ toBits-join 5 16 head h ∙ ap (λ (l : List Bool). l ++ toBits 16 (v .needs)) bits
 
--- 21 bits, appended as 5, 8 and 8
-pub three-parts : (w : ℕ) → (toBits 5 (w / 65536) ++ toBits 8 (w / 256)) ++ toBits 8 w ≡ toBits 21 w
+-- the bits of a label, appended as 5, 8 and 8
+pub three-parts : (w : ℕ) → (toBits 5 (w / 65536) ++ toBits 8 (w / 256)) ++ toBits 8 w ≡ toBits labelWidth w
 three-parts w =
     append-assoc (toBits 5 (w / 65536)) (toBits 8 (w / 256)) (toBits 8 w)
     ∙ ap (λ (l : List Bool). toBits 5 (w / 65536) ++ l) (sym (toBits-split 8 8 w)) ∙ sym (toBits-split 5 16 w)

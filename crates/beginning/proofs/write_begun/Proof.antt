@@ -1,13 +1,14 @@
 -- `beginning::write_begun` meets its contract.
 -- Assumes nothing.
 use native.Mathlib.Omega.{arith}
-use Rattle.beginning.proofs.Begun.{size, begun-short, begun-copied}
+use Rattle.model.proofs.Buffers.{writing-short}
+use Rattle.beginning.proofs.Begun.{size, begun-copied}
 use borrow.Author.Needs.{needs}
 use Rattle.beginning.proofs.write_begun.Statement.{statement}
 use Rattle.beginning.proofs.write_begun.Tie as tie
 
 returns : tie.Need-returns
-returns c = let a = c .before .before .before .args in begun-short _ (a .out .now) (c .if1 .taken)
+returns c = let a = c .before .before .before .args in writing-short _ (a .out .now) (c .if1 .taken)
 
 slice-aggregate-copy : tie.Need-slice-aggregate-copy
 slice-aggregate-copy c = search needs

@@ -5,7 +5,7 @@ use mathlib.Core.Path.{_≡_, sym, ap, _∙_}
 use native.Mathlib.Omega.{arith}
 use lib.ListN.{length, replicate, length-replicate}
 use lib.Seq.{length-take-le}
-use Rattle.replay.proofs.Putting.{length-put}
+use Rattle.model.proofs.Buffers.{length-put}
 use borrow.Author.Needs.{needs}
 use Rattle.circmon.proofs.main.Statement.{statement}
 use Rattle.circmon.proofs.main.Tie as tie

@@ -2,45 +2,44 @@
 -- Assumes nothing.
 use Prim.Native.Nat.{ℕ, _*_, _≤_, _<_}
 use native.Mathlib.Omega.{arith}
-use mathlib.Core.Path.{_≡_, ap, _∙_}
-use mathlib.Core.List.{List, _++_}
-use borrow.Author.Tests.{lt-ltb, le-ltb}
-use lib.ListN.{length, drop}
-use lib.Seq.{sets}
+use mathlib.Core.Path.{_≡_, sym, ap, _∙_}
+use mathlib.Core.List.{List}
+use lib.ListN.{length}
 use Rattle.model.specs.declared.Monitor.{Monitor}
 use Rattle.model.specs.declared.Request.{Request}
 use Rattle.model.specs.declared.Decision.the-variants.{ShortBuffer}
 use Rattle.model.specs.Decisions.{number}
+use Rattle.model.specs.Requests.{requestSize}
+use Rattle.model.specs.Buffers.{tooShort, front, put}
+use Rattle.model.proofs.Tests.{cond-true, cond-false}
+use Rattle.model.proofs.Buffers.{short-is, room-is, filled-short, filled-front, put-front}
 use Rattle.telling.specs.Distinguish.{distinguish}
 use Rattle.differences.specs.declared.sequence.Sequence.{Sequence}
-use Rattle.differences.specs.declared.sequence.Sequence.the-variants.{Nothing, One, Reading, Replacing}
 use Rattle.differences.specs.Sequences.{requestsOf}
-use Rattle.distinguish.specs.Telling.{bytesOf, noRoom, toldNumber, toldBytes}
-use Rattle.distinguish.proofs.Storing.{sets-front}
+use Rattle.distinguish.specs.Telling.{bytesOf, most, toldNumber, toldBytes}
+use Rattle.distinguish.proofs.Storing.{length-bytesOf}
 use Rattle.unit.specs.Rows.{stateIn}
 use borrow.Author.Needs.{needs}
 use Rattle.distinguish.proofs.distinguish.Statement.{statement}
 use Rattle.distinguish.proofs.distinguish.Tie as tie
 
--- no sequence has more than four requests
-few : (q : Sequence) → length (requestsOf q) ≤ 4
-few Nothing = omega arith
-few (One q) = omega arith
-few (Reading o s l) = omega arith
-few (Replacing w o s l) = omega arith
-
 -- the two answers
-short : (m n : Monitor) (s : List ℕ) (k : ℕ) → length s < 24 → k ≡ number ShortBuffer → (k ≡ toldNumber m n s) × (s ≡ toldBytes m n s)
-unfolding toldNumber toldBytes noRoom
-short m n s k h f = let e = lt-ltb (length s) 24 h in (rw e f, rw e)
+short : (m n : Monitor) (s : List ℕ) (k : ℕ) → length s < most → k ≡ number ShortBuffer → (k ≡ toldNumber m n s) × (s ≡ toldBytes m n s)
+unfolding toldNumber toldBytes
+short m n s k h f =
+    let qs = distinguish m n in (
+      f ∙ sym (cond-true (tooShort most s) _ _ (short-is most s h)),
+      sym (filled-short most (requestSize * length qs) (bytesOf qs) s h),
+    )
 
-long : (m n : Monitor) (s t : List ℕ) (k : ℕ) (q : Sequence) → 24 ≤ length s → requestsOf q ≡ distinguish m n → k ≡ length (requestsOf q)
-    → t ≡ sets s 0 (bytesOf (requestsOf q)) → (k ≡ toldNumber m n s) × (t ≡ toldBytes m n s)
-unfolding toldNumber toldBytes noRoom
+long : (m n : Monitor) (s t : List ℕ) (k : ℕ) (q : Sequence) → most ≤ length s → requestsOf q ≡ distinguish m n → k ≡ length (requestsOf q)
+    → t ≡ put s 0 (bytesOf (requestsOf q)) → (k ≡ toldNumber m n s) × (t ≡ toldBytes m n s)
+unfolding toldNumber toldBytes
 long m n s t k q h e f g =
-    let room = le-ltb (length s) 24 h in (
-      rw room (f ∙ ap length e),
-      rw room (g ∙ sets-front (requestsOf q) s (omega (arith, few q)) ∙ ap (λ (l : List Request). bytesOf l ++ drop (6 * length l) s) e),
+    let qs = distinguish m n in (
+      f ∙ ap length e ∙ sym (cond-false (tooShort most s) _ _ (room-is most s h)),
+      g ∙ put-front s (bytesOf (requestsOf q)) _ (length-bytesOf (requestsOf q)) ∙ ap (λ (l : List Request). front (requestSize * length l) (bytesOf l) s) e
+          ∙ sym (filled-front most (requestSize * length qs) (bytesOf qs) s h),
     )
 
 number-requires : tie.Need-number-requires

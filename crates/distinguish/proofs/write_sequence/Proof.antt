@@ -1,8 +1,10 @@
 -- The cases of a sequence.
 -- Assumes nothing.
 use mathlib.Core.Path.{refl}
+use native.Mathlib.Omega.{arith}
 use Rattle.bits.specs.Bits.{join}
 use Rattle.distinguish.specs.Telling.{bytesOf}
+use Rattle.model.proofs.Buffers.{put-none}
 use Rattle.distinguish.proofs.Storing.{stored-next, stored-last}
 use borrow.Author.Needs.{needs}
 use Rattle.distinguish.proofs.write_sequence.Statement.{statement}
@@ -14,8 +16,8 @@ enum-told c = search needs
 enum-known-q : tie.Need-enum-known-q
 enum-known-q c = search needs
 
-write-request-requires : tie.Need-write-request-requires
-write-request-requires c κs = search needs
+put-request-requires : tie.Need-put-request-requires
+put-request-requires c κs = search needs
 
 enum-known-q-2 : tie.Need-enum-known-q-2
 enum-known-q-2 c = search needs
@@ -26,21 +28,21 @@ write-reading-requires c κs = search needs
 enum-known-q-3 : tie.Need-enum-known-q-3
 enum-known-q-3 c = search needs
 
-write-request-requires-2 : tie.Need-write-request-requires-2
-write-request-requires-2 c κs = search needs
+put-request-requires-2 : tie.Need-put-request-requires-2
+put-request-requires-2 c κs = search needs
 
 write-reading-requires-2 : tie.Need-write-reading-requires-2
 write-reading-requires-2 c κs = search needs
 
 returns : tie.Need-returns
 unfolding bytesOf join
-returns c = rw (c .enum-told .given .1) (refl, refl)
+returns c = rw (c .enum-told .given .1) (refl, put-none _ 0)
 
 same-length : tie.Need-same-length
 same-length c = search needs
 
 returns-2 : tie.Need-returns-2
-returns-2 c = rw (c .before .before .before .before .before .q .given .1) (refl, stored-last _ _ _ _ (c .before .before .write-request .ensures))
+returns-2 c = rw (c .before .before .before .before .before .q .given .1) (refl, stored-last _ _ _ _ (c .before .before .put-request .ensures))
 
 same-length-2 : tie.Need-same-length-2
 same-length-2 c = search needs
@@ -53,8 +55,8 @@ same-length-3 c = search needs
 
 returns-4 : tie.Need-returns-4
 returns-4 c =
-    let first = c .before .before .before .before .before .before .write-request2 in
-    rw (c .before .before .before .before .before .before .before .before .before .q3 .given .1) (refl, stored-next _ _ _ _ _ _ _ (first .ensures) refl (c .before .before .write-reading2 .ensures))
+    let first = c .before .before .before .before .before .before .put-request2 in
+    rw (c .before .before .before .before .before .before .before .before .before .q3 .given .1) (refl, stored-next _ _ _ _ _ _ _ (omega arith) (first .ensures) refl (c .before .before .write-reading2 .ensures))
 
 pub write-sequence-spec : {M : Type 1} → statement M
 write-sequence-spec =
@@ -62,11 +64,11 @@ write-sequence-spec =
     (tie.spec
     enum-told
     enum-known-q
-    write-request-requires
+    put-request-requires
     enum-known-q-2
     write-reading-requires
     enum-known-q-3
-    write-request-requires-2
+    put-request-requires-2
     write-reading-requires-2
     returns
     same-length

@@ -2,6 +2,7 @@
 -- Assumes nothing.
 use mathlib.Core.Path.{sym, ap, _∙_}
 use Rattle.model.specs.Decisions.{refuses}
+use Rattle.model.specs.Layout.{imageSize}
 use Rattle.model.specs.Reading.{imageChecks, readImage}
 use Rattle.image.proofs.Answers.{refused, accepted, wrong-length, image-rows, image-answer}
 use borrow.Author.Needs.{needs}
@@ -18,7 +19,7 @@ returns : tie.Need-returns
 unfolding readImage imageChecks
 returns c = let s = c .before .before .before .before .before .args .image .now in
     let r = c .before .refused .ensures in
-    refused _ _ _ _ (r .0 ∙ wrong-length s 1274 _ (c .before .before .before .if1 .taken)) (ap refuses (r .0)) (r .1)
+    refused _ _ _ _ (r .0 ∙ wrong-length s imageSize _ (c .before .before .before .if1 .taken)) (ap refuses (r .0)) (r .1)
 
 sub-read-subjects : tie.Need-sub-read-subjects
 sub-read-subjects c = search needs

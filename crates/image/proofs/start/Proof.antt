@@ -4,6 +4,7 @@ use mathlib.Core.Path.{refl, sym, ap, _∙_}
 use Rattle.model.specs.State.{fresh}
 use Rattle.model.specs.Decisions.{refuses}
 use Rattle.unit.specs.Stored.{unitOf}
+use Rattle.model.specs.Layout.{tableSize}
 use Rattle.model.specs.declared.Decision.the-variants.{Granted, StrayBits}
 use Rattle.model.specs.Reading.{tableChecks, readTable}
 use Rattle.model.proofs.Tests.{pass, stop, not-on, not-off}
@@ -24,7 +25,7 @@ returns : tie.Need-returns
 unfolding readTable tableChecks
 returns c = let s = c .before .before .before .before .before .args .table .now in
     let r = c .before .refused .ensures in
-    refused _ _ _ _ (r .0 ∙ wrong-length s 42 _ (c .before .before .before .if1 .taken)) (ap refuses (r .0)) (r .1)
+    refused _ _ _ _ (r .0 ∙ wrong-length s tableSize _ (c .before .before .before .if1 .taken)) (ap refuses (r .0)) (r .1)
 
 read-subjects-requires : tie.Need-read-subjects-requires
 read-subjects-requires c κs = search needs
@@ -42,7 +43,7 @@ returns-2 c = let s = c .before .before .before .before .before .before .before 
     let read = c .before .before .before .before .before .read-subjects .ensures ∙ table-read s h in
     let stray = sym (ap (λ (k : TableRead). k .formed) read) ∙ not-on _ (c .before .before .before .if2 .taken) in
     let r = c .before .refused2 .ensures in
-    refused _ _ _ _ (r .0 ∙ right-length s 42 _ StrayBits h (sym (stop _ StrayBits Granted stray))) (ap refuses (r .0)) (r .1)
+    refused _ _ _ _ (r .0 ∙ right-length s tableSize _ StrayBits h (sym (stop _ StrayBits Granted stray))) (ap refuses (r .0)) (r .1)
 
 begin-requires : tie.Need-begin-requires
 begin-requires c κs = search needs
@@ -56,7 +57,7 @@ returns-3 c = let s = c .before .before .before .before .before .before .before 
     let h = c .before .before .before .before .before .before .before .if1 .left in
     let read = c .before .before .before .before .before .before .read-subjects .ensures ∙ table-read s h in
     let formed = sym (ap (λ (k : TableRead). k .formed) read) ∙ not-off _ (c .before .before .before .before .if2 .left) in
-    accepted _ Granted _ _ (right-length s 42 _ Granted h (sym (pass _ StrayBits Granted formed))) refl
+    accepted _ Granted _ _ (right-length s tableSize _ Granted h (sym (pass _ StrayBits Granted formed))) refl
     (c .before .begin .ensures ∙ ap (λ (k : TableRead). unitOf (fresh (k .subjects))) read)
 
 pub start-spec : {M : Type 1} → statement M

@@ -5,7 +5,7 @@
 use mathlib.Core.Path.{_∙_}
 use native.Mathlib.Omega.{arith}
 use Rattle.bits.specs.Fields.{field-within}
-use Rattle.image_records.specs.Records.{bitsAt}
+use Rattle.image_records.specs.Records.{flagWidth, bitsAt}
 use Rattle.image_records.proofs.Places.{length-at}
 use Rattle.bits.proofs.Machine.{low-four-lt}
 use Rattle.image_records.proofs.Contents.{flag-from}
@@ -23,8 +23,8 @@ returns : tie.Need-returns
 returns c =
     let a = c .before .before .args in
     let s = a .bytes .now in
-    flag-from (bitsAt s (a .at) 5) (c .read-field .result) (length-at s (a .at) 5 (omega arith))
-    (c .read-field .ensures .0 ∙ field-within s (a .at) 5 (omega arith))
+    flag-from (bitsAt s (a .at) flagWidth) (c .read-field .result) (length-at s (a .at) flagWidth (omega arith))
+    (c .read-field .ensures .0 ∙ field-within s (a .at) flagWidth (omega arith))
 
 pub read-flag-spec : {M : Type 1} → statement M
 read-flag-spec = tie.close (tie.spec read-field-requires cast-t6 returns)

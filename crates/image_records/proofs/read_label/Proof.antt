@@ -5,7 +5,9 @@
 use mathlib.Core.Path.{refl, ap, _∙_}
 use Prim.Native.Nat.{_+_}
 use native.Mathlib.Omega.{arith}
-use Rattle.image_records.specs.Records.{bitsAt, flagOf}
+use Rattle.model.specs.State.{needsWidth}
+use Rattle.model.specs.Layout.{labelWidth}
+use Rattle.image_records.specs.Records.{flagWidth, bitsAt, flagOf}
 use Rattle.image_records.proofs.Places.{length-at, part-at, field-at}
 use Rattle.image_records.proofs.Contents.{label-present, label-absent}
 use borrow.Author.Needs.{needs}
@@ -31,8 +33,8 @@ returns c =
     let a = c .before .before .before .before .before .args in
     let s = a .bytes .now in
     let p = a .at in
-    label-present (bitsAt s p 21) (length-at s p 21 (omega arith)) (head .result) (head .ensures ∙ ap flagOf (part-at s p 21 0 5 p (omega arith) (omega arith)))
-    (needs .result) (needs .ensures .0 ∙ field-at s p 21 5 16 (p + 5) refl (omega arith) (omega arith)) (c .if1 .taken)
+    label-present (bitsAt s p labelWidth) (length-at s p labelWidth (omega arith)) (head .result) (head .ensures ∙ ap flagOf (part-at s p labelWidth 0 flagWidth p (omega arith) (omega arith)))
+    (needs .result) (needs .ensures .0 ∙ field-at s p labelWidth flagWidth needsWidth (p + flagWidth) refl (omega arith) (omega arith)) (c .if1 .taken)
 
 returns-2 : tie.Need-returns-2
 returns-2 c =
@@ -41,8 +43,8 @@ returns-2 c =
     let a = c .before .before .before .before .before .args in
     let s = a .bytes .now in
     let p = a .at in
-    label-absent (bitsAt s p 21) (length-at s p 21 (omega arith)) (head .result) (head .ensures ∙ ap flagOf (part-at s p 21 0 5 p (omega arith) (omega arith)))
-    (needs .result) (needs .ensures .0 ∙ field-at s p 21 5 16 (p + 5) refl (omega arith) (omega arith)) (c .if1 .left)
+    label-absent (bitsAt s p labelWidth) (length-at s p labelWidth (omega arith)) (head .result) (head .ensures ∙ ap flagOf (part-at s p labelWidth 0 flagWidth p (omega arith) (omega arith)))
+    (needs .result) (needs .ensures .0 ∙ field-at s p labelWidth flagWidth needsWidth (p + flagWidth) refl (omega arith) (omega arith)) (c .if1 .left)
 
 pub read-label-spec : {M : Type 1} → statement M
 read-label-spec =

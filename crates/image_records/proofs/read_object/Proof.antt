@@ -4,11 +4,12 @@
 -- Assumes nothing.
 use mathlib.Core.Path.{_≡_, refl, ap, _∙_}
 use mathlib.Core.List.{List}
-use Prim.Native.Nat.{ℕ, _+_, _*_, _≤_}
+use Prim.Native.Nat.{ℕ, _+_}
 use native.Mathlib.Omega.{arith}
-use lib.ListN.{length, take, drop}
-use Rattle.image_records.specs.Records.{bitsAt, flagOf, labelOf, setsOf}
-use Rattle.image_records.proofs.Places.{part-at, last-at}
+use lib.ListN.{take, drop}
+use Rattle.model.specs.Layout.{labelWidth, labelOffset, setsOffset, setsWidth, objectWidth}
+use Rattle.image_records.specs.Records.{flagWidth, bitsAt, flagOf, labelOf, setsOf}
+use Rattle.image_records.proofs.Places.{length-at, part-at}
 use Rattle.image_records.proofs.Contents.{object-off, object-on}
 use Rattle.model.proofs.Tests.{not-on, not-off}
 use borrow.Author.Needs.{needs}
@@ -16,12 +17,14 @@ use Rattle.image_records.proofs.read_object.Statement.{statement}
 use Rattle.image_records.proofs.read_object.Tie as tie
 
 -- where the three parts stand in the record
-parts : (s : List ℕ) (at : ℕ) → at + 154 ≤ 8 * length s
-    → (bitsAt s at 5 ≡ take 5 (bitsAt s at 154)) × (bitsAt s (at + 5) 21 ≡ take 21 (drop 5 (bitsAt s at 154))) × (bitsAt s (at + 26) 128 ≡ drop 26 (bitsAt s at 154))
-parts s at h = (
-  part-at s at 154 0 5 at (omega arith) (omega arith),
-  part-at s at 154 5 21 (at + 5) refl (omega arith),
-  last-at s at 26 128 (at + 26) refl h,
+parts : (s : List ℕ) (at : ℕ)
+    → (bitsAt s at flagWidth ≡ take flagWidth (bitsAt s at objectWidth))
+    × (bitsAt s (at + labelOffset) labelWidth ≡ take labelWidth (drop labelOffset (bitsAt s at objectWidth)))
+    × (bitsAt s (at + setsOffset) setsWidth ≡ take setsWidth (drop setsOffset (bitsAt s at objectWidth)))
+parts s at = (
+  part-at s at objectWidth 0 flagWidth at (omega arith) (omega arith),
+  part-at s at objectWidth labelOffset labelWidth (at + labelOffset) refl (omega arith),
+  part-at s at objectWidth setsOffset setsWidth (at + setsOffset) refl (omega arith),
 )
 
 read-flag-requires : tie.Need-read-flag-requires
@@ -46,8 +49,8 @@ returns : tie.Need-returns
 returns c =
     let read = c .before .before .before .before .before .before in
     let a = read .before .before .before .before .args in
-    let P = parts (a .bytes .now) (a .at) (omega arith) in
-    object-off (bitsAt (a .bytes .now) (a .at) 154) (read .before .before .read-flag .result) (read .before .before .read-flag .ensures ∙ ap flagOf (P .0))
+    let P = parts (a .bytes .now) (a .at) in
+    object-off (bitsAt (a .bytes .now) (a .at) objectWidth) (length-at (a .bytes .now) (a .at) objectWidth (omega arith)) (read .before .before .read-flag .result) (read .before .before .read-flag .ensures ∙ ap flagOf (P .0))
     (read .before .read-label .result) (read .before .read-label .ensures ∙ ap labelOf (P .1)) (read .read-sets .result) (read .read-sets .ensures ∙ ap setsOf (P .2))
     (c .before .before .before .no-object .result) (c .before .before .before .no-object .ensures) (not-on _ (c .before .before .before .before .if1 .taken))
 
@@ -58,8 +61,8 @@ returns-2 : tie.Need-returns-2
 returns-2 c =
     let read = c .before .before .before .before .before .before in
     let a = read .before .before .before .before .args in
-    let P = parts (a .bytes .now) (a .at) (omega arith) in
-    object-on (bitsAt (a .bytes .now) (a .at) 154) (read .before .before .read-flag .result) (read .before .before .read-flag .ensures ∙ ap flagOf (P .0))
+    let P = parts (a .bytes .now) (a .at) in
+    object-on (bitsAt (a .bytes .now) (a .at) objectWidth) (length-at (a .bytes .now) (a .at) objectWidth (omega arith)) (read .before .before .read-flag .result) (read .before .before .read-flag .ensures ∙ ap flagOf (P .0))
     (read .before .read-label .result) (read .before .read-label .ensures ∙ ap labelOf (P .1)) (read .read-sets .result) (read .read-sets .ensures ∙ ap setsOf (P .2))
     (c .before .is-present .result) (c .before .is-present .ensures) (not-off _ (c .before .before .before .before .if1 .left))
 

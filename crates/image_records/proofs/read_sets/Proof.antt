@@ -13,6 +13,8 @@ use lib.ListN.{length, take, drop, length-set}
 use Rattle.bits.specs.Bits.{fromBits, bytesToBits, cut, allZero}
 use Rattle.bits.specs.Fields.{field-within}
 use Rattle.bits.specs.Records.{cut-take}
+use Rattle.model.specs.State.{subjectCount}
+use Rattle.model.specs.Layout.{pairWidth}
 use Rattle.model.specs.Reading.{rightsFrom, heldFrom}
 use Rattle.image_records.proofs.Places.{length-at, byte-at}
 use Rattle.bits.proofs.Machine.{low-four, low-four-lt}
@@ -27,21 +29,21 @@ from s at = drop at (bytesToBits s)
 
 abbrev Inv-loop : tie.InvT-loop
 Inv-loop bytes at rights₀ held₀ blank₀ s₀ rights held blank s =
-    (s ≤ 16)
-    × (length rights ≡ 16)
-    × (length held ≡ 16)
-    × (take s rights ≡ map rightsFrom (cut s 8 (from bytes at)))
-    × (take s held ≡ map heldFrom (cut s 8 (from bytes at)))
+    (s ≤ subjectCount)
+    × (length rights ≡ subjectCount)
+    × (length held ≡ subjectCount)
+    × (take s rights ≡ map rightsFrom (cut s pairWidth (from bytes at)))
+    × (take s held ≡ map heldFrom (cut s pairWidth (from bytes at)))
     × (blank ≡ allZero (take (8 * s) (from bytes at)))
 
 abbrev μ-loop : tie.MeasureT-loop
-μ-loop bytes at rights₀ held₀ blank₀ s₀ rights held blank s = 16 - s
+μ-loop bytes at rights₀ held₀ blank₀ s₀ rights held blank s = subjectCount - s
 
 loop-holds : tie.Need-loop-holds Inv-loop μ-loop
 unfolding allZero
 loop-holds c =
     let x = from (c .before .args .bytes .now) (c .before .args .at) in
-    (omega arith, refl, refl, none-gathered rightsFrom 8 x, none-gathered heldFrom 8 x, refl)
+    (omega arith, refl, refl, none-gathered rightsFrom pairWidth x, none-gathered heldFrom pairWidth x, refl)
 
 mul-read-byte : tie.Need-mul-read-byte Inv-loop μ-loop
 mul-read-byte c = search needs
@@ -87,8 +89,8 @@ loop-again c =
       omega arith,
       length-set (loop .rights) i (v / 16) ∙ loop .inv .1,
       length-set (loop .held) i (bitAnd v 15) ∙ loop .inv .2,
-      gather-more rightsFrom 8 x (loop .rights) i (v / 16) hr (loop .inv .3) (ap (λ (n : ℕ). n / 16) e ∙ two .0),
-      gather-more heldFrom 8 x (loop .held) i (bitAnd v 15) hh (loop .inv .4) (low-four v ∙ ap (λ (n : ℕ). n % 16) e ∙ two .1),
+      gather-more rightsFrom pairWidth x (loop .rights) i (v / 16) hr (loop .inv .3) (ap (λ (n : ℕ). n / 16) e ∙ two .0),
+      gather-more heldFrom pairWidth x (loop .held) i (bitAnd v 15) hh (loop .inv .4) (low-four v ∙ ap (λ (n : ℕ). n % 16) e ∙ two .1),
       zero-more x i v (loop .blank) (loop .inv .5) e,
     )
 
@@ -97,9 +99,9 @@ returns c =
     let loop = c .before .loop in
     let a = c .before .before .before .args in
     let x = from (a .bytes .now) (a .at) in
-    let end : loop .s ≡ 16 = omega arith in
-    let rights-eq = gathered rightsFrom 16 8 x (loop .rights) (loop .s) (loop .inv .1) end (loop .inv .3) ∙ ap (map rightsFrom) (sym (cut-take 16 8 x)) in
-    let held-eq = gathered heldFrom 16 8 x (loop .held) (loop .s) (loop .inv .2) end (loop .inv .4) ∙ ap (map heldFrom) (sym (cut-take 16 8 x)) in
+    let end : loop .s ≡ subjectCount = omega arith in
+    let rights-eq = gathered rightsFrom subjectCount pairWidth x (loop .rights) (loop .s) (loop .inv .1) end (loop .inv .3) ∙ ap (map rightsFrom) (sym (cut-take subjectCount pairWidth x)) in
+    let held-eq = gathered heldFrom subjectCount pairWidth x (loop .held) (loop .s) (loop .inv .2) end (loop .inv .4) ∙ ap (map heldFrom) (sym (cut-take subjectCount pairWidth x)) in
     let blank-eq = loop .inv .5 ∙ ap (λ (n : ℕ). allZero (take (8 * n) x)) end in
     λ i. record { rights = rights-eq i; held = held-eq i; blank = blank-eq i }
 

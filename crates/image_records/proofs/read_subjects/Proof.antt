@@ -13,6 +13,8 @@ use lib.ListN.{length, take, drop, length-set}
 use Rattle.bits.specs.Bits.{bytesToBits, cut}
 use Rattle.model.specs.declared.Subject.{Subject}
 use Rattle.model.specs.Tests.{allOf}
+use Rattle.model.specs.State.{subjectCount}
+use Rattle.model.specs.Layout.{labelWidth, tableSize}
 use Rattle.model.specs.Reading.{subjectFrom, labelForm, tableFrom, tableForm}
 use Rattle.image_records.specs.declared.LabelRead.{LabelRead}
 use Rattle.image_records.specs.Records.{subjectsRead}
@@ -24,20 +26,20 @@ use Rattle.image_records.proofs.read_subjects.Tie as tie
 
 abbrev Inv-loop : tie.InvT-loop
 Inv-loop bytes subjects₀ formed₀ s₀ subjects formed s =
-    (s ≤ 16)
-    × (length subjects ≡ 16)
-    × (take s subjects ≡ map subjectFrom (cut s 21 (bytesToBits bytes)))
-    × (formed ≡ allOf labelForm (cut s 21 (bytesToBits bytes)))
+    (s ≤ subjectCount)
+    × (length subjects ≡ subjectCount)
+    × (take s subjects ≡ map subjectFrom (cut s labelWidth (bytesToBits bytes)))
+    × (formed ≡ allOf labelForm (cut s labelWidth (bytesToBits bytes)))
 
 abbrev μ-loop : tie.MeasureT-loop
-μ-loop bytes subjects₀ formed₀ s₀ subjects formed s = 16 - s
+μ-loop bytes subjects₀ formed₀ s₀ subjects formed s = subjectCount - s
 
 returns : tie.Need-returns Inv-loop μ-loop
 unfolding subjectsRead
-returns c = rw (ne-eqb (length (c .before .before .args .bytes .now)) 42 (c .if1 .taken))
+returns c = rw (ne-eqb (length (c .before .before .args .bytes .now)) tableSize (c .if1 .taken))
 
 loop-holds : tie.Need-loop-holds Inv-loop μ-loop
-loop-holds c = (omega arith, refl, none-gathered subjectFrom 21 (bytesToBits _), none-formed labelForm 21 (bytesToBits _))
+loop-holds c = (omega arith, refl, none-gathered subjectFrom labelWidth (bytesToBits _), none-formed labelForm labelWidth (bytesToBits _))
 
 mul-read-label : tie.Need-mul-read-label Inv-loop μ-loop
 mul-read-label c = search needs
@@ -67,13 +69,13 @@ loop-again c =
     let b = bytesToBits (c .before .before .before .before .before .before .before .args .bytes .now) in
     let i = loop .s in
     let v : Subject = record { clearance = read .result .label } in
-    let says : v ≡ subjectFrom (take 21 (drop (21 * i) b)) = ap (λ (k : LabelRead). record { clearance = k .label }) (read .ensures) in
-    let form = ap (λ (x : Bool). x || read .result .blank) (c .before .is-present .ensures) ∙ label-formed (take 21 (drop (21 * i) b)) (read .result) (read .ensures) in
+    let says : v ≡ subjectFrom (take labelWidth (drop (labelWidth * i) b)) = ap (λ (k : LabelRead). record { clearance = k .label }) (read .ensures) in
+    let form = ap (λ (x : Bool). x || read .result .blank) (c .before .is-present .ensures) ∙ label-formed (take labelWidth (drop (labelWidth * i) b)) (read .result) (read .ensures) in
     let h : i < length (loop .subjects) = omega (arith, loop .inv .1) in (
       omega arith,
       length-set (loop .subjects) i v ∙ loop .inv .1,
-      gather-more subjectFrom 21 b (loop .subjects) i v h (loop .inv .2) says,
-      form-more labelForm 21 b i (loop .formed) _ (loop .inv .3) form,
+      gather-more subjectFrom labelWidth b (loop .subjects) i v h (loop .inv .2) says,
+      form-more labelForm labelWidth b i (loop .formed) _ (loop .inv .3) form,
     )
 
 returns-2 : tie.Need-returns-2 Inv-loop μ-loop
@@ -82,9 +84,9 @@ returns-2 c =
     let loop = c .before .loop in
     let s = c .before .before .before .before .args .bytes .now in
     let b = bytesToBits s in
-    let end : loop .s ≡ 16 = omega arith in
-    let subjects-eq = gathered subjectFrom 16 21 b (loop .subjects) (loop .s) (loop .inv .1) end (loop .inv .2) in
-    let formed-eq = loop .inv .3 ∙ ap (λ (k : ℕ). allOf labelForm (cut k 21 b)) end in
+    let end : loop .s ≡ subjectCount = omega arith in
+    let subjects-eq = gathered subjectFrom subjectCount labelWidth b (loop .subjects) (loop .s) (loop .inv .1) end (loop .inv .2) in
+    let formed-eq = loop .inv .3 ∙ ap (λ (k : ℕ). allOf labelForm (cut k labelWidth b)) end in
     rw (table-read s (c .before .before .if1 .left)) (λ i. record { subjects = subjects-eq i; formed = formed-eq i })
 
 pub read-subjects-spec : {M : Type 1} → statement M

@@ -2,8 +2,7 @@
 -- Assumes nothing.
 use borrow.Author.Needs.{needs}
 use native.Mathlib.Omega.{arith}
-use Prim.Native.Nat.{_+_, _/_, _%_}
-use lib.ListN.{set, length-set}
+use lib.ListN.{length-set}
 use Rattle.replay.proofs.Putting.{short-line, long-line}
 use Rattle.replay.proofs.put_line.Statement.{statement}
 use Rattle.replay.proofs.put_line.Tie as tie
@@ -18,7 +17,7 @@ add-out-2 : tie.Need-add-out-2
 add-out-2 c = search needs
 
 slice-write-out-2 : tie.Need-slice-write-out-2
-slice-write-out-2 c = omega (arith, c .before .pre, length-set (c .before .args .out .now) (c .before .args .at) (48 + c .before .args .n))
+slice-write-out-2 c = simp length-set (omega arith)
 
 add-result : tie.Need-add-result
 add-result c = search needs
@@ -27,30 +26,19 @@ same-length : tie.Need-same-length
 same-length c = search needs
 
 returns : tie.Need-returns
-returns c = short-line (c .before .args .out .now) (c .before .args .at) (c .before .args .n) (c .if1 .taken) (omega (arith, c .before .pre))
+returns c =
+    let start = c .before .before in
+    let a = start .args in
+    short-line (a .out .now) (a .at) (a .n) (c .if1 .taken) (omega (arith, start .pre))
+
+put-two-requires : tie.Need-put-two-requires
+put-two-requires c κs = search needs
 
 add-out-3 : tie.Need-add-out-3
 add-out-3 c = search needs
 
 slice-write-out-3 : tie.Need-slice-write-out-3
 slice-write-out-3 c = search needs
-
-add-out-4 : tie.Need-add-out-4
-add-out-4 c = search needs
-
-add-out-5 : tie.Need-add-out-5
-add-out-5 c = search needs
-
-slice-write-out-4 : tie.Need-slice-write-out-4
-slice-write-out-4 c = omega (arith, c .before .pre, length-set (c .before .args .out .now) (c .before .args .at) (48 + c .before .args .n / 10))
-
-add-out-6 : tie.Need-add-out-6
-add-out-6 c = search needs
-
-slice-write-out-5 : tie.Need-slice-write-out-5
-slice-write-out-5 c =
-    let a = c .before .args in
-    omega (arith, c .before .pre, length-set (a .out .now) (a .at) (48 + a .n / 10), length-set (set (a .out .now) (a .at) (48 + a .n / 10)) (a .at + 1) (48 + a .n % 10))
 
 add-result-2 : tie.Need-add-result-2
 add-result-2 c = search needs
@@ -59,7 +47,10 @@ same-length-2 : tie.Need-same-length-2
 same-length-2 c = search needs
 
 returns-2 : tie.Need-returns-2
-returns-2 c = long-line (c .before .args .out .now) (c .before .args .at) (c .before .args .n) (c .if1 .left) (c .before .pre)
+returns-2 c =
+    let start = c .before .before .before .before .before .before in
+    let a = start .args in
+    long-line (a .out .now) _ (a .at) (a .n) (c .before .before .before .before .if1 .left) (start .pre) (c .before .before .put-two .ensures)
 
 pub put-line-spec : {M : Type 1} → statement M
 put-line-spec =
@@ -72,13 +63,9 @@ put-line-spec =
     add-result
     same-length
     returns
+    put-two-requires
     add-out-3
     slice-write-out-3
-    add-out-4
-    add-out-5
-    slice-write-out-4
-    add-out-6
-    slice-write-out-5
     add-result-2
     same-length-2
     returns-2)

@@ -7,7 +7,7 @@ use native.Mathlib.Omega.{arith}
 use lib.ListN.{length, take}
 use Rattle.bits.specs.Bits.{join}
 use Rattle.model.specs.Program.{line}
-use Rattle.replay.specs.Lines.{put}
+use Rattle.model.specs.Buffers.{put}
 use Rattle.replay.proofs.Putting.{Lining, lining-start, lining-more}
 use Rattle.replay.proofs.put_lines.Statement.{statement}
 use Rattle.replay.proofs.put_lines.Tie as tie

@@ -1,34 +1,18 @@
 -- `writing::save` meets its contract.
--- Assumes nothing.
 -- A buffer that is too short is left; in any other the two parts, one behind the other, are the whole image.
 -- Assumes nothing.
-use mathlib.Core.Path.{_≡_}
-use mathlib.Core.List.{List, _++_}
-use Prim.Native.Nat.{ℕ, _*_, _≤_, _<_}
+use Prim.Native.Nat.{_*_}
 use native.Mathlib.Omega.{arith}
-use borrow.Author.Tests.{lt-ltb, le-ltb}
-use lib.ListN.{length, drop}
 use Rattle.bits.specs.Stream.{Appends, next, whole}
-use Rattle.model.specs.declared.Monitor.{Monitor}
-use Rattle.model.specs.declared.Decision.the-variants.{Granted, ShortBuffer}
 use Rattle.model.specs.Layout.{imageSize, imageBits, imageOf}
-use Rattle.model.specs.Writing.{tooShort, writing, written}
+use Rattle.model.proofs.Buffers.{writing-short, writing-done}
 use Rattle.unit.specs.Rows.{stateIn}
 use borrow.Author.Needs.{needs}
 use Rattle.writing.proofs.save.Statement.{statement}
 use Rattle.writing.proofs.save.Tie as tie
 
--- the two answers of the writer
-short : (m : Monitor) (s : List ℕ) → length s < imageSize → (ShortBuffer ≡ writing s) × (s ≡ written m s)
-unfolding writing written tooShort
-short m s h = let e = lt-ltb (length s) 1274 h in (rw e, rw e)
-
-long : (m : Monitor) (s t : List ℕ) → imageSize ≤ length s → t ≡ imageOf m ++ drop imageSize s → (Granted ≡ writing s) × (t ≡ written m s)
-unfolding writing written tooShort
-long m s t h p = let e = le-ltb (length s) 1274 h in (rw e, rw e p)
-
 returns : tie.Need-returns
-returns c = let a = c .before .before .args in short (stateIn (a .unit .now)) (a .out .now) (c .if1 .taken)
+returns c = let a = c .before .before .args in writing-short (stateIn (a .unit .now)) (a .out .now) (c .if1 .taken)
 
 write-subjects-requires : tie.Need-write-subjects-requires
 write-subjects-requires c κs = search needs
@@ -48,10 +32,10 @@ returns-2 c =
     let m = stateIn (a .unit .now) in
     let s = a .out .now in
     let t = objects .last .0 in
-    let all : Appends s 0 0 (imageBits m) t (8 * 1274) (objects .result) =
+    let all : Appends s 0 0 (imageBits m) t (8 * imageSize) (objects .result) =
     next _ _ (omega arith) (subjects .ensures) (objects .ensures) in
-    long m s t (omega arith)
-    (whole 1274 s t (imageBits m) (objects .result) (λ i. omega (arith, c .slice-known3 .given i)) (omega arith) all)
+    writing-done m s t (omega arith)
+    (whole imageSize s t (imageBits m) (objects .result) (λ i. omega (arith, c .slice-known3 .given i)) (omega arith) all)
 
 pub save-spec : {M : Type 1} → statement M
 save-spec =

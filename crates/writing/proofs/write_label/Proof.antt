@@ -1,6 +1,6 @@
 -- `writing::write_label` meets its contract.
 -- Assumes nothing.
--- Three appends, of 5, 8 and 8 bits, append the 21 bits of the label's record.
+-- Three appends, of 5, 8 and 8 bits, append the bits of the label's record.
 -- Assumes nothing.
 use mathlib.Core.Path.{_∙_}
 use Prim.Native.Nat.{_+_, _/_}

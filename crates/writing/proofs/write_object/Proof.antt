@@ -12,7 +12,7 @@ use Rattle.bits.specs.Stream.{next, ends}
 use Rattle.model.specs.Layout.{labelBits, setsBits, objectBits}
 use Rattle.writing.proofs.Words.{flag-bits}
 use Rattle.writing.proofs.Streams.{appended}
-use Rattle.writing.proofs.Zeros.{none-bits}
+use Rattle.model.proofs.Records.{none-bits}
 use borrow.Author.Needs.{needs}
 use Rattle.writing.proofs.write_object.Statement.{statement}
 use Rattle.writing.proofs.write_object.Tie as tie
@@ -20,8 +20,8 @@ use Rattle.writing.proofs.write_object.Tie as tie
 is-none-requires : tie.Need-is-none-requires
 is-none-requires c κs = search needs
 
-write-none-requires : tie.Need-write-none-requires
-write-none-requires c κs = search needs
+write-zeros-requires : tie.Need-write-zeros-requires
+write-zeros-requires c κs = search needs
 
 same-length : tie.Need-same-length
 same-length c = search needs
@@ -29,7 +29,7 @@ same-length c = search needs
 returns : tie.Need-returns
 returns c =
     let none = c .before .before .before .before .before .is-none .ensures (c .before .before .before .before .if1 .taken) in
-    ends _ _ (none-bits ∙ ap objectBits (sym none)) refl (c .before .before .write-none .ensures)
+    ends _ _ (none-bits ∙ ap objectBits (sym none)) refl (c .before .before .write-zeros .ensures)
 
 cast-side-by-side : tie.Need-cast-side-by-side
 cast-side-by-side c = search needs
@@ -77,7 +77,7 @@ write-object-spec =
     tie.close
     (tie.spec
     is-none-requires
-    write-none-requires
+    write-zeros-requires
     same-length
     returns
     cast-side-by-side

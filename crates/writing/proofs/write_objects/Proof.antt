@@ -9,23 +9,23 @@ use Rattle.bits.specs.Stream.{Appends, stay, next, ends}
 use Rattle.unit.proofs.Tabulated.{tabulate-length}
 use Rattle.writing.proofs.Streams.{join-more, join-all, no-records}
 use Rattle.model.specs.declared.Object.{Object}
-use Rattle.model.specs.State.{noObject}
-use Rattle.model.specs.Layout.{objectBits, objectsBits}
+use Rattle.model.specs.State.{objectCount, noObject}
+use Rattle.model.specs.Layout.{objectWidth, tableWidth, objectBits, objectsBits}
 use Rattle.unit.specs.Rows.{objectIn, objectsIn}
 use borrow.Author.Needs.{needs}
 use Rattle.writing.proofs.write_objects.Statement.{statement}
 use Rattle.writing.proofs.write_objects.Tie as tie
 
 abbrev Inv-loop : tie.InvT-loop
-Inv-loop out₀ acc unit waiting₀ o₀ out waiting o = (o ≤ 64) × Appends out₀ 336 acc (objectsBits (take o (objectsIn unit))) out (336 + 154 * o) waiting
+Inv-loop out₀ acc unit waiting₀ o₀ out waiting o = (o ≤ objectCount) × Appends out₀ tableWidth acc (objectsBits (take o (objectsIn unit))) out (tableWidth + objectWidth * o) waiting
 
 abbrev μ-loop : tie.MeasureT-loop
-μ-loop out₀ acc unit waiting₀ o₀ out waiting o = 64 - o
+μ-loop out₀ acc unit waiting₀ o₀ out waiting o = objectCount - o
 
 loop-holds : tie.Need-loop-holds Inv-loop μ-loop
 loop-holds c =
     let a = c .before .args in
-    (omega arith, ends [] (objectsBits []) no-records refl (stay (a .out .now) 336 (a .acc) (omega arith)))
+    (omega arith, ends [] (objectsBits []) no-records refl (stay (a .out .now) tableWidth (a .acc) (omega arith)))
 
 cast-object-in : tie.Need-cast-object-in Inv-loop μ-loop
 cast-object-in c = search needs
@@ -33,11 +33,11 @@ cast-object-in c = search needs
 object-in-requires : tie.Need-object-in-requires Inv-loop μ-loop
 object-in-requires c κs = search needs
 
-mul-write-object : tie.Need-mul-write-object Inv-loop μ-loop
-mul-write-object c = search needs
+mul-at : tie.Need-mul-at Inv-loop μ-loop
+mul-at c = search needs
 
-add-write-object : tie.Need-add-write-object Inv-loop μ-loop
-add-write-object c = search needs
+add-at : tie.Need-add-at Inv-loop μ-loop
+add-at c = search needs
 
 write-object-requires : tie.Need-write-object-requires Inv-loop μ-loop
 write-object-requires c κs = search needs
@@ -54,7 +54,7 @@ loop-again c =
     let u = c .before .before .before .before .before .before .before .before .args .unit .now in
     let l = objectsIn u in
     let one = ap (λ (k : Object). objectsBits (take (loop .o) l) ++ objectBits k) (c .before .before .before .before .object-in .ensures) in
-    (omega arith, ends _ _ (one ∙ join-more objectBits (loop .o) l noObject (omega (arith, c .before .before .before .before .before .loop-test .taken, tabulate-length 64 (objectIn u)))) (omega arith) (next _ _ refl (loop .inv .1) (c .before .before .write-object .ensures)))
+    (omega arith, ends _ _ (one ∙ join-more objectBits (loop .o) l noObject (omega (arith, c .before .before .before .before .before .loop-test .taken, tabulate-length objectCount (objectIn u)))) (omega arith) (next _ _ refl (loop .inv .1) (c .before .before .write-object .ensures)))
 
 same-length : tie.Need-same-length Inv-loop μ-loop
 same-length c = search needs
@@ -63,7 +63,7 @@ returns : tie.Need-returns Inv-loop μ-loop
 returns c =
     let u = c .before .before .before .args .unit .now in
     let loop = c .before .loop in
-    ends _ _ (join-all objectBits (loop .o) 64 (objectsIn u) (omega arith) (tabulate-length 64 (objectIn u))) (omega arith) (loop .inv .1)
+    ends _ _ (join-all objectBits (loop .o) objectCount (objectsIn u) (omega arith) (tabulate-length objectCount (objectIn u))) (omega arith) (loop .inv .1)
 
 pub write-objects-spec : {M : Type 1} → statement M
 write-objects-spec =
@@ -74,8 +74,8 @@ write-objects-spec =
     loop-holds
     cast-object-in
     object-in-requires
-    mul-write-object
-    add-write-object
+    mul-at
+    add-at
     write-object-requires
     add-o
     loop-less

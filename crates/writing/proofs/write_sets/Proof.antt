@@ -13,7 +13,8 @@ use lib.ListN.{length, take, getD}
 use lib.Seq.{take-all}
 use Rattle.bits.specs.Bits.{toBits}
 use Rattle.bits.specs.Stream.{Appends, stay, next, ends}
-use Rattle.model.specs.Layout.{setsBits}
+use Rattle.model.specs.State.{subjectCount}
+use Rattle.model.specs.Layout.{pairWidth, setsBits}
 use Rattle.writing.proofs.Words.{pair-bits}
 use Rattle.writing.proofs.Streams.{appended, sets-more, no-sets}
 use Rattle.writing.proofs.write_sets.Statement.{statement}
@@ -21,10 +22,10 @@ use Rattle.writing.proofs.write_sets.Tie as tie
 
 abbrev Inv-loop : tie.InvT-loop
 Inv-loop out₀ at acc rights held waiting₀ s₀ out waiting s =
-    (s ≤ 16) × (length rights ≡ 16) × (length held ≡ 16) × Appends out₀ at acc (setsBits (take s rights) (take s held)) out (at + 8 * s) waiting
+    (s ≤ subjectCount) × (length rights ≡ subjectCount) × (length held ≡ subjectCount) × Appends out₀ at acc (setsBits (take s rights) (take s held)) out (at + pairWidth * s) waiting
 
 abbrev μ-loop : tie.MeasureT-loop
-μ-loop out₀ at acc rights held waiting₀ s₀ out waiting s = 16 - s
+μ-loop out₀ at acc rights held waiting₀ s₀ out waiting s = subjectCount - s
 
 loop-holds : tie.Need-loop-holds Inv-loop μ-loop
 loop-holds c =
@@ -74,10 +75,10 @@ same-length c = search needs
 returns : tie.Need-returns Inv-loop μ-loop
 returns c =
     let a = c .before .before .before .args in
-    let end : c .before .loop .s ≡ 16 = omega arith in
+    let end : c .before .loop .s ≡ subjectCount = omega arith in
     let all : setsBits (take (c .before .loop .s) (a .t4)) (take (c .before .loop .s) (a .t5)) ≡ setsBits (a .t4) (a .t5) =
     ap (λ (s : ℕ). setsBits (take s (a .t4)) (take s (a .t5))) end
-    ∙ ap₂ setsBits (take-all 16 (a .t4) (omega (arith, c .before .loop .inv .1))) (take-all 16 (a .t5) (omega (arith, c .before .loop .inv .2))) in
+    ∙ ap₂ setsBits (take-all subjectCount (a .t4) (omega (arith, c .before .loop .inv .1))) (take-all subjectCount (a .t5) (omega (arith, c .before .loop .inv .2))) in
     ends _ _ all (omega arith) (c .before .loop .inv .3)
 
 pub write-sets-spec : {M : Type 1} → statement M

@@ -1,0 +1,26 @@
+// Bytes put into a lent buffer from a place on.
+ghost use mathlib.Core.Path.{_≡_};
+ghost use Prim.Native.Nat.{_+_, _≤_};
+ghost use lib.ListN.{length};
+ghost use Rattle.model.specs.Buffers.{put, twoDigits};
+
+// The bytes from at on.
+pub fn put_bytes(out: &mut [u8], at: usize, bytes: &[u8])
+    requires { ⌜ at + length (now bytes) ≤ length (now out) ⌝ }
+    ensures { λ _. ⌜ now (out .exit) ≡ put (now (out .entry)) at (now (bytes .entry)) ⌝ }
+{
+    let mut i: usize = 0;
+    while i < bytes.len() {
+        out[at + i] = bytes[i];
+        i += 1;
+    }
+}
+
+// A number below 100 in two decimal digits, the first of them 0 below 10.
+pub fn put_two(out: &mut [u8], at: usize, n: u8)
+    requires { ⌜ at + 2 ≤ length (now out) ⌝ }
+    ensures { λ _. ⌜ now (out .exit) ≡ put (now (out .entry)) at (twoDigits n) ⌝ }
+{
+    out[at] = 48 + n / 10;
+    out[at + 1] = 48 + n % 10;
+}
