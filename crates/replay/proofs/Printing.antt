@@ -6,7 +6,7 @@ use mathlib.Core.Path.{_≡_, refl, sym, ap, ap₂, _∙_}
 use mathlib.Core.Logic.{⊎-elim}
 use mathlib.Core.Bool.{true, false}
 use mathlib.Core.List.{List, [], _∷_, _++_, map}
-use lib.ListN.{length, take, drop, length-take, length-drop}
+use lib.ListN.{length, take, drop, length-take, length-drop, drop-of-length-le}
 use lib.Seq.{take-all, take-at, length-take-le}
 use Rattle.bits.specs.Bits.{join}
 use Rattle.model.specs.declared.Response.{Response}
@@ -21,14 +21,6 @@ use Rattle.model.proofs.Lists.{length-replies}
 use Rattle.turns.proofs.Runs.{taken, length-pieces}
 use Rattle.model.specs.Buffers.{put}
 use Rattle.replay.proofs.Putting.{line-short, lines-short}
-
--- the rest of a list that ends before
-drop-end : (l : List ℕ) (n : ℕ) → length l ≤ n → drop n l ≡ []
-drop-end l n h = empty (drop n l) (length-drop n l ∙ omega arith)
-  where
-    empty : (k : List ℕ) → length k ≡ 0 → k ≡ []
-    empty [] e = refl
-    empty (x ∷ k) e = absurd (omega arith)
 
 none : (n : ℕ) → take {A = ℕ} n [] ≡ []
 none n = take-all n [] (omega arith)
@@ -47,7 +39,7 @@ module _ (input : List ℕ) (e : ℕ) (is : e ≡ min tableSize (length input)) 
       let k : l - e ≡ min (length (drop e input)) 24576 = omega (arith, is, p, length-drop e input) in
       ap (λ n. take n (drop e input)) k ∙ taken (drop e input) 24576 ∙ ap (λ n. take 24576 (drop n input)) q)
       (λ (w : length input < tableSize).
-      ap (take (l - e)) (drop-end input e (omega (arith, is))) ∙ none (l - e) ∙ sym (ap (take 24576) (drop-end input tableSize (omega arith)) ∙ none 24576))
+      ap (take (l - e)) (drop-of-length-le input {i = e} (omega (arith, is))) ∙ none (l - e) ∙ sym (ap (take 24576) (drop-of-length-le input {i = tableSize} (omega arith)) ∙ none 24576))
       (le-or-lt tableSize (length input))
 
   module _ (r : Response) (read : r ≡ readTable (take (e - 0) (drop 0 input))) where

@@ -1,80 +1,47 @@
--- `buffers::put_bytes` meets its contract: after i turns the first i bytes are put.
+-- `buffers::put_bytes` meets its contract: the bytes are copied to the front of the part that begins at the place.
 -- Assumes nothing.
-use Prim.Native.Nat.{_+_, _-_, _≤_}
+use Prim.Native.Nat.{ℕ, _-_, _+_, _≤_}
 use native.Mathlib.Omega.{arith}
-use native.Mathlib.Numerals.{add-one}
-use mathlib.Core.Path.{_≡_, refl, sym, ap, _∙_}
-use mathlib.Core.List.{_∷_, [], _++_}
-use lib.ListN.{length, take, getD, set, length-set}
-use lib.Seq.{take-all, take-suc, length-take-le}
+use mathlib.Core.Path.{_≡_, refl, sym, ap, ap₂, _∙_}
+use mathlib.Core.List.{List, _++_, append-nil}
+use lib.ListN.{length, take, drop, length-drop, drop-of-length-le}
+use lib.Seq.{take-all, take-length, drop-drop}
 use borrow.Author.Needs.{needs}
 use Rattle.model.specs.Buffers.{put}
-use Rattle.model.proofs.Buffers.{put-none, put-next}
 use Rattle.buffers.proofs.put_bytes.Statement.{statement}
 use Rattle.buffers.proofs.put_bytes.Tie as tie
 
-abbrev Inv-loop : tie.InvT-loop
-Inv-loop out₀ at bytes i₀ out i = (i ≤ length bytes) × (length out ≡ length out₀) × (out ≡ put out₀ at (take i bytes))
+-- the part from the place on, with the bytes copied to its front, put back
+copied : (s : List ℕ) (at : ℕ) (b part : List ℕ) → at ≤ length s → part ≡ take (length b) b ++ drop (length b) (take (length s - at) (drop at s))
+    → take at s ++ (part ++ drop (length s - at) (drop at s)) ≡ put s at b
+unfolding put
+copied s at b part h e =
+    let k = length s - at in
+    let rest = drop at s in
+    let size : length rest ≤ k = omega (arith, length-drop at s) in
+    let new : part ≡ b ++ drop (at + length b) s = e ∙ ap₂ (λ (x y : List ℕ). x ++ drop (length b) y) (take-length b) (take-all k rest size) ∙ ap (λ (l : List ℕ). b ++ l) (drop-drop (length b) at s) in
+    ap (λ (l : List ℕ). take at s ++ l) (ap (λ (l : List ℕ). part ++ l) (drop-of-length-le rest size) ∙ append-nil part ∙ new)
 
-abbrev μ-loop : tie.MeasureT-loop
-μ-loop out₀ at bytes i₀ out i = length bytes - i
+sub-copy : tie.Need-sub-copy
+sub-copy c = search needs
 
-loop-holds : tie.Need-loop-holds Inv-loop μ-loop
-loop-holds c = (omega arith, refl, put-none _ _)
+part-copy-start : tie.Need-part-copy-start
+part-copy-start c = search needs
 
-shared-slice-read-out : tie.Need-shared-slice-read-out Inv-loop μ-loop
-shared-slice-read-out c = search needs
+part-copy-end : tie.Need-part-copy-end
+part-copy-end c = search needs
 
-add-out : tie.Need-add-out Inv-loop μ-loop
-add-out c = search needs
+copy-requires : tie.Need-copy-requires
+copy-requires c κs = search needs
 
-slice-write-out : tie.Need-slice-write-out Inv-loop μ-loop
-slice-write-out c = search needs
-
-add-i : tie.Need-add-i Inv-loop μ-loop
-add-i c = search needs
-
-loop-less : tie.Need-loop-less Inv-loop μ-loop
-loop-less c = search needs
-
-loop-again : tie.Need-loop-again Inv-loop μ-loop
-loop-again c =
-    let loop = c .before .before .loop in
-    let a = c .before .before .before .args in
-    let s = a .out .now in
-    let b = a .bytes .now in
-    let i = loop .i in
-    let k = a .at + i in
-    let v = getD b i 0 in
-    let t = c .before .loop-test .taken in
-    let place : k ≡ a .at + length (take i b) = omega (arith, length-take-le i b (omega (arith, t))) in
-    let more : take i b ++ (v ∷ []) ≡ take (i + 1) b = sym (take-suc b i 0 t) ∙ ap (λ n. take n b) (sym (add-one i)) in (
-      omega (arith, t),
-      length-set (loop .out) k v ∙ loop .inv .1,
-      ap (λ l. set l k v) (loop .inv .2) ∙ put-next s (a .at) (take i b) k v place (omega (arith, t, c .before .before .before .pre)) ∙ ap (put s (a .at)) more,
-    )
-
-same-length : tie.Need-same-length Inv-loop μ-loop
+same-length : tie.Need-same-length
 same-length c = search needs
 
-returns : tie.Need-returns Inv-loop μ-loop
+returns : tie.Need-returns
 returns c =
-    let loop = c .before .loop in
-    let a = c .before .before .args in
-    loop .inv .2 ∙ ap (put (a .out .now) (a .at)) (take-all (loop .i) (a .bytes .now) (omega (arith, c .loop-test .left)))
+    let start = c .before .before .before .before .before .before in
+    copied (start .args .out .now) (start .args .at) (start .args .bytes .now) _ (omega (arith, start .pre)) (c .before .before .copy .ensures .1)
 
 pub put-bytes-spec : {M : Type 1} → statement M
 put-bytes-spec =
-    tie.close
-    (tie.spec
-    Inv-loop
-    μ-loop
-    loop-holds
-    shared-slice-read-out
-    add-out
-    slice-write-out
-    add-i
-    loop-less
-    loop-again
-    same-length
-    returns)
+    tie.close (tie.spec sub-copy part-copy-start part-copy-end copy-requires same-length returns)
