@@ -70,18 +70,6 @@ toBits-low j w x h =
 pub toBits-join : (j k h : ℕ) {r : ℕ} → r < 2 ^ k → toBits (j + k) (h * 2 ^ k + r) ≡ toBits j h ++ toBits k r
 toBits-join j k h {r} l = toBits-split j k (h * 2 ^ k + r) ∙ rw (high h k l, toBits-add k h r)
 
--- a field of the bits of a number: the upper bits of its lower bits
-pub field-toBits : (off w low x : ℕ) → take w (drop off (toBits (off + (w + low)) x)) ≡ toBits w (x / 2 ^ low)
-field-toBits off w low x =
-    let above = toBits off (x / 2 ^ (w + low)) in
-    let here = toBits w (x / 2 ^ low) in
-    rw (
-      toBits-split off (w + low) x,
-      drop-at above (toBits (w + low) x) off (length-toBits off (x / 2 ^ (w + low))),
-      toBits-split w low x,
-    )
-    (take-at here (toBits low x) w (length-toBits w (x / 2 ^ low)))
-
 -- ---- the number that bits are
 
 pub fromBits-toBits-mod : (w x : ℕ) → fromBits (toBits w x) ≡ x % 2 ^ w

@@ -62,10 +62,6 @@ module _ {A : Type 0} where
       let e : suc n * w ≡ w + n * w = omega arith in
       rw (e, take-take w (w + n * w) b (omega arith), drop-take w (n * w) b, cut-take n w (drop w b))
 
-  -- the records in a part of a list
-  pub cut-part : (n w i m : ℕ) (l : List A) → i + n * w ≡ m → cut n w (drop i (take m l)) ≡ cut n w (drop i l)
-  cut-part n w i m l e = ap (λ (k : ℕ). cut n w (drop i (take k l))) (sym e) ∙ rw (drop-take i (n * w) l) (cut-take n w (drop i l))
-
   -- a field of a record
   pub field-record : (l : List A) (at n i w : ℕ) → i + w ≤ n → take w (drop i (take n (drop at l))) ≡ take w (drop (at + i) l)
   field-record l at n i w h =

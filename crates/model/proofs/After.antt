@@ -3,9 +3,8 @@
 use Prim.Native.Nat.{ℕ, _<_}
 use native.Mathlib.Omega.{arith}
 use mathlib.Core.Path.{_≡_}
-use mathlib.Core.Logic.{_≢_}
 use mathlib.Core.List.{List}
-use lib.Seq.{getD-set-same, getD-set-other}
+use lib.Seq.{getD-set-same}
 use Rattle.model.specs.declared.Subject.{Subject}
 use Rattle.model.specs.declared.Object.{Object}
 use Rattle.model.specs.declared.Monitor.{Monitor}
@@ -17,10 +16,6 @@ use Rattle.model.proofs.Tests.{set-all}
 -- the request's object has the record that the request makes
 pub object-there : (q : Request) (m : Monitor) → WellFormed m → target q < 64 → object (afterwards q m) (target q) ≡ changed q (object m (target q))
 object-there q m W h = getD-set-same (m .objects) (target q) _ noObject (omega (arith, h, W .objects-length))
-
--- every other object has the record that it had
-pub object-elsewhere : (q : Request) (m : Monitor) (o : ℕ) → o ≢ target q → object (afterwards q m) o ≡ object m o
-object-elsewhere q m o h = getD-set-other (m .objects) (target q) o _ noObject h
 
 -- what holds of every record, and of the one that the request makes, holds of every record after it
 pub objects-after : (P : ℕ → Object → Type 0) (q : Request) (m : Monitor) → ((o : ℕ) → P o (object m o)) → P (target q) (changed q (object m (target q)))
