@@ -1,7 +1,7 @@
 // A list of requests on a unit.
 ghost use mathlib.Core.Path.{_≡_};
-ghost use mathlib.Core.List.{_++_};
-ghost use lib.ListN.{length, drop};
+ghost use lib.ListN.{length};
+ghost use Rattle.model.specs.Buffers.{front};
 ghost use Rattle.model.specs.Runs.{after, replies};
 ghost use Rattle.unit.specs.Rows.{rowCount, stateIn};
 ghost use Rattle.turns.specs.Turns.{pieceCount, turns};
@@ -23,7 +23,7 @@ pub fn piece_count(bytes: usize) -> usize
 pub fn run(unit: &mut [[u8; 16]], requests: &[u8], out: &mut [u8])
     requires { do ⌜ (← ⟦unit.len()⟧) ≡ rowCount ⌝ }
     ensures state { λ r. ⌜ stateIn (now (unit .exit)) ≡ after (turns (now (requests .entry)) (length (now (out .entry)))) (stateIn (now (unit .entry))) ⌝ }
-    ensures written { λ r. ⌜ now (out .exit) ≡ replies (turns (now (requests .entry)) (length (now (out .entry)))) (stateIn (now (unit .entry))) ++ drop (length (turns (now (requests .entry)) (length (now (out .entry))))) (now (out .entry)) ⌝ }
+    ensures written { λ r. ⌜ now (out .exit) ≡ front (length (turns (now (requests .entry)) (length (now (out .entry))))) (replies (turns (now (requests .entry)) (length (now (out .entry)))) (stateIn (now (unit .entry)))) (now (out .entry)) ⌝ }
 {
     let count = smaller(piece_count(requests.len()), out.len());
     let mut i = 0usize;
