@@ -1,13 +1,16 @@
 //! The repository as a fresh clone has it: without what was built in it, and with a toolchain that need not prove again
-//! what the repository has proved.
+//! what the repository has proved. It stands outside the repository, in whose folder `rt` takes every file of Rattle for one
+//! that must be proved.
 
-use super::{folder, root};
+use super::root;
 use std::fs;
 use std::os::unix::fs::PermissionsExt;
 use std::path::{Path, PathBuf};
 use std::process::{Command, Stdio};
 
 pub struct Clone {
+    /// what is removed in the end
+    folder: PathBuf,
     pub root: PathBuf,
     /// what commands are looked for in
     path: String,
@@ -15,13 +18,14 @@ pub struct Clone {
 
 impl Clone {
     pub fn new(name: &str) -> Clone {
-        let folder = folder(name);
+        let folder = std::env::temp_dir().join(format!("circmon-{name}-{}", std::process::id()));
         let (root, programs) = (folder.join("clone"), folder.join("programs"));
+        fs::create_dir(&folder).unwrap();
         copy(&super::root(), &root);
         fs::create_dir(&programs).unwrap();
         script(&programs.join("rt"), &toolchain());
         let path = format!("{}:{}", programs.display(), std::env::var("PATH").unwrap());
-        Clone { root, path }
+        Clone { folder, root, path }
     }
 
     /// A shell line in the root of the clone.
@@ -34,6 +38,12 @@ impl Clone {
     /// Takes away what rt has built.
     pub fn without_target(&self) {
         let _ = fs::remove_dir_all(self.root.join("target"));
+    }
+}
+
+impl Drop for Clone {
+    fn drop(&mut self) {
+        let _ = fs::remove_dir_all(&self.folder);
     }
 }
 
