@@ -5,12 +5,9 @@ use native.Mathlib.Omega.{arith}
 use mathlib.Core.Path.{_≡_, refl, sym, ap, _∙_, subst}
 use mathlib.Core.Logic.{_↔_, _≢_}
 use mathlib.Core.Bool.{true}
-use mathlib.Core.List.{List, [], _∷_}
+use mathlib.Core.List.{List}
 use borrow.Author.Tests.{leb-true}
-use Rattle.model.specs.declared.Level.{Level}
 use Rattle.model.specs.declared.Monitor.{Monitor}
-use Rattle.model.specs.declared.Mode.{Mode}
-use Rattle.model.specs.declared.Creation.{Creation}
 use Rattle.model.specs.declared.Request.{Request}
 use Rattle.model.specs.declared.Request.the-variants.{Get, Release, Give, Rescind, Create, Delete, ChangeLevel}
 use Rattle.model.specs.declared.Decoded.{Decoded}
@@ -32,7 +29,7 @@ use Rattle.model.proofs.Requests.{decode-range}
 use Rattle.invariants.proofs.Steps.{step-refused, respond-all}
 use Rattle.invariants.proofs.Outcomes.{step-cases, reply-granted}
 use Rattle.images.proofs.Reached.{sound-reached, respond-says}
-use Rattle.refusals.specs.First.{Causes, FirstIn, NoneIn, AnswersFirst, orderOf}
+use Rattle.refusals.specs.First.{Causes, FirstIn, NoneIn, AnswersFirst}
 use Rattle.refusals.specs.Causes.{MalformedBytes, requestCauses, tableCauses, imageCauses}
 use Rattle.refusals.proofs.RequestCauses.{request-answers}
 use Rattle.refusals.proofs.Malformed.{malformed-exactly}
@@ -122,20 +119,3 @@ table-refused-empty b e = cond-true (refuses (tableChecks b)) _ _ e
 pub image-refused-empty : (b : List ℕ) → refuses (readImage b .decision) ≡ true → readImage b .monitor ≡ emptyMonitor
 unfolding readImage begin
 image-refused-empty b e = cond-true (refuses (imageChecks b)) _ _ e
-
--- ---- the orders, by their numbers
-
--- "Checks run in the order 2, 3, then 4 or 5, then 6, 7, 8, 9", each kind with those of its row in the table of kinds
-pub orders-of-requests : (m : Monitor) (s t o : ℕ) (x : Mode) (c : Creation) (l : Level)
-    → (orderOf (requestCauses (Get s o x) m) ≡ 3 ∷ 4 ∷ 6 ∷ 7 ∷ 8 ∷ 9 ∷ [])
-    × (orderOf (requestCauses (Release s o x) m) ≡ 3 ∷ 4 ∷ [])
-    × (orderOf (requestCauses (Give s t o x) m) ≡ 3 ∷ 4 ∷ 6 ∷ [])
-    × (orderOf (requestCauses (Rescind s t o x) m) ≡ 3 ∷ 4 ∷ 6 ∷ [])
-    × (orderOf (requestCauses (Create s o c) m) ≡ 3 ∷ 5 ∷ [])
-    × (orderOf (requestCauses (Delete s o) m) ≡ 3 ∷ 4 ∷ 6 ∷ [])
-    × (orderOf (requestCauses (ChangeLevel s o l) m) ≡ 3 ∷ 4 ∷ 6 ∷ 8 ∷ 9 ∷ [])
-orders-of-requests m s t o x c l = (refl, refl, refl, refl, refl, refl, refl)
-
--- "Tables are checked 10, 11; images 10, 11, 12, 6, 7, 8, 9"
-pub orders-of-beginnings : (b : List ℕ) → (orderOf (tableCauses b) ≡ 10 ∷ 11 ∷ []) × (orderOf (imageCauses b) ≡ 10 ∷ 11 ∷ 12 ∷ 6 ∷ 7 ∷ 8 ∷ 9 ∷ [])
-orders-of-beginnings b = (refl, refl)

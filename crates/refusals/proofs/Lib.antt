@@ -1,4 +1,5 @@
--- Demand 1: the first refusal in the scope's order, in the order in which the files stand on each other.
+-- Demand 1: the first refusal in the scope's order, the orders themselves first, then the files as they stand on each other.
+pub mod Orders
 pub mod First
 pub mod RequestCauses
 pub mod Malformed

@@ -1,0 +1,27 @@
+-- The orders in which causes are looked for, by their numbers.
+-- Assumes nothing.
+use Prim.Native.Nat.{ℕ}
+use mathlib.Core.Path.{_≡_, refl}
+use mathlib.Core.List.{List, [], _∷_}
+use Rattle.model.specs.declared.Level.{Level}
+use Rattle.model.specs.declared.Monitor.{Monitor}
+use Rattle.model.specs.declared.Mode.{Mode}
+use Rattle.model.specs.declared.Creation.{Creation}
+use Rattle.model.specs.declared.Request.the-variants.{Get, Release, Give, Rescind, Create, Delete, ChangeLevel}
+use Rattle.refusals.specs.First.{orderOf}
+use Rattle.refusals.specs.Causes.{requestCauses, tableCauses, imageCauses}
+
+-- "Checks run in the order 2, 3, then 4 or 5, then 6, 7, 8, 9", each kind with those of its row in the table of kinds
+pub orders-of-requests : (m : Monitor) (s t o : ℕ) (x : Mode) (c : Creation) (l : Level)
+    → (orderOf (requestCauses (Get s o x) m) ≡ 3 ∷ 4 ∷ 6 ∷ 7 ∷ 8 ∷ 9 ∷ [])
+    × (orderOf (requestCauses (Release s o x) m) ≡ 3 ∷ 4 ∷ [])
+    × (orderOf (requestCauses (Give s t o x) m) ≡ 3 ∷ 4 ∷ 6 ∷ [])
+    × (orderOf (requestCauses (Rescind s t o x) m) ≡ 3 ∷ 4 ∷ 6 ∷ [])
+    × (orderOf (requestCauses (Create s o c) m) ≡ 3 ∷ 5 ∷ [])
+    × (orderOf (requestCauses (Delete s o) m) ≡ 3 ∷ 4 ∷ 6 ∷ [])
+    × (orderOf (requestCauses (ChangeLevel s o l) m) ≡ 3 ∷ 4 ∷ 6 ∷ 8 ∷ 9 ∷ [])
+orders-of-requests m s t o x c l = (refl, refl, refl, refl, refl, refl, refl)
+
+-- "Tables are checked 10, 11; images 10, 11, 12, 6, 7, 8, 9"
+pub orders-of-beginnings : (b : List ℕ) → (orderOf (tableCauses b) ≡ 10 ∷ 11 ∷ []) × (orderOf (imageCauses b) ≡ 10 ∷ 11 ∷ 12 ∷ 6 ∷ 7 ∷ 8 ∷ 9 ∷ [])
+orders-of-beginnings b = (refl, refl)
