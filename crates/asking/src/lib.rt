@@ -5,18 +5,18 @@ ghost use Rattle.model.specs.Runs.{reply};
 ghost use Rattle.unit.specs.Rows.{rowCount, stateIn};
 ghost use Rattle.kinds.specs.Carried.{Does};
 ghost use Rattle.asking.specs.Asked.{asked};
+use accesses::get;
+use accesses::release;
 use decoding::decode;
-use kinds::change_level;
-use kinds::create;
-use kinds::delete;
-use kinds::get;
-use kinds::give;
-use kinds::release;
-use kinds::rescind;
 use labels::number;
 use model::Decision;
 use model::Decoded;
 use model::Request;
+use objects::change_level;
+use objects::create;
+use objects::delete;
+use rights::give;
+use rights::rescind;
 
 fn carry_out(unit: &mut [[u8; 16]], q: Request) -> u8
     requires { do ⌜ (← ⟦unit.len()⟧) ≡ rowCount ⌝ }

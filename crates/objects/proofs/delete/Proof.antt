@@ -1,14 +1,14 @@
--- `kinds::delete` meets its contract.
+-- `objects::delete` meets its contract.
 -- Assumes nothing.
 use mathlib.Core.Path.{refl, sym, _∙_}
 use Rattle.model.specs.declared.Request.the-variants.{Delete}
 use Rattle.model.specs.Rules.{already}
 use Rattle.unit.specs.Stored.{setObject}
 use Rattle.kinds.specs.Carried.{stores}
 use Rattle.kinds.proofs.Answers.{does-refused, does-granted}
 use borrow.Author.Needs.{needs}
-use Rattle.kinds.proofs.delete.Statement.{statement}
-use Rattle.kinds.proofs.delete.Tie as tie
+use Rattle.objects.proofs.delete.Statement.{statement}
+use Rattle.objects.proofs.delete.Tie as tie
 
 by-owner-requires : tie.Need-by-owner-requires
 by-owner-requires c κs = search needs

@@ -1,9 +1,9 @@
--- `kinds::may_give` meets its contract.
+-- `rights::may_give` meets its contract.
 -- Assumes nothing.
 use Rattle.model.specs.Rules.{checks}
 use borrow.Author.Needs.{needs}
-use Rattle.kinds.proofs.may_give.Statement.{statement}
-use Rattle.kinds.proofs.may_give.Tie as tie
+use Rattle.rights.proofs.may_give.Statement.{statement}
+use Rattle.rights.proofs.may_give.Tie as tie
 
 is-owner-requires : tie.Need-is-owner-requires
 is-owner-requires c κs = search needs

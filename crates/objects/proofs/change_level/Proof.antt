@@ -1,20 +1,20 @@
--- `kinds::change_level` meets its contract.
+-- `objects::change_level` meets its contract.
 -- Assumes nothing.
 use Rattle.model.specs.declared.Label.{Label}
 use mathlib.Core.Path.{refl, sym, ap, ap₂, _∙_}
 use Rattle.model.specs.declared.Request.the-variants.{ChangeLevel}
 use Rattle.model.specs.Rules.{already}
 use Rattle.kinds.specs.Carried.{stores}
 use Rattle.kinds.proofs.Answers.{does-refused, does-granted}
 use lib.ListN.{set}
 use Rattle.model.specs.declared.Label.the-variants.{Present}
 use Rattle.model.specs.Levels.{sameLabel}
 use Rattle.unit.specs.Rows.{restRow}
 use Rattle.unit.proofs.Stores.{rest-put-back}
 use Rattle.kinds.proofs.Answers.{level-refused, level-last}
 use borrow.Author.Needs.{needs}
-use Rattle.kinds.proofs.change_level.Statement.{statement}
-use Rattle.kinds.proofs.change_level.Tie as tie
+use Rattle.objects.proofs.change_level.Statement.{statement}
+use Rattle.objects.proofs.change_level.Tie as tie
 
 by-owner-requires : tie.Need-by-owner-requires
 by-owner-requires c κs = search needs

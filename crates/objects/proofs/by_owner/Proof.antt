@@ -1,9 +1,9 @@
--- `kinds::by_owner` meets its contract.
+-- `objects::by_owner` meets its contract.
 -- Assumes nothing.
 use Rattle.model.specs.Rules.{checks}
 use borrow.Author.Needs.{needs}
-use Rattle.kinds.proofs.by_owner.Statement.{statement}
-use Rattle.kinds.proofs.by_owner.Tie as tie
+use Rattle.objects.proofs.by_owner.Statement.{statement}
+use Rattle.objects.proofs.by_owner.Tie as tie
 
 is-owner-requires : tie.Need-is-owner-requires
 is-owner-requires c κs = search needs

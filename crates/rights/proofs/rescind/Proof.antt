@@ -1,4 +1,4 @@
--- `kinds::rescind` meets its contract.
+-- `rights::rescind` meets its contract.
 -- Assumes nothing.
 use mathlib.Core.Path.{refl, sym, ap, ap₂, _∙_}
 use Rattle.model.specs.declared.Request.the-variants.{Rescind}
@@ -6,11 +6,11 @@ use mathlib.Core.Bool.{not, _&&_}
 use Rattle.model.specs.Modes.{has, remove}
 use Rattle.model.specs.Rules.{already, checks}
 use Rattle.unit.specs.Stored.{setRights, setHeld}
 use Rattle.kinds.specs.Carried.{stores}
 use Rattle.kinds.proofs.Answers.{does-refused, does-granted}
 use borrow.Author.Needs.{needs}
-use Rattle.kinds.proofs.rescind.Statement.{statement}
-use Rattle.kinds.proofs.rescind.Tie as tie
+use Rattle.rights.proofs.rescind.Statement.{statement}
+use Rattle.rights.proofs.rescind.Tie as tie
 
 may-give-requires : tie.Need-may-give-requires
 may-give-requires c κs = search needs

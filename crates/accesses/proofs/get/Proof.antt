@@ -1,18 +1,18 @@
--- `kinds::get` meets its contract.
+-- `accesses::get` meets its contract.
 -- Assumes nothing.
 use mathlib.Core.Path.{_≡_, refl, sym, ap, ap₂, _∙_}
 use Rattle.model.specs.declared.Request.the-variants.{Get}
 use Rattle.model.specs.Modes.{has, add}
 use Rattle.model.specs.Rules.{already}
 use Rattle.unit.specs.Stored.{setHeld}
 use Rattle.kinds.specs.Carried.{stores}
 use Rattle.kinds.proofs.Answers.{does-refused, does-granted}
 use mathlib.Core.Logic.{⊎-elim}
 use Rattle.kinds.proofs.Effects.{held-back}
 use Rattle.kinds.proofs.Answers.{get-refused, get-free, get-broken, get-kept}
 use borrow.Author.Needs.{needs}
-use Rattle.kinds.proofs.get.Statement.{statement}
-use Rattle.kinds.proofs.get.Tie as tie
+use Rattle.accesses.proofs.get.Statement.{statement}
+use Rattle.accesses.proofs.get.Tie as tie
 
 -- the rows with the access in them
 stored : (c : tie.After-set-held) → c .set-held .last .0 ≡ stores (Get (c .before .before .before .before .before .before .before .before .before .args .s) (c .before .before .before .before .before .before .before .before .before .args .o) (c .before .before .before .before .before .before .before .before .before .args .x)) (c .before .before .before .before .before .before .before .before .before .args .unit .now)

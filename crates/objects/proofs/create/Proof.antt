@@ -1,15 +1,15 @@
--- `kinds::create` meets its contract.
+-- `objects::create` meets its contract.
 -- Assumes nothing.
 use mathlib.Core.Path.{_≡_, refl, sym, _∙_}
 use Rattle.model.specs.declared.Request.the-variants.{Create}
 use Rattle.model.specs.Rules.{already, checks}
 use Rattle.unit.specs.Rows.{stateIn}
 use Rattle.unit.specs.Stored.{setObject}
 use Rattle.kinds.specs.Carried.{stores}
 use Rattle.kinds.proofs.Answers.{does-refused, does-granted}
 use borrow.Author.Needs.{needs}
-use Rattle.kinds.proofs.create.Statement.{statement}
-use Rattle.kinds.proofs.create.Tie as tie
+use Rattle.objects.proofs.create.Statement.{statement}
+use Rattle.objects.proofs.create.Tie as tie
 
 checked : (c : tie.After-check2) → c .check2 .result ≡ checks (Create (c .before .before .before .before .before .before .args .s) (c .before .before .before .before .before .before .args .o) (c .before .before .before .before .before .before .args .how)) (stateIn (c .before .before .before .before .before .before .args .unit .now))
 unfolding checks

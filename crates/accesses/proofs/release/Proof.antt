@@ -1,4 +1,4 @@
--- `kinds::release` meets its contract.
+-- `accesses::release` meets its contract.
 -- Assumes nothing.
 use mathlib.Core.Path.{_≡_, refl, sym, ap, _∙_}
 use Rattle.model.specs.declared.Request.the-variants.{Release}
@@ -7,11 +7,11 @@ use Rattle.model.specs.Modes.{has, remove}
 use Rattle.model.specs.Rules.{already, checks}
 use Rattle.unit.specs.Rows.{stateIn}
 use Rattle.unit.specs.Stored.{setHeld}
 use Rattle.kinds.specs.Carried.{stores}
 use Rattle.kinds.proofs.Answers.{does-refused, does-granted}
 use borrow.Author.Needs.{needs}
-use Rattle.kinds.proofs.release.Statement.{statement}
-use Rattle.kinds.proofs.release.Tie as tie
+use Rattle.accesses.proofs.release.Statement.{statement}
+use Rattle.accesses.proofs.release.Tie as tie
 
 checked : (c : tie.After-check2) → c .check2 .result ≡ checks (Release (c .before .before .before .before .before .before .args .s) (c .before .before .before .before .before .before .args .o) (c .before .before .before .before .before .before .args .x)) (stateIn (c .before .before .before .before .before .before .args .unit .now))
 unfolding checks

@@ -1,15 +1,15 @@
--- `kinds::give` meets its contract.
+-- `rights::give` meets its contract.
 -- Assumes nothing.
 use mathlib.Core.Path.{refl, sym, ap, _∙_}
 use Rattle.model.specs.declared.Request.the-variants.{Give}
 use Rattle.model.specs.Modes.{has, add}
 use Rattle.model.specs.Rules.{already}
 use Rattle.unit.specs.Stored.{setRights}
 use Rattle.kinds.specs.Carried.{stores}
 use Rattle.kinds.proofs.Answers.{does-refused, does-granted}
 use borrow.Author.Needs.{needs}
-use Rattle.kinds.proofs.give.Statement.{statement}
-use Rattle.kinds.proofs.give.Tie as tie
+use Rattle.rights.proofs.give.Statement.{statement}
+use Rattle.rights.proofs.give.Tie as tie
 
 may-give-requires : tie.Need-may-give-requires
 may-give-requires c κs = search needs

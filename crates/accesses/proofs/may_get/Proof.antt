@@ -1,9 +1,9 @@
--- `kinds::may_get` meets its contract.
+-- `accesses::may_get` meets its contract.
 -- Assumes nothing.
 use Rattle.kinds.specs.Stages.{beforeStar}
 use borrow.Author.Needs.{needs}
-use Rattle.kinds.proofs.may_get.Statement.{statement}
-use Rattle.kinds.proofs.may_get.Tie as tie
+use Rattle.accesses.proofs.may_get.Statement.{statement}
+use Rattle.accesses.proofs.may_get.Tie as tie
 
 clearance-of-requires : tie.Need-clearance-of-requires
 clearance-of-requires c κs = search needs

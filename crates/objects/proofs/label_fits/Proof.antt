@@ -1,4 +1,4 @@
--- `kinds::label_fits` meets its contract.
+-- `objects::label_fits` meets its contract.
 -- Assumes nothing.
 use mathlib.Core.Path.{sym, ap, _∙_}
 use mathlib.Core.Bool.{not}
@@ -6,10 +6,10 @@ use Rattle.model.specs.declared.Decision.the-variants.{Granted, SimpleBroken, S
 use Rattle.model.specs.Tests.{unless}
 use Rattle.model.proofs.Tests.{not-on, not-off, not-not, pass, stop}
 use Rattle.star.proofs.Between.{between-all}
 use Rattle.kinds.specs.Stages.{afterChange}
 use borrow.Author.Needs.{needs}
-use Rattle.kinds.proofs.label_fits.Statement.{statement}
-use Rattle.kinds.proofs.label_fits.Tie as tie
+use Rattle.objects.proofs.label_fits.Statement.{statement}
+use Rattle.objects.proofs.label_fits.Tie as tie
 
 keeps-simple-requires : tie.Need-keeps-simple-requires
 keeps-simple-requires c κs = search needs

@@ -1,0 +1,92 @@
+// The kinds of request about the accesses that a subject holds, on a unit: get and release. The checks of a kind are in the scope's order, then
+// stands what it stores. Each returns the number of its answer; a refusal leaves every byte. Get stores first, and puts the old set
+// back where star refuses.
+ghost use mathlib.Core.Path.{_≡_};
+ghost use Prim.Native.Nat.{_<_};
+ghost use Rattle.model.specs.State.{subjectCount, objectCount};
+ghost use Rattle.model.specs.Rules.{checks};
+ghost use Rattle.unit.specs.Rows.{rowCount, stateIn};
+ghost use Rattle.kinds.specs.Stages.{beforeStar};
+ghost use Rattle.kinds.specs.Carried.{Does};
+use labels::check;
+use labels::dominates;
+use labels::has;
+use labels::implies;
+use labels::is_present;
+use labels::needs_label;
+use labels::number;
+use labels::observes;
+use labels::refuses;
+use model::Decision;
+use model::Mode;
+use model::Request;
+use star::breaks_star;
+use unit::clearance_of;
+use unit::flag;
+use unit::held_by;
+use unit::is_enrolled;
+use unit::is_live;
+use unit::label_of;
+use unit::rights_of;
+use unit::set_held;
+
+// 1: the actor then holds the access. Star is asked of the state with the access in it.
+pub fn get(unit: &mut [[u8; 16]], s: u8, o: u8, x: Mode) -> u8
+    requires { do ⌜ (← ⟦unit.len()⟧) ≡ rowCount ⌝ }
+    requires { ⌜ (s < subjectCount) × (o < objectCount) ⌝ }
+    ensures { λ r. ⌜ Does (Request.Get s o x) (now (unit .entry)) (now (unit .exit)) r ⌝ }
+{
+    let d = may_get(unit, s, o, x);
+    if refuses(d) {
+        return number(d);
+    }
+    let had = held_by(unit, o, s);
+    let new = labels::add(x, had);
+    set_held(unit, o, s, new);
+    if needs_label(x) {
+        let i = s as usize;
+        if breaks_star(unit, i, i + 1) {
+            set_held(unit, o, s, had);
+            return number(Decision::StarBroken);
+        }
+    }
+    flag(has(x, had))
+}
+
+// The checks of get but star: 3, 4, 6, 7, 8.
+fn may_get(unit: &[[u8; 16]], s: u8, o: u8, x: Mode) -> Decision
+    requires { do ⌜ (← ⟦unit.len()⟧) ≡ rowCount ⌝ }
+    requires { ⌜ (s < subjectCount) × (o < objectCount) ⌝ }
+    ensures { λ r. ⌜ r ≡ beforeStar s o x (stateIn (now (unit .entry))) ⌝ }
+{
+    let clearance = clearance_of(unit, s);
+    let label = label_of(unit, o);
+    let right = has(x, rights_of(unit, o, s));
+    let labelled = implies(needs_label(x), is_present(label));
+    let cleared = implies(observes(x), dominates(clearance, label));
+    let simple = check(cleared, Decision::SimpleBroken, Decision::Granted);
+    let allowed = check(
+        right,
+        Decision::NoRight,
+        check(labelled, Decision::NoLabel, simple),
+    );
+    let live = check(is_live(unit, o), Decision::NotLive, allowed);
+    check(is_present(clearance), Decision::NotEnrolled, live)
+}
+
+// 2: the actor's access is dropped, held or not.
+pub fn release(unit: &mut [[u8; 16]], s: u8, o: u8, x: Mode) -> u8
+    requires { do ⌜ (← ⟦unit.len()⟧) ≡ rowCount ⌝ }
+    requires { ⌜ (s < subjectCount) × (o < objectCount) ⌝ }
+    ensures { λ r. ⌜ Does (Request.Release s o x) (now (unit .entry)) (now (unit .exit)) r ⌝ }
+{
+    let live = check(is_live(unit, o), Decision::NotLive, Decision::Granted);
+    let d = check(is_enrolled(unit, s), Decision::NotEnrolled, live);
+    if refuses(d) {
+        return number(d);
+    }
+    let held = held_by(unit, o, s);
+    let left = labels::remove(x, held);
+    set_held(unit, o, s, left);
+    flag(!has(x, held))
+}
