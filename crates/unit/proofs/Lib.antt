@@ -3,3 +3,4 @@ pub mod Tabulated
 pub mod Readings
 pub mod Stores
 pub mod Units
+pub mod RowExamples
