@@ -24,7 +24,7 @@ trace =
     (8 ∷ 0 ∷ 0 ∷ 0 ∷ 0 ∷ 4 ∷ 0 ∷ 0 ∷ 0 ∷ 0 ∷ 0 ∷ 0 ∷ 0 ∷ 0 ∷ 0 ∷ 1 ∷ [])
 
 -- subjects 0, 5 and 15 are enrolled; object 2 has the record above, object 63 is live without a label
-abbrev example : Monitor
+abbrev pub example : Monitor
 example =
     withObject (withObject (fresh
     (record { clearance = level 15 0xFF34 }

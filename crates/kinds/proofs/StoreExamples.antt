@@ -1,0 +1,29 @@
+-- What one request of each kind stores, in every byte: the rows of a monitor become the rows of the monitor after it, so the bytes without a
+-- meaning stay 0.
+-- Assumes nothing.
+use mathlib.Core.Path.{_≡_, refl}
+use mathlib.Core.Bool.{true, false}
+use Rattle.model.specs.declared.Mode.the-variants.{Read, Write, Append, Execute}
+use Rattle.model.specs.declared.Request.the-variants.{Get, Release, Give, Rescind, Create, Delete, ChangeLevel}
+use Rattle.model.specs.Modes.{has, add, remove}
+use Rattle.model.specs.Requests.{creation}
+use Rattle.model.specs.Rules.{changed, afterwards}
+use Rattle.unit.specs.Rows.{labelIn, objectOf, tabulate}
+use Rattle.unit.specs.Stored.{labelBytes, rowOf, setObject, monitorRow, unitOf}
+use Rattle.unit.proofs.RowExamples.{example}
+use Rattle.kinds.specs.Carried.{stores}
+
+-- subject 5 owns object 2, on which it holds w; subject 15 has a and e there and holds e, and owns object 63
+pub sets-in-rows : (stores (Get 5 2 Append) (unitOf example) ≡ unitOf (afterwards (Get 5 2 Append) example))
+    × (stores (Release 5 2 Write) (unitOf example) ≡ unitOf (afterwards (Release 5 2 Write) example))
+    × (stores (Give 5 0 2 Append) (unitOf example) ≡ unitOf (afterwards (Give 5 0 2 Append) example))
+    × (stores (Rescind 5 15 2 Execute) (unitOf example) ≡ unitOf (afterwards (Rescind 5 15 2 Execute) example))
+unfolding stores changed add remove has unitOf monitorRow tabulate objectOf labelIn labelBytes rowOf
+sets-in-rows = (refl, refl, refl, refl)
+
+pub records-in-rows : (stores (Create 0 1 (creation false)) (unitOf example) ≡ unitOf (afterwards (Create 0 1 (creation false)) example))
+    × (stores (Create 0 1 (creation true)) (unitOf example) ≡ unitOf (afterwards (Create 0 1 (creation true)) example))
+    × (stores (Delete 5 2) (unitOf example) ≡ unitOf (afterwards (Delete 5 2) example))
+    × (stores (ChangeLevel 15 63 (record { class = 7; needs = 0x0102 })) (unitOf example) ≡ unitOf (afterwards (ChangeLevel 15 63 (record { class = 7; needs = 0x0102 })) example))
+unfolding stores changed unitOf monitorRow tabulate objectOf labelIn labelBytes rowOf setObject
+records-in-rows = (refl, refl, refl, refl)
