@@ -4,7 +4,6 @@
 ghost use mathlib.Core.Path.{_≡_};
 ghost use Prim.Native.Nat.{_<_};
 ghost use Rattle.model.specs.State.{subjectCount, objectCount};
-ghost use Rattle.model.specs.Rules.{checks};
 ghost use Rattle.unit.specs.Rows.{rowCount, stateIn};
 ghost use Rattle.kinds.specs.Stages.{beforeStar};
 ghost use Rattle.kinds.specs.Carried.{Does};

@@ -2,7 +2,7 @@
 -- Assumes nothing.
 use Prim.Native.Nat.{ℕ}
 use mathlib.Core.Path.{_≡_, refl, sym, ap, _∙_, subst}
-use mathlib.Core.List.{List, [], _∷_}
+use mathlib.Core.List.{List, [], _∷_, _++_}
 use lib.ListN.{length}
 use Rattle.model.specs.declared.Request.{Request}
 use Rattle.model.specs.declared.Decoded.{Decoded}
@@ -41,6 +41,11 @@ pub all-length : (bs : List (List ℕ)) (u : Rows) → length (askedAll bs u) �
 unfolding askedAll
 all-length [] u = refl
 all-length (b ∷ bs) u = all-length bs (asked b u) ∙ asked-length b u
+
+pub all-append : (bs cs : List (List ℕ)) (u : Rows) → askedAll (bs ++ cs) u ≡ askedAll cs (askedAll bs u)
+unfolding askedAll
+all-append [] cs u = refl
+all-append (b ∷ bs) cs u = all-append bs cs (asked b u)
 
 pub all-state : (bs : List (List ℕ)) (u : Rows) → length u ≡ rowCount → stateIn (askedAll bs u) ≡ after bs (stateIn u)
 unfolding askedAll after

@@ -17,7 +17,7 @@ use Rattle.model.specs.Layout.{imageSize, imageOf}
 use Rattle.model.specs.Reading.{readTable, readImage}
 use Rattle.model.specs.Buffers.{tooShort}
 use Rattle.model.specs.Writing.{writing}
-use Rattle.model.specs.Program.{pieces}
+use Rattle.model.specs.Program.{pieces, pieceCount}
 use Rattle.model.specs.Beginnings.{table, image, Accepted}
 use Rattle.model.proofs.Tests.{cond-true, cond-false}
 use Rattle.model.proofs.Buffers.{short-is, room-is, filled-short, filled-front}
@@ -25,9 +25,8 @@ use Rattle.runs.specs.Inputs.{SixEach}
 use Rattle.telling.specs.Distinguish.{distinguish}
 use Rattle.images.proofs.RoundTrips.{write-13-exactly, write-0-exactly, write-13-leaves, write-0-fills}
 use Rattle.runs.proofs.Programs.{whole-length, pieces-whole, pieces-short}
-use Rattle.turns.specs.Turns.{pieceCount}
 use Rattle.replay.specs.Replay.{replayAnswer, replayed}
-use Rattle.distinguish.specs.Telling.{bytesOf, most, toldNumber, toldBytes}
+use Rattle.distinguish.specs.Telling.{bytesOf, roomOfFour, toldNumber, toldBytes}
 use Rattle.capi.specs.Boundary.{beginNumber, beginBytes, requestNumber, requestBytes, distinguishNumber, distinguishBytes}
 use Rattle.capi.proofs.Boundary.{begin-refused, begin-written, request-refused, first-refused, second-refused, told-apart}
 
@@ -139,7 +138,7 @@ unfolding toldNumber toldBytes
 distinguish-13 a b buffer A B h =
     let qs = distinguish (readImage a .monitor) (readImage b .monitor) in
     let p = turned (told-apart a b buffer (readImage a .decision) refl (ap refuses A) (readImage b .decision) refl (ap refuses B) _ _ refl refl _ refl _ refl) in
-    (p .0 ∙ cond-true (tooShort most buffer) _ _ (short-is most buffer h), p .1 ∙ filled-short most (requestSize * length qs) (bytesOf qs) buffer h)
+    (p .0 ∙ cond-true (tooShort roomOfFour buffer) _ _ (short-is roomOfFour buffer h), p .1 ∙ filled-short roomOfFour (requestSize * length qs) (bytesOf qs) buffer h)
 
 -- else the number of requests, which stand in the first bytes, six for each, and any later byte left
 pub distinguish-requests : (a b buffer : List ℕ) → Accepted (image a) → Accepted (image b) → 24 ≤ length buffer
@@ -149,4 +148,4 @@ unfolding toldNumber toldBytes bytesOf
 distinguish-requests a b buffer A B h =
     let qs = distinguish (readImage a .monitor) (readImage b .monitor) in
     let p = turned (told-apart a b buffer (readImage a .decision) refl (ap refuses A) (readImage b .decision) refl (ap refuses B) _ _ refl refl _ refl _ refl) in
-    (p .0 ∙ cond-false (tooShort most buffer) _ _ (room-is most buffer h), p .1 ∙ filled-front most (requestSize * length qs) (bytesOf qs) buffer h)
+    (p .0 ∙ cond-false (tooShort roomOfFour buffer) _ _ (room-is roomOfFour buffer h), p .1 ∙ filled-front roomOfFour (requestSize * length qs) (bytesOf qs) buffer h)

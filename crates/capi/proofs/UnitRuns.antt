@@ -24,10 +24,12 @@ use Rattle.effects.proofs.Demand2.{always-secure}
 use Rattle.equal_images.proofs.Demand3.{distinguishes, distinguishes-not, demand-3}
 use Rattle.images.proofs.RoundTrips.{read-written}
 use Rattle.unit.specs.Rows.{rowCount, stateIn}
+use Rattle.unit.specs.Stored.{unitOf}
 use Rattle.unit.proofs.Units.{unit-length}
 use Rattle.image.proofs.Sizes.{begun-says}
 use Rattle.asking.specs.Asked.{repliesOf}
 use Rattle.asking.proofs.Lists.{all-length, all-state, all-replies}
+use Rattle.asking.proofs.Plain.{all-rows}
 use Rattle.capi.specs.UnitRuns.{begunUnit, unitAfter, saved}
 
 -- ---- started or opened, asked, saved
@@ -44,6 +46,10 @@ module _ (b : Beginning) where
     -- and then says the state after the list
     pub after-says : stateIn (unitAfter b bs) ≡ left b bs
     after-says = all-state bs (begunUnit b) begun-length ∙ ap (after bs) (begun-says b)
+
+    -- in every byte its rows are those of that state
+    pub unit-rows : unitAfter b bs ≡ unitOf (left b bs)
+    unit-rows = all-rows bs (begun b .monitor) (begun-says b)
 
     -- a further list draws the replies of that state
     pub further-replies : (further : List (List ℕ)) → repliesOf further (unitAfter b bs) ≡ replies further (left b bs)

@@ -1,7 +1,7 @@
 -- The checks 12, 6, 7 and 8 side by side: at one subject and one object, at one object, over all objects.
 -- Assumes nothing.
 use Prim.Native.Nat.{ℕ}
-use mathlib.Core.Bool.{Bool, _&&_, _||_}
+use mathlib.Core.Bool.{_&&_, _||_}
 use mathlib.Core.List.{List}
 use lib.Dec.{eqb}
 use Rattle.model.specs.declared.Label.{Label}

@@ -17,7 +17,7 @@ use Rattle.model.specs.declared.Request.the-variants.{Get, Release, Delete, Cha
 use Rattle.model.specs.Levels.{dominates, present, sameLabel}
 use Rattle.model.specs.Modes.{has}
 use Rattle.model.specs.State.{subjectCount, objectCount, clearanceAt, objectAt}
-use Rattle.telling.specs.Distinguish.{orElse, search, searchModes, when, differ}
+use Rattle.telling.specs.Distinguish.{orElse, search, searchModes, when, differ, toLabel}
 use Rattle.differences.specs.declared.sequence.Place.{Place}
 use Rattle.differences.specs.Sequences.{readingAt, requestsOf}
 
@@ -31,20 +31,14 @@ lifeApart o a b = when (differ (a .live) (b .live)) (Release (cond (a .live) (a 
 unfoldable pub ownerApart : ℕ → Object → Object → List Request
 ownerApart o a b = when (not (eqb (a .owner) (b .owner))) (Delete (a .owner) o)
 
--- it has another label; s is the owner
-unfoldable pub labelApart : ℕ → ℕ → Label → Label → List Request
-labelApart s o Absent Absent = []
-labelApart s o Absent (Present b) = ChangeLevel s o b ∷ []
-labelApart s o (Present a) b = when (not (sameLabel (Present a) b)) (ChangeLevel s o a)
-
 -- what asks of a held access, or of a right
-abbrev pub asked : Bool → ℕ → ℕ → Mode → Request
-asked true s o x = Release s o x
-asked false s o x = Get s o x
+abbrev pub askOf : Bool → ℕ → ℕ → Mode → Request
+askOf true s o x = Release s o x
+askOf false s o x = Get s o x
 
 -- the mode is in one of the sets of subject s only
 unfoldable pub modeApart : Bool → ℕ → ℕ → ℕ → ℕ → Mode → List Request
-modeApart held o s a b x = when (differ (has x a) (has x b)) (asked held s o x)
+modeApart held o s a b x = when (differ (has x a) (has x b)) (askOf held s o x)
 
 -- the first such mode
 unfoldable pub setApart : Bool → ℕ → ℕ → ℕ → ℕ → List Request
@@ -57,7 +51,7 @@ rowApart held o a b = search subjectCount (λ s. setApart held o s (getD a s 0) 
 -- the first difference of two records
 unfoldable pub objectApart : ℕ → Object → Object → List Request
 objectApart o a b =
-    orElse (lifeApart o a b) (orElse (ownerApart o a b) (orElse (labelApart (a .owner) o (a .label) (b .label))
+    orElse (lifeApart o a b) (orElse (ownerApart o a b) (orElse (toLabel (a .owner) o (a .label) (b .label))
     (orElse (rowApart false o (a .rights) (b .rights)) (rowApart true o (a .held) (b .held)))))
 
 -- the first object whose records differ

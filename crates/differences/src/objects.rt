@@ -1,8 +1,9 @@
 // The record of one object in two states, and all objects: the first difference gives the request.
 ghost use mathlib.Core.Path.{_≡_};
 ghost use Rattle.unit.specs.Rows.{rowCount, objectsIn};
+ghost use Rattle.telling.specs.Distinguish.{toLabel};
 ghost use Rattle.differences.specs.Sequences.{requestsOf};
-ghost use Rattle.differences.specs.Records.{lifeApart, ownerApart, labelApart, asked, modeApart, setApart, rowApart, objectApart, objectsApart};
+ghost use Rattle.differences.specs.Records.{lifeApart, ownerApart, askOf, modeApart, setApart, rowApart, objectApart, objectsApart};
 use crate::sequence::Sequence;
 use crate::sequence::differ;
 use crate::sequence::is_found;
@@ -39,7 +40,7 @@ fn owner_apart(o: u8, a: Object, b: Object) -> Sequence
 
 // Another label: the owner changes the level to one of them, 1 or not.
 fn label_apart(s: u8, o: u8, a: Label, b: Label) -> Sequence
-    ensures { λ r. ⌜ requestsOf r ≡ labelApart s o a b ⌝ }
+    ensures { λ r. ⌜ requestsOf r ≡ toLabel s o a b ⌝ }
 {
     match a {
         Label::Absent => match b {
@@ -53,8 +54,8 @@ fn label_apart(s: u8, o: u8, a: Label, b: Label) -> Sequence
 // ---- rights and held accesses
 
 // A held access is asked of by a release, a right by a get.
-fn asked(held: bool, s: u8, o: u8, x: Mode) -> Request
-    ensures { λ r. ⌜ r ≡ asked held s o x ⌝ }
+fn ask_of(held: bool, s: u8, o: u8, x: Mode) -> Request
+    ensures { λ r. ⌜ r ≡ askOf held s o x ⌝ }
 {
     if held {
         Request::Release(s, o, x)
@@ -67,7 +68,7 @@ fn asked(held: bool, s: u8, o: u8, x: Mode) -> Request
 fn mode_apart(held: bool, o: u8, s: u8, a: u8, b: u8, x: Mode) -> Sequence
     ensures { λ r. ⌜ requestsOf r ≡ modeApart held o s a b x ⌝ }
 {
-    when(differ(has(x, a), has(x, b)), asked(held, s, o, x))
+    when(differ(has(x, a), has(x, b)), ask_of(held, s, o, x))
 }
 
 // The first mode in which the two sets of subject s differ.

@@ -11,19 +11,13 @@ use Rattle.model.specs.declared.Monitor.{Monitor}
 use Rattle.model.specs.declared.Request.{Request}
 use Rattle.model.specs.Levels.{dominates}
 use Rattle.model.specs.State.{clearance, object}
-use Rattle.telling.specs.Distinguish.{orElse, search, searchModes, byEnrolment, byLife, byOwner, toLabel, byLabel, byRight, byAccess, byObject, freeBelow, readAt, toClearance, byClearance, distinguish}
+use Rattle.telling.specs.Distinguish.{orElse, search, searchModes, byEnrolment, byLife, byOwner, byLabel, byRight, byAccess, byObject, freeBelow, readAt, toClearance, byClearance, distinguish}
 use Rattle.differences.specs.declared.sequence.Sequence.{Sequence}
 use Rattle.differences.specs.Sequences.{found, readingAt, requestsOf}
-use Rattle.differences.specs.Records.{lifeApart, ownerApart, labelApart, modeApart, setApart, rowApart, objectApart, objectsApart, enrolmentApart, enrolmentsApart, freeOf, freePlace, levelApart, clearanceApart, clearancesApart}
+use Rattle.differences.specs.Records.{lifeApart, ownerApart, modeApart, setApart, rowApart, objectApart, objectsApart, enrolmentApart, enrolmentsApart, freeOf, freePlace, levelApart, clearanceApart, clearancesApart}
 use Rattle.differences.proofs.Searching.{or-found, or-nothing, search-same}
 
 module _ (m n : Monitor) where
-  label-part : (s o : ℕ) (a b : Label) → toLabel m n s o a b ≡ labelApart s o a b
-  unfolding toLabel labelApart
-  label-part s o Absent Absent = refl
-  label-part s o Absent (Present b) = refl
-  label-part s o (Present a) b = refl
-
   rights-part : (o : ℕ) → search 16 (λ s. searchModes (byRight m n o s)) ≡ rowApart false o (object m o .rights) (object n o .rights)
   unfolding byRight rowApart setApart modeApart
   rights-part o = refl
@@ -34,7 +28,7 @@ module _ (m n : Monitor) where
 
   object-part : (o : ℕ) → byObject m n o ≡ objectApart o (object m o) (object n o)
   unfolding byObject objectApart byLife byOwner byLabel lifeApart ownerApart
-  object-part o = rw (label-part (object m o .owner) o (object m o .label) (object n o .label), rights-part o, held-part o)
+  object-part o = rw (rights-part o, held-part o)
 
 free-same : (k : ℕ) (m : Monitor) → freeBelow k m ≡ freeOf k (m .objects)
 unfolding freeBelow freeOf

@@ -18,13 +18,13 @@ unfoldable pub bytesOf : List Request → List ℕ
 bytesOf qs = join (map encode qs)
 
 -- the room for four requests
-abbrev pub most : ℕ
-most = 4 * requestSize
+abbrev pub roomOfFour : ℕ
+roomOfFour = 4 * requestSize
 
 -- 13, or the number of requests
 unfoldable pub toldNumber : Monitor → Monitor → List ℕ → ℕ
-toldNumber m n buffer = cond (tooShort most buffer) (number ShortBuffer) (length (distinguish m n))
+toldNumber m n buffer = cond (tooShort roomOfFour buffer) (number ShortBuffer) (length (distinguish m n))
 
 -- 13 leaves every byte; else the requests stand in the first bytes, and all later ones are left
 unfoldable pub toldBytes : Monitor → Monitor → List ℕ → List ℕ
-toldBytes m n buffer = filled most (requestSize * length (distinguish m n)) (bytesOf (distinguish m n)) buffer
+toldBytes m n buffer = filled roomOfFour (requestSize * length (distinguish m n)) (bytesOf (distinguish m n)) buffer

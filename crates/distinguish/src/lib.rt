@@ -7,7 +7,7 @@ ghost use Rattle.model.specs.Buffers.{put};
 ghost use Rattle.telling.specs.Distinguish.{distinguish};
 ghost use Rattle.unit.specs.Rows.{rowCount, stateIn};
 ghost use Rattle.differences.specs.Sequences.{readingOf, requestsOf};
-ghost use Rattle.distinguish.specs.Telling.{bytesOf, most, toldNumber, toldBytes};
+ghost use Rattle.distinguish.specs.Telling.{bytesOf, roomOfFour, toldNumber, toldBytes};
 use differences::Sequence;
 use differences::clearances_apart;
 use differences::enrolments_apart;
@@ -57,7 +57,7 @@ fn write_reading(out: &mut [u8], at: usize, s: u8, o: u8, l: Level)
 
 // The requests of the sequence from the first byte on; returns how many there are.
 fn write_sequence(out: &mut [u8], q: Sequence) -> u8
-    requires { ⌜ most ≤ length (now out) ⌝ }
+    requires { ⌜ roomOfFour ≤ length (now out) ⌝ }
     ensures { λ r. ⌜ (r ≡ length (requestsOf q)) × (now (out .exit) ≡ put (now (out .entry)) 0 (bytesOf (requestsOf q))) ⌝ }
 {
     match q {

@@ -80,7 +80,7 @@ module _ (m n : Monitor) (S : Sound m) (N : Sound n) where
           (λ w. tests.apart (eq-eqb (object m o .owner) (object n o .owner) (ap (λ (k : Object). k .owner) w)) (not-on _ e)))
 
       module _ (owned : object m o .owner ≡ object n o .owner) where
-        label-probe : (a b : Label) → object m o .label ≡ a → object n o .label ≡ b → Probe m n (toLabel m n (object m o .owner) o a b) (a ≡ b)
+        label-probe : (a b : Label) → object m o .label ≡ a → object n o .label ≡ b → Probe m n (toLabel (object m o .owner) o a b) (a ≡ b)
         unfolding toLabel when Told
         label-probe Absent Absent p q = alike refl refl
         label-probe Absent (Present y) p q =

@@ -52,7 +52,7 @@ few-modes : (f : Mode → List Request) → ((x : Mode) → Few (f x)) → Few (
 few-modes f h = few-or _ _ (h _) (few-or _ _ (h _) (few-or _ _ (h _) (h _)))
 
 module _ (m n : Monitor) where
-  few-label : (s o : ℕ) (a b : Label) → Few (toLabel m n s o a b)
+  few-label : (s o : ℕ) (a b : Label) → Few (toLabel s o a b)
   unfolding toLabel
   few-label s o Absent Absent = omega arith
   few-label s o Absent (Present b) = omega arith

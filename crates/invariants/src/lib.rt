@@ -1,1 +1,1 @@
-// What every request keeps: a state that is well formed and secure. No code: the statements are listed in docs/THEOREMS.md.
+// What every request keeps: a state that is well formed and secure. No code: the theorems of the other crates stand on these laws.

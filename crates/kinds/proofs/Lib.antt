@@ -2,3 +2,4 @@
 pub mod Effects
 pub mod Answers
 pub mod StoreExamples
+pub mod Plain

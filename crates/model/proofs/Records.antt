@@ -14,7 +14,7 @@ use Rattle.model.specs.declared.Label.the-variants.{Absent, Present}
 use Rattle.model.specs.declared.Subject.{Subject}
 use Rattle.model.specs.declared.Object.{Object}
 use Rattle.model.specs.State.{subjectCount, classWidth, needsWidth, noObject, LabelFits, WellFormedObject}
-use Rattle.model.specs.Layout.{labelWidth, ownerWidth, labelOffset, setWidth, pairWidth, setsOffset, setsWidth, objectWidth, labelBits, setsBits, objectBits}
+use Rattle.model.specs.Layout.{labelWidth, ownerWidth, labelOffset, setWidth, pairWidth, setsWidth, objectWidth, labelBits, setsBits, objectBits}
 use Rattle.model.specs.Reading.{labelFrom, labelForm, rightsFrom, heldFrom, liveFrom, objectFrom, objectForm}
 use Rattle.model.proofs.Tests.{split}
 use Rattle.model.proofs.Equal.{object-ext}

@@ -18,9 +18,12 @@ use Rattle.model.specs.Buffers.{digit, twoDigits}
 abbrev pub mostRequests : ℕ
 mostRequests = 4096
 
--- six-byte pieces, "a last short piece" among them
+-- six-byte pieces, "a last short piece" among them: how many there are, and which
+abbrev pub pieceCount : ℕ → ℕ
+pieceCount bytes = (bytes + 5) / requestSize
+
 unfoldable pub pieces : List ℕ → List (List ℕ)
-pieces b = cut ((length b + 5) / requestSize) requestSize b
+pieces b = cut (pieceCount (length b)) requestSize b
 
 -- "one line for each request, the reply in decimal": digits, then a newline
 unfoldable pub line : ℕ → List ℕ

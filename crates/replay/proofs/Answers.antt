@@ -15,9 +15,9 @@ use Rattle.model.specs.declared.Response.{Response}
 use Rattle.model.specs.Decisions.{refuses}
 use Rattle.model.specs.Runs.{replies}
 use Rattle.model.specs.Reading.{readTable}
-use Rattle.model.specs.Program.{pieces}
+use Rattle.model.specs.Program.{pieces, pieceCount}
 use Rattle.model.proofs.Tests.{cond-true, cond-false}
-use Rattle.turns.specs.Turns.{pieceCount, turns}
+use Rattle.turns.specs.Turns.{turns}
 use Rattle.turns.proofs.Runs.{length-pieces}
 use Rattle.replay.specs.Replay.{replayAnswer, replayed}
 

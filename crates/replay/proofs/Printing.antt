@@ -2,10 +2,10 @@
 -- Assumes nothing.
 use Prim.Native.Nat.{ℕ, _+_, _-_, _/_, _≤_, _<_, min}
 use native.Mathlib.Omega.{arith}
-use mathlib.Core.Path.{_≡_, refl, sym, ap, ap₂, _∙_}
+use mathlib.Core.Path.{_≡_, sym, ap, ap₂, _∙_}
 use mathlib.Core.Logic.{⊎-elim}
 use mathlib.Core.Bool.{true, false}
-use mathlib.Core.List.{List, [], _∷_, _++_, map}
+use mathlib.Core.List.{List, [], _++_, map}
 use lib.ListN.{length, take, drop, length-take, length-drop, drop-of-length-le}
 use lib.Seq.{take-all, take-at, length-take-le}
 use Rattle.bits.specs.Bits.{join}
@@ -14,9 +14,9 @@ use Rattle.model.specs.Decisions.{number, refuses}
 use Rattle.model.specs.Runs.{replies}
 use Rattle.model.specs.Layout.{tableSize}
 use Rattle.model.specs.Reading.{readTable}
-use Rattle.model.specs.Program.{pieces, line, linesAfter, program}
+use Rattle.model.specs.Program.{pieces, line, linesAfter, program, pieceCount}
 use Rattle.model.proofs.Tests.{cond-true, cond-false, le-or-lt}
-use Rattle.turns.specs.Turns.{pieceCount, turns}
+use Rattle.turns.specs.Turns.{turns}
 use Rattle.model.proofs.Lists.{length-replies}
 use Rattle.turns.proofs.Runs.{taken, length-pieces}
 use Rattle.model.specs.Buffers.{put}

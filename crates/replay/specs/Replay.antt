@@ -11,8 +11,7 @@ use Rattle.model.specs.Decisions.{refuses}
 use Rattle.model.specs.Runs.{replies}
 use Rattle.model.specs.Reading.{readTable}
 use Rattle.model.specs.Buffers.{front}
-use Rattle.model.specs.Program.{pieces}
-use Rattle.turns.specs.Turns.{pieceCount}
+use Rattle.model.specs.Program.{pieces, pieceCount}
 
 -- the number of reading the table, then 13 where there is no room for a reply to each piece, else 0
 unfoldable pub replayAnswer : List ℕ → List ℕ → ℕ → Decision

@@ -7,7 +7,6 @@ use mathlib.Core.Logic.{_≢_}
 use mathlib.Core.Bool.{true, false}
 use mathlib.Core.List.{List, [], _∷_, _++_, map}
 use lib.ListN.{length, getD, take, replicate, length-append, length-replicate}
-use borrow.Author.Tests.{le-ltb}
 use Rattle.bits.specs.Bits.{odd, toBits, fromBits, bytesToBits, field, cut, allZero, Bytes}
 use Rattle.bits.specs.Laws.{bytes-bitsToBytes, length-bitsToBytes}
 use Rattle.model.specs.declared.Monitor.{Monitor}

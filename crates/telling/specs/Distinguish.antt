@@ -39,6 +39,12 @@ when false q = []
 abbrev pub differ : Bool → Bool → Bool
 differ a b = not (Bool·beq a b)
 
+-- another label: the owner, s, changes the level to one of them, 1 or not
+unfoldable pub toLabel : ℕ → ℕ → Label → Label → List Request
+toLabel s o Absent Absent = []
+toLabel s o Absent (Present b) = ChangeLevel s o b ∷ []
+toLabel s o (Present a) b = when (not (sameLabel (Present a) b)) (ChangeLevel s o a)
+
 module _ (m n : Monitor) where
   -- enrolled in one only: any request by that subject, 3 or not
   unfoldable pub byEnrolment : ℕ → List Request
@@ -52,12 +58,7 @@ module _ (m n : Monitor) where
   unfoldable pub byOwner : ℕ → List Request
   byOwner o = when (not (eqb (object m o .owner) (object n o .owner))) (Delete (object m o .owner) o)
 
-  -- another label: the owner changes the level to one of them, 1 or not
-  unfoldable pub toLabel : ℕ → ℕ → Label → Label → List Request
-  toLabel s o Absent Absent = []
-  toLabel s o Absent (Present b) = ChangeLevel s o b ∷ []
-  toLabel s o (Present a) b = when (not (sameLabel (Present a) b)) (ChangeLevel s o a)
-
+  -- another label
   unfoldable pub byLabel : ℕ → List Request
   byLabel o = toLabel (object m o .owner) o (object m o .label) (object n o .label)
 

@@ -1,4 +1,4 @@
--- A run, one turn longer: the state and the replies.
+-- A run, one turn longer: the rows and the replies.
 -- Assumes nothing.
 use Prim.Native.Nat.{ℕ, zero, suc, _+_, _-_, _*_, _/_, _<_, _≤_, min}
 use native.Mathlib.Omega.{arith}
@@ -9,12 +9,13 @@ use mathlib.Core.List.{List, [], _∷_, _++_}
 use lib.ListN.{length, take, drop, getD, set, length-drop}
 use lib.Seq.{take-all}
 use Rattle.bits.specs.Records.{length-cut, cut-at}
-use Rattle.model.specs.declared.Monitor.{Monitor}
-use Rattle.model.specs.Runs.{respond, reply, after, replies}
+use Rattle.model.specs.Runs.{reply, after, replies}
 use Rattle.model.specs.Program.{pieces}
 use Rattle.model.proofs.Tests.{le-or-lt}
-use Rattle.model.proofs.Lists.{after-append, replies-append, length-replies}
+use Rattle.model.proofs.Lists.{replies-append, length-replies}
 use Rattle.unit.specs.Rows.{Rows, rowCount, stateIn}
+use Rattle.asking.specs.Asked.{asked, askedAll}
+use Rattle.asking.proofs.Lists.{all-append, all-state}
 
 -- one element more is taken
 take-more : {A : Type 0} (i : ℕ) (l : List A) (d : A) → i < length l → take (suc i) l ≡ take i l ++ (getD l i d ∷ [])
@@ -37,13 +38,13 @@ drop-more (suc i) [] = refl
 drop-more (suc i) (x ∷ l) = drop-more i l
 
 -- what a loop over the pieces has after i of them
-pub record After (ps : List (List ℕ)) (out₀ : List ℕ) (m : Monitor) (out : List ℕ) (n : Monitor) (i : ℕ) : Type 0 where
-  pub state : n ≡ after (take i ps) m
-  pub written : out ≡ replies (take i ps) m ++ drop i out₀
+pub record After (ps : List (List ℕ)) (out₀ : List ℕ) (u₀ : Rows) (out : List ℕ) (u : Rows) (i : ℕ) : Type 0 where
+  pub left : u ≡ askedAll (take i ps) u₀
+  pub written : out ≡ replies (take i ps) (stateIn u₀) ++ drop i out₀
 
-pub start : (ps : List (List ℕ)) (out : List ℕ) (m : Monitor) → After ps out m out m 0
-unfolding after replies
-start ps out m = record { state = refl; written = refl }
+pub start : (ps : List (List ℕ)) (out : List ℕ) (u : Rows) → After ps out u out u 0
+unfolding askedAll replies
+start ps out u = record { left = refl; written = refl }
 
 length-taken : {A : Type 0} (i : ℕ) (l : List A) → i ≤ length l → length (take i l) ≡ i
 length-taken zero l h = refl
@@ -51,19 +52,21 @@ length-taken (suc i) [] h = absurd (omega arith)
 length-taken (suc i) (x ∷ l) h = ap suc (length-taken i l (omega arith))
 
 -- one turn more
-pub further : (ps : List (List ℕ)) (out₀ : List ℕ) (m : Monitor) (out : List ℕ) (n : Monitor) (i : ℕ) (b : List ℕ) (n₁ : Monitor) (r : ℕ)
-    → After ps out₀ m out n i → i < length ps → i < length out₀ → getD ps i [] ≡ b → n₁ ≡ respond b n .monitor → r ≡ reply b n
-    → After ps out₀ m (set out i r) n₁ (i + 1)
-unfolding after replies
-further ps out₀ m out n i b n₁ r A h g e p q =
+pub further : (ps : List (List ℕ)) (out₀ : List ℕ) (u₀ : Rows) (out : List ℕ) (u : Rows) (i : ℕ) (b : List ℕ) (w : Rows) (r : ℕ) → length u₀ ≡ rowCount
+    → After ps out₀ u₀ out u i → i < length ps → i < length out₀ → getD ps i [] ≡ b → w ≡ asked b u → r ≡ reply b (stateIn u)
+    → After ps out₀ u₀ (set out i r) w (i + 1)
+unfolding askedAll replies
+further ps out₀ u₀ out u i b w r n A h g e p q =
+    let m = stateIn u₀ in
     let more : take (i + 1) ps ≡ take i ps ++ (b ∷ []) = rw (add-one i) (take-more i ps [] h ∙ ap (λ c. take i ps ++ (c ∷ [])) e) in
-    let front : length (replies (take i ps) m) ≡ i = length-replies (take i ps) m ∙ length-taken i ps (omega arith) in
+    let size : length (replies (take i ps) m) ≡ i = length-replies (take i ps) m ∙ length-taken i ps (omega arith) in
+    let says : stateIn u ≡ after (take i ps) m = ap stateIn (A .left) ∙ all-state (take i ps) u₀ n in
     record {
-      state = p ∙ ap (λ (k : Monitor). respond b k .monitor) (A .state) ∙ sym (after-append (take i ps) (b ∷ []) m) ∙ ap (λ l. after l m) (sym more);
+      left = p ∙ ap (asked b) (A .left) ∙ sym (all-append (take i ps) (b ∷ []) u₀) ∙ ap (λ l. askedAll l u₀) (sym more);
       written = ap (λ l. set l i r) (A .written)
-          ∙ set-front (replies (take i ps) m) (drop i out₀) i r front (omega (arith, front, length-drop i out₀))
+          ∙ set-front (replies (take i ps) m) (drop i out₀) i r size (omega (arith, size, length-drop i out₀))
           ∙ ap₂ (λ (x y : List ℕ). x ++ y)
-          (ap (λ v. replies (take i ps) m ++ (v ∷ [])) (q ∙ ap (reply b) (A .state)) ∙ sym (replies-append (take i ps) (b ∷ []) m) ∙ ap (λ l. replies l m) (sym more))
+          (ap (λ v. replies (take i ps) m ++ (v ∷ [])) (q ∙ ap (reply b) says) ∙ sym (replies-append (take i ps) (b ∷ []) m) ∙ ap (λ l. replies l m) (sym more))
           (drop-more i out₀ ∙ ap (λ k. drop k out₀) (sym (add-one i)));
     }
 
@@ -86,10 +89,10 @@ piece-at b i h =
     (le-or-lt (i * 6 + 6) (length b))
 
 -- what holds at the head of the loop over the pieces
-pub record Looping (requests out₀ : List ℕ) (m : Monitor) (count : ℕ) (out : List ℕ) (u : Rows) (i : ℕ) : Type 0 where
+pub record Looping (requests out₀ : List ℕ) (u₀ : Rows) (count : ℕ) (out : List ℕ) (u : Rows) (i : ℕ) : Type 0 where
   pub bound : i ≤ count
   pub counted : count ≡ min ((length requests + 5) / 6) (length out₀)
-  pub so-far : After (pieces requests) out₀ m out (stateIn u) i
+  pub so-far : After (pieces requests) out₀ u₀ out u i
   pub out-length : length out ≡ length out₀
   pub rows : length u ≡ rowCount
 
@@ -100,12 +103,12 @@ taken [] (suc room) = let e : min 0 (suc room) ≡ 0 = omega arith in rw e
 taken (x ∷ l) zero = let e : min (suc (length l)) 0 ≡ 0 = omega arith in rw e
 taken (x ∷ l) (suc room) = let e : min (suc (length l)) (suc room) ≡ suc (min (length l) room) = omega arith in rw e (ap (λ r. x ∷ r) (taken l room))
 
-pub ended : (requests out₀ : List ℕ) (m : Monitor) (count : ℕ) (out : List ℕ) (u : Rows) (i : ℕ) → Looping requests out₀ m count out u i → count ≤ i
-    → (stateIn u ≡ after (take (length out₀) (pieces requests)) m)
-    × (out ≡ replies (take (length out₀) (pieces requests)) m ++ drop (length (take (length out₀) (pieces requests))) out₀)
-ended requests out₀ m count out u i L h =
+pub ended : (requests out₀ : List ℕ) (u₀ : Rows) (count : ℕ) (out : List ℕ) (u : Rows) (i : ℕ) → Looping requests out₀ u₀ count out u i → count ≤ i
+    → (u ≡ askedAll (take (length out₀) (pieces requests)) u₀)
+    × (out ≡ replies (take (length out₀) (pieces requests)) (stateIn u₀) ++ drop (length (take (length out₀) (pieces requests))) out₀)
+ended requests out₀ u₀ count out u i L h =
     let l : length (pieces requests) ≡ (length requests + 5) / 6 = length-pieces requests in
     let all : i ≡ min (length (pieces requests)) (length out₀) = omega (arith, L .bound, L .counted, l) in
     let same : take i (pieces requests) ≡ take (length out₀) (pieces requests) = ap (λ k. take k (pieces requests)) all ∙ taken (pieces requests) (length out₀) in
     let size : length (take (length out₀) (pieces requests)) ≡ i = ap length (sym same) ∙ length-taken i (pieces requests) (omega arith) in
-    (L .so-far .state ∙ ap (λ k. after k m) same, L .so-far .written ∙ ap₂ (λ k j. replies k m ++ drop j out₀) same (sym size))
+    (L .so-far .left ∙ ap (λ k. askedAll k u₀) same, L .so-far .written ∙ ap₂ (λ k j. replies k (stateIn u₀) ++ drop j out₀) same (sym size))

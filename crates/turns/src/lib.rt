@@ -2,9 +2,11 @@
 ghost use mathlib.Core.Path.{_≡_};
 ghost use lib.ListN.{length};
 ghost use Rattle.model.specs.Buffers.{front};
-ghost use Rattle.model.specs.Runs.{after, replies};
+ghost use Rattle.model.specs.Program.{pieceCount};
+ghost use Rattle.model.specs.Runs.{replies};
 ghost use Rattle.unit.specs.Rows.{rowCount, stateIn};
-ghost use Rattle.turns.specs.Turns.{pieceCount, turns};
+ghost use Rattle.asking.specs.Asked.{askedAll};
+ghost use Rattle.turns.specs.Turns.{turns};
 use asking::ask;
 use bits::smaller;
 
@@ -22,7 +24,7 @@ pub fn piece_count(bytes: usize) -> usize
 // Asks a unit the pieces in a row, as many as have room for a reply.
 pub fn run(unit: &mut [[u8; 16]], requests: &[u8], out: &mut [u8])
     requires { do ⌜ (← ⟦unit.len()⟧) ≡ rowCount ⌝ }
-    ensures state { λ r. ⌜ stateIn (now (unit .exit)) ≡ after (turns (now (requests .entry)) (length (now (out .entry)))) (stateIn (now (unit .entry))) ⌝ }
+    ensures left { λ r. ⌜ now (unit .exit) ≡ askedAll (turns (now (requests .entry)) (length (now (out .entry)))) (now (unit .entry)) ⌝ }
     ensures written { λ r. ⌜ now (out .exit) ≡ front (length (turns (now (requests .entry)) (length (now (out .entry))))) (replies (turns (now (requests .entry)) (length (now (out .entry)))) (stateIn (now (unit .entry)))) (now (out .entry)) ⌝ }
 {
     let count = smaller(piece_count(requests.len()), out.len());

@@ -3,4 +3,5 @@ pub mod Tabulated
 pub mod Readings
 pub mod Stores
 pub mod Units
+pub mod Plain
 pub mod RowExamples

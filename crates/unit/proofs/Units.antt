@@ -26,30 +26,30 @@ unit-length m = tabulate-length rowCount (monitorRow m)
 -- ---- the four parts of a unit
 
 module _ (m : Monitor) where
-  row-rights : (p : ℕ) → p < 64 → monitorRow m p ≡ object m p .rights
+  pub row-rights : (p : ℕ) → p < 64 → monitorRow m p ≡ object m p .rights
   unfolding monitorRow
   row-rights p h = rw (lt-ltb p 64 h)
 
-  row-held : (p : ℕ) → p < 64 → monitorRow m (heldRow p) ≡ object m p .held
+  pub row-held : (p : ℕ) → p < 64 → monitorRow m (heldRow p) ≡ object m p .held
   unfolding monitorRow
   row-held p h =
       let e : heldRow p - 64 ≡ p = omega arith in
       rw (le-ltb (heldRow p) 64 (omega arith), lt-ltb (heldRow p) 128 (omega arith)) (ap (λ i. object m i .held) e)
 
-  row-rest : (p : ℕ) → p < 64 → monitorRow m (restRow p) ≡ restOf (object m p)
+  pub row-rest : (p : ℕ) → p < 64 → monitorRow m (restRow p) ≡ restOf (object m p)
   unfolding monitorRow
   row-rest p h =
       let e : restRow p - 128 ≡ p = omega arith in
       rw (le-ltb (restRow p) 64 (omega arith), le-ltb (restRow p) 128 (omega arith), lt-ltb (restRow p) 192 (omega arith)) (ap (λ i. restOf (object m i)) e)
 
-  row-clearance : (s : ℕ) → monitorRow m (clearanceRow s) ≡ clearanceOf (clearance m s)
+  pub row-clearance : (s : ℕ) → monitorRow m (clearanceRow s) ≡ clearanceOf (clearance m s)
   unfolding monitorRow
   row-clearance s =
       let e : clearanceRow s - 192 ≡ s = omega arith in
       rw (le-ltb (clearanceRow s) 64 (omega arith), le-ltb (clearanceRow s) 128 (omega arith), le-ltb (clearanceRow s) 192 (omega arith)) (ap (λ i. clearanceOf (clearance m i)) e)
 
 -- a number below 208 is that of a row of one of the four parts
-in-parts : (P : ℕ → Type 0) → ((p : ℕ) → p < 64 → P p) → ((p : ℕ) → p < 64 → P (heldRow p)) → ((p : ℕ) → p < 64 → P (restRow p))
+pub in-parts : (P : ℕ → Type 0) → ((p : ℕ) → p < 64 → P p) → ((p : ℕ) → p < 64 → P (heldRow p)) → ((p : ℕ) → p < 64 → P (restRow p))
     → ((s : ℕ) → s < 16 → P (clearanceRow s)) → (i : ℕ) → i < rowCount → P i
 in-parts P a b c d i h =
     ⊎-elim
@@ -68,7 +68,7 @@ in-parts P a b c d i h =
 -- ---- the rows of a monitor say it
 
 module _ (m : Monitor) where
-  unit-at : (i : ℕ) → i < rowCount → rowAt (unitOf m) i ≡ monitorRow m i
+  pub unit-at : (i : ℕ) → i < rowCount → rowAt (unitOf m) i ≡ monitorRow m i
   unfolding unitOf
   unit-at i h = tabulate-at rowCount (monitorRow m) i [] h
 

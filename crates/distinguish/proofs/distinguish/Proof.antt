@@ -16,7 +16,7 @@ use Rattle.model.proofs.Buffers.{short-is, room-is, filled-short, filled-front,
 use Rattle.telling.specs.Distinguish.{distinguish}
 use Rattle.differences.specs.declared.sequence.Sequence.{Sequence}
 use Rattle.differences.specs.Sequences.{requestsOf}
-use Rattle.distinguish.specs.Telling.{bytesOf, most, toldNumber, toldBytes}
+use Rattle.distinguish.specs.Telling.{bytesOf, roomOfFour, toldNumber, toldBytes}
 use Rattle.distinguish.proofs.Storing.{length-bytesOf}
 use Rattle.unit.specs.Rows.{stateIn}
 use borrow.Author.Needs.{needs}
@@ -24,22 +24,22 @@ use Rattle.distinguish.proofs.distinguish.Statement.{statement}
 use Rattle.distinguish.proofs.distinguish.Tie as tie
 
 -- the two answers
-short : (m n : Monitor) (s : List ℕ) (k : ℕ) → length s < most → k ≡ number ShortBuffer → (k ≡ toldNumber m n s) × (s ≡ toldBytes m n s)
+short : (m n : Monitor) (s : List ℕ) (k : ℕ) → length s < roomOfFour → k ≡ number ShortBuffer → (k ≡ toldNumber m n s) × (s ≡ toldBytes m n s)
 unfolding toldNumber toldBytes
 short m n s k h f =
     let qs = distinguish m n in (
-      f ∙ sym (cond-true (tooShort most s) _ _ (short-is most s h)),
-      sym (filled-short most (requestSize * length qs) (bytesOf qs) s h),
+      f ∙ sym (cond-true (tooShort roomOfFour s) _ _ (short-is roomOfFour s h)),
+      sym (filled-short roomOfFour (requestSize * length qs) (bytesOf qs) s h),
     )
 
-long : (m n : Monitor) (s t : List ℕ) (k : ℕ) (q : Sequence) → most ≤ length s → requestsOf q ≡ distinguish m n → k ≡ length (requestsOf q)
+long : (m n : Monitor) (s t : List ℕ) (k : ℕ) (q : Sequence) → roomOfFour ≤ length s → requestsOf q ≡ distinguish m n → k ≡ length (requestsOf q)
     → t ≡ put s 0 (bytesOf (requestsOf q)) → (k ≡ toldNumber m n s) × (t ≡ toldBytes m n s)
 unfolding toldNumber toldBytes
 long m n s t k q h e f g =
     let qs = distinguish m n in (
-      f ∙ ap length e ∙ sym (cond-false (tooShort most s) _ _ (room-is most s h)),
+      f ∙ ap length e ∙ sym (cond-false (tooShort roomOfFour s) _ _ (room-is roomOfFour s h)),
       g ∙ put-front s (bytesOf (requestsOf q)) _ (length-bytesOf (requestsOf q)) ∙ ap (λ (l : List Request). front (requestSize * length l) (bytesOf l) s) e
-          ∙ sym (filled-front most (requestSize * length qs) (bytesOf qs) s h),
+          ∙ sym (filled-front roomOfFour (requestSize * length qs) (bytesOf qs) s h),
     )
 
 number-requires : tie.Need-number-requires

@@ -4,15 +4,14 @@ use mathlib.Core.Path.{refl, sym, ap, _∙_}
 use Prim.Native.Nat.{_-_, _*_, min}
 use native.Mathlib.Omega.{arith}
 use lib.ListN.{length, take, drop, length-set}
-use Rattle.unit.specs.Rows.{stateIn}
-use Rattle.asking.proofs.Lists.{asked-state, asked-length}
+use Rattle.asking.proofs.Lists.{asked-length}
 use Rattle.turns.proofs.Runs.{Looping, start, further, ended, piece-at, length-pieces}
 use borrow.Author.Needs.{needs}
 use Rattle.turns.proofs.run.Statement.{statement}
 use Rattle.turns.proofs.run.Tie as tie
 
 abbrev Inv-loop : tie.InvT-loop
-Inv-loop unit₀ requests out₀ count i₀ unit out i = Looping requests out₀ (stateIn unit₀) count out unit i
+Inv-loop unit₀ requests out₀ count i₀ unit out i = Looping requests out₀ unit₀ count out unit i
 
 abbrev μ-loop : tie.MeasureT-loop
 μ-loop unit₀ requests out₀ count i₀ unit out i = count - i
@@ -74,7 +73,7 @@ loop-again c =
     record {
       bound = omega (arith, h);
       counted = L .counted;
-      so-far = further _ _ _ _ _ (loop .i) _ _ _ (L .so-far) (omega (arith, h, L .counted, length-pieces requests)) (omega (arith, h, L .counted)) same (ap stateIn (r .1) ∙ asked-state _ (loop .unit) (L .rows)) (r .0);
+      so-far = further _ _ _ _ _ (loop .i) _ _ _ (c .before .before .before .before .before .before .before .before .before .before .before .pre) (L .so-far) (omega (arith, h, L .counted, length-pieces requests)) (omega (arith, h, L .counted)) same (r .1) (r .0);
       out-length = length-set (loop .out) (loop .i) (c .before .ask .result) ∙ L .out-length;
       rows = ap length (r .1) ∙ asked-length _ (loop .unit) ∙ L .rows;
     }

@@ -7,8 +7,7 @@ use Rattle.model.specs.declared.Request.the-variants.{ChangeLevel}
 use Rattle.model.specs.Levels.{sameLabel}
 use Rattle.model.proofs.Tests.{bool-ext}
 use Rattle.model.proofs.Levels.{same-label, label-same}
-use Rattle.telling.specs.Distinguish.{when}
-use Rattle.differences.specs.Records.{labelApart}
+use Rattle.telling.specs.Distinguish.{when, toLabel}
 use borrow.Author.Needs.{needs}
 use Rattle.differences.proofs.objects.label_apart.Statement.{statement}
 use Rattle.differences.proofs.objects.label_apart.Tie as tie
@@ -36,15 +35,15 @@ when-requires : tie.Need-when-requires
 when-requires c κs = search needs
 
 returns : tie.Need-returns
-unfolding labelApart
+unfolding toLabel
 returns c = rw (c .before .before .enum-told .given .1, c .enum-told2 .given .1)
 
 returns-2 : tie.Need-returns-2
-unfolding labelApart
+unfolding toLabel
 returns-2 c = rw (c .before .before .before .enum-told .given .1, c .before .b .given .1)
 
 returns-3 : tie.Need-returns-3
-unfolding labelApart
+unfolding toLabel
 returns-3 c =
     let a = c .before .before .before .a .given in
     let args = c .before .before .before .before .before .args in

@@ -14,17 +14,17 @@ has-requires-2 c κs = search needs
 differ-requires : tie.Need-differ-requires
 differ-requires c κs = search needs
 
-asked-requires : tie.Need-asked-requires
-asked-requires c κs = search needs
+ask-of-requires : tie.Need-ask-of-requires
+ask-of-requires c κs = search needs
 
 when-requires : tie.Need-when-requires
 when-requires c κs = search needs
 
 returns : tie.Need-returns
 unfolding modeApart
-returns c = rw (c .when .ensures, c .before .asked .ensures, c .before .before .differ .ensures, c .before .before .before .has2 .ensures, c .before .before .before .before .has .ensures)
+returns c = rw (c .when .ensures, c .before .ask-of .ensures, c .before .before .differ .ensures, c .before .before .before .has2 .ensures, c .before .before .before .before .has .ensures)
 
 pub mode-apart-spec : {M : Type 1} → statement M
 mode-apart-spec =
     tie.close
-    (tie.spec has-requires has-requires-2 differ-requires asked-requires when-requires returns)
+    (tie.spec has-requires has-requires-2 differ-requires ask-of-requires when-requires returns)
