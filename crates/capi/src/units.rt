@@ -7,6 +7,7 @@ ghost use Rattle.model.specs.Writing.{writing, written};
 ghost use Rattle.unit.specs.Rows.{stateIn};
 ghost use Rattle.unit.specs.Stored.{unitOf};
 ghost use Rattle.asking.specs.Asked.{asked};
+ghost use Rattle.page.specs.Page.{paging, paged};
 use asking::ask;
 use image::open;
 use image::start;
@@ -47,4 +48,13 @@ pub extern "C" fn circmon_save(unit: &[[u8; 16]; ROWS], image: &mut [u8]) -> u8
 {
     let saved = save(unit, image);
     number(saved)
+}
+
+// The access page of an object into the buffer.
+#[no_mangle]
+pub extern "C" fn circmon_page(unit: &[[u8; 16]; ROWS], object: u8, page: &mut [u8]) -> u8
+    ensures { λ r. ⌜ (r ≡ number (paging (stateIn (now (unit .entry))) object (now (page .entry)))) × (now (page .exit) ≡ paged (stateIn (now (unit .entry))) object (now (page .entry))) ⌝ }
+{
+    let answer = page::page(unit, object, page);
+    number(answer)
 }

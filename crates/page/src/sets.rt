@@ -1,0 +1,53 @@
+// What the page shows of a set of modes: its letters, and how many modes are in it.
+ghost use mathlib.Core.Path.{_≡_};
+ghost use Rattle.bits.specs.Bits.{bit};
+ghost use Rattle.model.specs.Modes.{has};
+ghost use Rattle.page.specs.Page.{letter, mark, marks, modeCount};
+use labels::has;
+use model::Mode;
+use unit::flag;
+
+fn letter(x: Mode) -> u8
+    ensures { λ r. ⌜ r ≡ letter x ⌝ }
+{
+    match x {
+        Mode::Read => b'r',
+        Mode::Write => b'w',
+        Mode::Append => b'a',
+        Mode::Execute => b'e',
+    }
+}
+
+fn mark(set: u8, x: Mode) -> u8
+    ensures { λ r. ⌜ r ≡ mark set x ⌝ }
+{
+    if has(x, set) { letter(x) } else { b'-' }
+}
+
+pub fn marks(set: u8) -> [u8; 4]
+    ensures { λ r. ⌜ r ≡ marks set ⌝ }
+{
+    [
+        mark(set, Mode::Read),
+        mark(set, Mode::Write),
+        mark(set, Mode::Append),
+        mark(set, Mode::Execute),
+    ]
+}
+
+// 1 where the mode is in the set.
+pub fn one(set: u8, x: Mode) -> u8
+    ensures { λ r. ⌜ r ≡ bit (has x set) ⌝ }
+{
+    flag(has(x, set))
+}
+
+pub fn count(set: u8) -> u8
+    ensures { λ r. ⌜ r ≡ modeCount set ⌝ }
+{
+    let r = one(set, Mode::Read);
+    let w = one(set, Mode::Write);
+    let a = one(set, Mode::Append);
+    let e = one(set, Mode::Execute);
+    r + w + a + e
+}
