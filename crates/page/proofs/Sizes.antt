@@ -14,9 +14,10 @@ use Rattle.model.specs.Modes.{has}
 use Rattle.model.specs.State.{subjectCount, rightsOf, heldBy}
 use Rattle.model.specs.Buffers.{put}
 use Rattle.model.proofs.Buffers.{length-put}
-use Rattle.page.specs.Sums.{sumBelow, sumOver, OrderOf}
+use Rattle.orders.specs.Sums.{sumBelow, sumOver}
+use Rattle.orders.specs.Orders.{OrderOf}
 use Rattle.page.specs.Page.{modes, modeCount, line, lines, lineSize, holders, total, lastLine, lastSize, page, pageSize}
-use Rattle.page.proofs.Sums.{sum-order, sum-columns, sum-below-most, sum-over-most}
+use Rattle.orders.proofs.Sums.{sum-order, sum-columns, sum-below-most, sum-over-most}
 
 -- ---- numbers
 

@@ -1,4 +1,4 @@
 -- The access page of an object as bytes.
-pub mod Sums
 pub mod Page
 pub mod Printed
+pub mod Causes

@@ -16,7 +16,7 @@ use Rattle.model.specs.Modes.{has}
 use Rattle.model.specs.State.{subjectCount, objectCount, object, rightsOf, heldBy}
 use Rattle.model.specs.Decisions.{refuses}
 use Rattle.model.specs.Buffers.{tooShort, front, digit, twoDigits}
-use Rattle.page.specs.Sums.{sumBelow, sumOver}
+use Rattle.orders.specs.Sums.{sumBelow, sumOver}
 
 -- ---- characters
 

@@ -1,29 +1,65 @@
--- What a reader of the page finds: the numbers that stand in it, by their digits alone.
+-- What a reader of a page finds at each place of it, by its characters alone.
 -- Assumes nothing.
-use Prim.Native.Nat.{ℕ, _+_, _-_, _*_}
+use Prim.Native.Nat.{ℕ, _+_, _-_, _*_, _≤_}
+use mathlib.Core.Bool.{Bool}
 use mathlib.Core.List.{List}
 use lib.ListN.{getD}
+use lib.Dec.{eqb}
+use Rattle.model.specs.declared.Mode.{Mode}
+use Rattle.model.specs.declared.Mode.the-variants.{Read, Write, Append, Execute}
 use Rattle.model.specs.State.{subjectCount}
-use Rattle.page.specs.Page.{lineSize}
+use Rattle.page.specs.Page.{letter, lineSize}
 
--- the number that a decimal digit stands for, at a place of the page
-abbrev pub oneAt : List ℕ → ℕ → ℕ
-oneAt p at = getD p at 0 - 48
+-- the character at a place, and one of a line
+abbrev pub charAt : List ℕ → ℕ → ℕ
+charAt p at = getD p at 0
 
--- and two of them
-abbrev pub twoAt : List ℕ → ℕ → ℕ
-twoAt p at = 10 * oneAt p at + oneAt p (at + 1)
+abbrev pub lineChar : List ℕ → ℕ → ℕ → ℕ
+lineChar p s k = charAt p (lineSize * s + k)
 
--- the subject of a line, and how many it says are held
+-- one of the last line
+abbrev pub lastChar : List ℕ → ℕ → ℕ
+lastChar p k = charAt p (lineSize * subjectCount + k)
+
+-- r, w, a, e: first, second, third, fourth
+abbrev pub place : Mode → ℕ
+place Read = 0
+place Write = 1
+place Append = 2
+place Execute = 3
+
+-- the line of subject s has the mode's letter among the rights, and among the accesses held
+abbrev pub rightShown : List ℕ → ℕ → Mode → Bool
+rightShown p s x = eqb (lineChar p s (3 + place x)) (letter x)
+
+abbrev pub accessShown : List ℕ → ℕ → Mode → Bool
+accessShown p s x = eqb (lineChar p s (8 + place x)) (letter x)
+
+-- "digits"
+abbrev pub IsDigit : ℕ → Type 0
+IsDigit c = (48 ≤ c) × (c ≤ 57)
+
+-- the number that one digit is, and that two are
+abbrev pub one : ℕ → ℕ
+one c = c - 48
+
+abbrev pub two : ℕ → ℕ → ℕ
+two c d = 10 * one c + one d
+
+-- the subject that a line is of, and how many it says are held
 abbrev pub subjectPrinted : List ℕ → ℕ → ℕ
-subjectPrinted p s = twoAt p (lineSize * s)
+subjectPrinted p s = two (lineChar p s 0) (lineChar p s 1)
 
-abbrev pub countPrinted : List ℕ → ℕ → ℕ
-countPrinted p s = oneAt p (lineSize * s + 13)
+abbrev pub heldPrinted : List ℕ → ℕ → ℕ
+heldPrinted p s = one (lineChar p s 13)
 
--- number k of the last line: the holders of r, w, a and e, and the total
-abbrev pub lastPrinted : List ℕ → ℕ → ℕ
-lastPrinted p k = twoAt p (lineSize * subjectCount + 3 + 3 * k)
+-- the holders of a mode and the total, in the last line
+abbrev pub holdersPrinted : List ℕ → Mode → ℕ
+holdersPrinted p x = two (lastChar p (3 + 3 * place x)) (lastChar p (4 + 3 * place x))
 
 abbrev pub totalPrinted : List ℕ → ℕ
-totalPrinted p = lastPrinted p 4
+totalPrinted p = two (lastChar p 15) (lastChar p 16)
+
+-- two modes are the same: they have the same place
+abbrev pub sameMode : Mode → Mode → Bool
+sameMode x y = eqb (place x) (place y)

@@ -8,9 +8,9 @@ use Rattle.bits.specs.Bits.{bit}
 use Rattle.model.specs.Modes.{has}
 use Rattle.model.specs.State.{subjectCount, object, heldBy}
 use Rattle.unit.specs.Rows.{stateIn}
-use Rattle.page.specs.Sums.{sumBelow}
+use Rattle.orders.specs.Sums.{sumBelow}
 use Rattle.page.specs.Page.{holders}
-use Rattle.page.proofs.Sums.{no-sum, sum-more}
+use Rattle.orders.proofs.Sums.{no-sum, sum-more}
 use Rattle.page.proofs.Sizes.{bit-small}
 use Rattle.page.proofs.last.holders.Statement.{statement}
 use Rattle.page.proofs.last.holders.Tie as tie

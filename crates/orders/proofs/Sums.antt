@@ -1,11 +1,12 @@
 -- Sums: of two in the other order, over a list in any order, and how large they are.
 -- Assumes nothing.
-use Prim.Native.Nat.{ℕ, zero, suc, _+_, _*_, _≤_}
+use Prim.Native.Nat.{ℕ, zero, suc, _+_, _*_, _<_, _≤_}
 use native.Mathlib.Omega.{arith}
 use mathlib.Core.Path.{_≡_, refl, sym, ap, ap₂, _∙_}
 use mathlib.Core.List.{List, [], _∷_, List·Permᴰ·nil, List·Permᴰ·cons, List·Permᴰ·swap, List·Permᴰ·trans}
 use lib.ListN.{length}
-use Rattle.page.specs.Sums.{sumBelow, sumOver, OrderOf}
+use Rattle.orders.specs.Sums.{sumBelow, sumOver}
+use Rattle.orders.specs.Orders.{OrderOf}
 
 -- none, and one more
 pub no-sum : (f : ℕ → ℕ) → 0 ≡ sumBelow 0 f
@@ -15,6 +16,17 @@ no-sum f = refl
 pub sum-more : (n : ℕ) (f : ℕ → ℕ) → sumBelow n f + f n ≡ sumBelow (n + 1) f
 unfolding sumBelow
 sum-more n f = ap (λ k. sumBelow k f) (let e : suc n ≡ n + 1 = omega arith in e)
+
+-- of functions that agree
+pub sum-same : (n : ℕ) (f g : ℕ → ℕ) → ((i : ℕ) → i < n → f i ≡ g i) → sumBelow n f ≡ sumBelow n g
+unfolding sumBelow
+sum-same zero f g h = refl
+sum-same (suc n) f g h = omega (arith, sum-same n f g (λ i l. h i (omega arith)), h n (omega arith))
+
+pub sum-over-same : {A : Type 0} (xs : List A) (f g : A → ℕ) → ((x : A) → f x ≡ g x) → sumOver xs f ≡ sumOver xs g
+unfolding sumOver
+sum-over-same [] f g h = refl
+sum-over-same (x ∷ xs) f g h = ap₂ (λ (m n : ℕ). m + n) (h x) (sum-over-same xs f g h)
 
 -- over all orders of a list: the sum is the same
 pub sum-order : {A : Type 0} (f : A → ℕ) {xs ys : List A} → OrderOf xs ys → sumOver xs f ≡ sumOver ys f

@@ -1,0 +1,3 @@
+-- Laws of sums, and what an order of a list is.
+pub mod Sums
+pub mod Orders
