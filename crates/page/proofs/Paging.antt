@@ -19,10 +19,18 @@ use Rattle.model.proofs.Buffers.{short-is, room-is}
 use Rattle.page.specs.Page.{page, pageSize, paging, paged}
 
 module _ (m : Monitor) (o : ℕ) (buffer : List ℕ) where
-  -- a refusal leaves the buffer, anything else has the page in front
-  pub refused-leaves : (d : Decision) → d ≡ paging m o buffer → refuses d ≡ true → (d ≡ paging m o buffer) × (buffer ≡ paged m o buffer)
+  -- refused, "the buffer is untouched"
+  pub page-refused-leaves : refuses (paging m o buffer) ≡ true → paged m o buffer ≡ buffer
   unfolding paged
-  refused-leaves d e r = (e, sym (cond-true (refuses (paging m o buffer)) buffer _ (ap refuses (sym e) ∙ r)))
+  page-refused-leaves r = cond-true (refuses (paging m o buffer)) buffer _ r
+
+  -- granted, the page stands in front
+  pub page-granted-front : paging m o buffer ≡ Granted → paged m o buffer ≡ front pageSize (page (object m o)) buffer
+  unfolding paged
+  page-granted-front g = cond-false (refuses (paging m o buffer)) buffer _ (ap refuses g)
+
+  refused-leaves : (d : Decision) → d ≡ paging m o buffer → refuses d ≡ true → (d ≡ paging m o buffer) × (buffer ≡ paged m o buffer)
+  refused-leaves d e r = (e, sym (page-refused-leaves (ap refuses (sym e) ∙ r)))
 
   -- above 63
   pub page-above : objectCount ≤ o → (MalformedRequest ≡ paging m o buffer) × (buffer ≡ paged m o buffer)
@@ -32,15 +40,15 @@ module _ (m : Monitor) (o : ℕ) (buffer : List ℕ) where
   module _ (h : o < objectCount) where
     pub page-not-live : object m o .live ≡ false → (NotLive ≡ paging m o buffer) × (buffer ≡ paged m o buffer)
     unfolding paging unless
-    page-not-live l = refused-leaves NotLive (rw (lt-ltb o objectCount h) (rw l)) refl
+    page-not-live l = refused-leaves NotLive (rw (lt-ltb o objectCount h, l)) refl
 
     module _ (l : object m o .live ≡ true) where
       pub page-short : length buffer < pageSize → (ShortBuffer ≡ paging m o buffer) × (buffer ≡ paged m o buffer)
       unfolding paging unless
-      page-short n = refused-leaves ShortBuffer (rw (lt-ltb o objectCount h) (rw l (rw (short-is pageSize buffer n)))) refl
+      page-short n = refused-leaves ShortBuffer (rw (lt-ltb o objectCount h, l, short-is pageSize buffer n)) refl
 
       pub page-done : (last : List ℕ) → pageSize ≤ length buffer → last ≡ front pageSize (page (object m o)) buffer → (Granted ≡ paging m o buffer) × (last ≡ paged m o buffer)
-      unfolding paging paged unless
+      unfolding paging unless
       page-done last n e =
-          let answer : Granted ≡ paging m o buffer = rw (lt-ltb o objectCount h) (rw l (rw (room-is pageSize buffer n))) in
-          (answer, e ∙ sym (cond-false (refuses (paging m o buffer)) buffer _ (ap refuses (sym answer))))
+          let answer : Granted ≡ paging m o buffer = rw (lt-ltb o objectCount h, l, room-is pageSize buffer n) in
+          (answer, e ∙ sym (page-granted-front (sym answer)))

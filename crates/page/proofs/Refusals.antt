@@ -12,13 +12,14 @@ use Rattle.model.specs.declared.Decision.the-variants.{Granted, MalformedReques
 use Rattle.model.specs.State.{objectCount, object}
 use Rattle.model.specs.Decisions.{number, refuses}
 use Rattle.model.specs.Buffers.{tooShort}
-use Rattle.model.proofs.Tests.{apart, not-on, not-off, cond-true, cond-false}
+use Rattle.model.proofs.Tests.{apart, not-on, not-off}
 use Rattle.model.proofs.Buffers.{is-short, has-room, front-new, front-later}
 use Rattle.refusals.specs.First.{AnswersFirst, orderOf}
 use Rattle.refusals.proofs.First.{answers-end, answers-check}
 use Rattle.page.specs.Page.{page, pageSize, paging, paged}
 use Rattle.page.specs.Causes.{pageCauses}
 use Rattle.page.proofs.Sizes.{page-length}
+use Rattle.page.proofs.Paging.{page-granted-front}
 
 module _ (m : Monitor) (o : ℕ) (buffer : List ℕ) where
   -- the answer is the first cause, and 0 exactly where there is none
@@ -36,18 +37,11 @@ module _ (m : Monitor) (o : ℕ) (buffer : List ℕ) where
   pub page-order : orderOf (pageCauses m o buffer) ≡ 2 ∷ 4 ∷ 13 ∷ []
   page-order = refl
 
-  -- refused, "the buffer is untouched"
-  pub page-refused-leaves : refuses (paging m o buffer) ≡ true → paged m o buffer ≡ buffer
-  unfolding paged
-  page-refused-leaves r = cond-true (refuses (paging m o buffer)) buffer _ r
-
   module _ (w : paging m o buffer ≡ Granted) where
     -- written, the page stands in front
     pub page-written : take 258 (paged m o buffer) ≡ page (object m o)
-    unfolding paged
-    page-written = ap (take 258) (cond-false (refuses (paging m o buffer)) buffer _ (ap refuses w)) ∙ front-new 258 (page (object m o)) buffer (page-length (object m o))
+    page-written = ap (take 258) (page-granted-front m o buffer w) ∙ front-new 258 (page (object m o)) buffer (page-length (object m o))
 
     -- "and leaves later bytes"
     pub page-leaves-later : drop 258 (paged m o buffer) ≡ drop 258 buffer
-    unfolding paged
-    page-leaves-later = ap (drop 258) (cond-false (refuses (paging m o buffer)) buffer _ (ap refuses w)) ∙ front-later 258 (page (object m o)) buffer (page-length (object m o))
+    page-leaves-later = ap (drop 258) (page-granted-front m o buffer w) ∙ front-later 258 (page (object m o)) buffer (page-length (object m o))

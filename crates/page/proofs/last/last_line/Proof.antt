@@ -1,10 +1,10 @@
 -- `page::last::last_line` meets its contract: the sum over the modes is the sum down the lines, and so small that no part of it overflows.
 -- Assumes nothing.
-use Prim.Native.Nat.{_+_}
 use native.Mathlib.Omega.{arith}
-use mathlib.Core.Path.{_≡_, refl, ap, _∙_}
+use mathlib.Core.Path.{_≡_, ap, _∙_}
 use Rattle.bits.specs.Bits.{join}
 use Rattle.model.specs.State.{object}
+use Rattle.model.specs.Buffers.{twoDigits}
 use Rattle.unit.specs.Rows.{stateIn}
 use Rattle.page.specs.Page.{holders, total, lastLine}
 use Rattle.page.proofs.Sizes.{total-small, total-over-modes, over-modes}
@@ -92,9 +92,11 @@ unfolding lastLine join
 returns c =
     let start = c .before .before .before .before .before .before .before .before .before in
     let ob = object (stateIn (start .args .unit .now)) (start .args .o) in
-    let sum : c .before .before .before .before .before .before .before .before .holders .result + c .before .before .before .before .before .before .before .holders2 .result + c .before .before .before .before .before .before .holders3 .result + c .before .before .before .before .before .holders4 .result ≡ total ob =
-    omega (arith, over-modes (holders ob), total-over-modes ob, c .before .before .before .before .before .before .before .before .holders .ensures, c .before .before .before .before .before .before .before .holders2 .ensures, c .before .before .before .before .before .before .holders3 .ensures, c .before .before .before .before .before .holders4 .ensures) in
-    rw (c .before .before .before .before .two-digits .ensures, c .before .before .before .two-digits2 .ensures, c .before .before .two-digits3 .ensures, c .before .two-digits4 .ensures, c .two-digits5 .ensures, sum, c .before .before .before .before .before .before .before .before .holders .ensures, c .before .before .before .before .before .before .before .holders2 .ensures, c .before .before .before .before .before .before .holders3 .ensures, c .before .before .before .before .before .holders4 .ensures)
+    let all : c .two-digits5 .result ≡ twoDigits (total ob) =
+    c .two-digits5 .ensures
+    ∙ ap twoDigits
+    (omega (arith, over-modes (holders ob), total-over-modes ob, c .before .before .before .before .before .before .before .before .holders .ensures, c .before .before .before .before .before .before .before .holders2 .ensures, c .before .before .before .before .before .before .holders3 .ensures, c .before .before .before .before .before .holders4 .ensures)) in
+    rw (all, c .before .before .before .before .two-digits .ensures, c .before .before .before .two-digits2 .ensures, c .before .before .two-digits3 .ensures, c .before .two-digits4 .ensures, c .before .before .before .before .before .before .before .before .holders .ensures, c .before .before .before .before .before .before .before .holders2 .ensures, c .before .before .before .before .before .before .holders3 .ensures, c .before .before .before .before .before .holders4 .ensures)
 
 pub last-line-spec : {M : Type 1} → statement M
 last-line-spec =

@@ -1,0 +1,45 @@
+-- Pages of a unit that was started or opened and asked any list: they are those of the state after the list, and what they show is permitted.
+-- Assumes nothing.
+use Prim.Native.Nat.{ℕ, _+_, _<_}
+use mathlib.Core.Path.{_≡_, sym, ap, _∙_}
+use mathlib.Core.Bool.{true, false}
+use mathlib.Core.List.{List}
+use Rattle.model.specs.declared.Mode.{Mode}
+use Rattle.model.specs.declared.Monitor.{Monitor}
+use Rattle.model.specs.declared.Object.{Object}
+use Rattle.model.specs.Modes.{has}
+use Rattle.model.specs.State.{subjectCount, object, enrolled, rightsOf, heldBy}
+use Rattle.model.specs.Decisions.{number}
+use Rattle.model.specs.Beginnings.{Beginning, Accepted, left}
+use Rattle.model.proofs.Modes.{has-none}
+use Rattle.images.proofs.Reached.{reached-left}
+use Rattle.effects.proofs.Demand2.{always-secure}
+use Rattle.unit.specs.Rows.{stateIn}
+use Rattle.page.specs.Page.{dash, page, paging, paged}
+use Rattle.page.specs.Printed.{lineChar, place, rightShown, accessShown}
+use Rattle.page.proofs.Printed.{right-shown, right-dash, access-shown, access-dash}
+use Rattle.capi.specs.UnitRuns.{unitAfter}
+use Rattle.capi.proofs.UnitRuns.{after-says}
+
+module _ (b : Beginning) (bs : List (List ℕ)) where
+  -- the number that `circmon_page` returns, and what it leaves in the buffer
+  pub unit-paging : (o : ℕ) (buffer : List ℕ) → number (paging (stateIn (unitAfter b bs)) o buffer) ≡ number (paging (left b bs) o buffer)
+  unit-paging o buffer = ap (λ (m : Monitor). number (paging m o buffer)) (after-says b bs)
+
+  pub unit-paged : (o : ℕ) (buffer : List ℕ) → paged (stateIn (unitAfter b bs)) o buffer ≡ paged (left b bs) o buffer
+  unit-paged o buffer = ap (λ (m : Monitor). paged m o buffer) (after-says b bs)
+
+  module _ (e : Accepted b) (o s : ℕ) (h : s < subjectCount) where
+    -- "an access held is in the matrix": a page shows no access without the right beside it
+    pub shown-permitted : (x : Mode) → accessShown (page (object (left b bs) o)) s x ≡ true → rightShown (page (object (left b bs) o)) s x ≡ true
+    shown-permitted x w =
+        let ob = object (left b bs) o in
+        right-shown ob s h x ∙ always-secure (left b bs) (reached-left b e bs) .1 .discretionary s o x (sym (access-shown ob s h x) ∙ w)
+
+    -- "an absent subject .. has no right or access": its line has dashes only
+    pub absent-line : enrolled (left b bs) s ≡ false → (x : Mode)
+        → (lineChar (page (object (left b bs) o)) s (3 + place x) ≡ dash) × (lineChar (page (object (left b bs) o)) s (8 + place x) ≡ dash)
+    absent-line a x =
+        let ob = object (left b bs) o in
+        let formed = always-secure (left b bs) (reached-left b e bs) .0 .objects-formed o in
+        (right-dash ob s h x (ap (has x) (formed .absent-rights s a) ∙ has-none x), access-dash ob s h x (ap (has x) (formed .absent-held s a) ∙ has-none x))
