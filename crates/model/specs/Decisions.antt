@@ -11,11 +11,11 @@ abbrev pub number : Decision → ℕ
 number Granted = 0
 -- "granted and the state was so already"
 number Already = 1
--- "request not 6 bytes; kind not 1 to 7; ..; an unused field not 0"
+-- "request not 6 bytes; kind not 1 to 7; ..; an unused field not 0"; of a page: an object "above 63"
 number MalformedRequest = 2
 -- "actor, or in kinds 3 and 4 the other subject, not enrolled"
 number NotEnrolled = 3
--- "object not live"
+-- "object not live"; of a page: "An object that isn't live"
 number NotLive = 4
 -- "create on a live object"
 number AlreadyLive = 5
@@ -33,7 +33,7 @@ number WrongLength = 10
 number StrayBits = 11
 -- "an absent subject owns, has a right or holds"
 number AbsentSubject = 12
--- "buffer under the image's size"
+-- "buffer under the image's size"; of a page: "a buffer under the page's 258 bytes"
 number ShortBuffer = 13
 
 -- every number from 2 on is a refusal
