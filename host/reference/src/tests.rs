@@ -1,4 +1,4 @@
-//! The marked run and the sizes, from the text of the requirements. The edges are in `sidebyside`, for both implementations.
+//! The marked run, an access page and the sizes, from the text of the requirements. The edges are in `sidebyside`, for both implementations.
 
 use crate::marked::{marked_run, table_w};
 use crate::*;
@@ -46,7 +46,52 @@ fn the_program_prints_one_line_for_each_request() {
     assert_eq!(program(&input), "11\n");
 }
 
+/// Object 5 with rw of subject 1, who holds r, and all modes of subject 15, who holds w, a and e.
+fn with_object_5() -> Monitor {
+    let mut object = Object::new(1);
+    (object.rights[1], object.held[1]) = (0b1100, 0b1000);
+    (object.rights[15], object.held[15]) = (0b1111, 0b0111);
+    let mut monitor = Monitor::empty();
+    monitor.objects[5] = Some(object);
+    monitor
+}
+
+#[test]
+fn a_page_as_the_text_has_it() {
+    let page = "\
+00 ---- ---- 0
+01 rw-- r--- 1
+02 ---- ---- 0
+03 ---- ---- 0
+04 ---- ---- 0
+05 ---- ---- 0
+06 ---- ---- 0
+07 ---- ---- 0
+08 ---- ---- 0
+09 ---- ---- 0
+10 ---- ---- 0
+11 ---- ---- 0
+12 ---- ---- 0
+13 ---- ---- 0
+14 ---- ---- 0
+15 rwae -wae 3
+to 01 01 01 01 04
+";
+    let mut buffer = [0xEE; PAGE_BYTES + 2];
+    assert_eq!(with_object_5().write_page(5, &mut buffer), reply::CHANGED);
+    assert_eq!(buffer, [page.as_bytes(), &[0xEE; 2]].concat()[..]);
+}
+
+#[test]
+fn the_last_line_of_a_page_where_everyone_holds_everything() {
+    let mut monitor = with_object_5();
+    monitor.objects[5].as_mut().unwrap().held = [0b1111; SUBJECTS];
+    let mut page = [0; PAGE_BYTES];
+    assert_eq!(monitor.write_page(5, &mut page), reply::CHANGED);
+    assert!(page.ends_with(b"\n15 rwae rwae 4\nto 16 16 16 16 64\n"));
+}
+
 #[test]
 fn the_printed_sizes() {
-    assert_eq!((TABLE_BYTES, IMAGE_BYTES), (42, 1274));
+    assert_eq!((TABLE_BYTES, IMAGE_BYTES, PAGE_BYTES), (42, 1274, 258));
 }
