@@ -7,11 +7,12 @@
  * NULL, with length 0. No function keeps a pointer, allocates, or has a state of its own: calls that share nothing
  * that one of them writes may run at once.
  *
- * Numbers: 0 granted and changed, or accepted, or written; 1 granted and so already; 2 malformed; 3 not enrolled;
- * 4 object not live; 5 create on a live object; 6 right or ownership missing, of an image: an access is held without the
- * right; 7 no label, of an image: r, w or a is held on an object without one; 8 the simple property would break, of an
- * image: is broken; 9 the star property would break, of an image: is broken; 10 another length; 11 a stray bit in what is
- * absent; 12 an absent subject owns, has a right or holds; 13 the buffer is too short. docs/FORMATS.md has the bytes. */
+ * Numbers: 0 granted and changed, or accepted, or written; 1 granted and so already; 2 malformed, of a page: the object is
+ * above 63; 3 not enrolled; 4 object not live; 5 create on a live object; 6 right or ownership missing, of an image: an
+ * access is held without the right; 7 no label, of an image: r, w or a is held on an object without one; 8 the simple
+ * property would break, of an image: is broken; 9 the star property would break, of an image: is broken; 10 another length;
+ * 11 a stray bit in what is absent; 12 an absent subject owns, has a right or holds; 13 the buffer is too short.
+ * docs/FORMATS.md has the bytes. */
 #ifndef CIRCMON_H
 #define CIRCMON_H
 
@@ -26,6 +27,7 @@ extern "C" {
 #define CIRCMON_REQUEST_BYTES 6
 #define CIRCMON_DISTINGUISH_BYTES 24
 #define CIRCMON_UNIT_BYTES 3328
+#define CIRCMON_PAGE_BYTES 258
 
 /* The length of a buffer, in bytes. It has 64 bits on every machine, so that this header need not change with one. */
 typedef uint64_t circmon_size;
@@ -66,6 +68,13 @@ uint8_t circmon_ask(circmon_unit *unit, const uint8_t *request, circmon_size req
 /* Writes the image of the state into the first 1,274 bytes of the buffer and leaves any later byte.
  * Returns 0; or 13 where the buffer has under 1,274 bytes, and leaves every byte of it. The unit is only read. */
 uint8_t circmon_save(const circmon_unit *unit, uint8_t *image, circmon_size image_len);
+
+/* Writes the access page of an object into the first 258 bytes of the buffer and leaves any later byte: a line for each
+ * subject with its rights and the accesses that it holds, and a last line with the numbers of holders; text, with a newline
+ * behind each line and no 0 behind the last.
+ * Returns 2 where the object is above 63; then 4 where it is not live; then 13 where the buffer has under 258 bytes; else 0.
+ * A refusal leaves every byte of the buffer. The unit is only read. */
+uint8_t circmon_page(const circmon_unit *unit, uint8_t object, uint8_t *page, circmon_size page_len);
 
 /* ---- Calls without a unit: on tables, images and lists of requests */
 

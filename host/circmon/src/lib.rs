@@ -21,6 +21,10 @@ pub const IMAGE_BYTES: usize = TABLE_BYTES + OBJECTS * OBJECT_BITS / 8;
 pub const REQUEST_BYTES: usize = 6;
 /// The room that `distinguish` asks for: four requests.
 pub const DISTINGUISH_BYTES: usize = 4 * REQUEST_BYTES;
+/// The characters of a line of an access page and its newline.
+const PAGE_LINE_BYTES: usize = 14 + 1;
+const PAGE_LAST_LINE_BYTES: usize = 17 + 1;
+pub const PAGE_BYTES: usize = SUBJECTS * PAGE_LINE_BYTES + PAGE_LAST_LINE_BYTES;
 
 /// The length of a slice as the library takes it.
 fn size(slice: &[u8]) -> u64 {

@@ -76,4 +76,11 @@ impl Unit {
         assert_eq!(number, 0, "it is proved that a buffer of this size is filled");
         image
     }
+
+    /// The access page of an object into the first 258 bytes of the buffer: 0; or 2 where the object is above 63, then 4
+    /// where it is not live, then 13 where the buffer is shorter, and every byte left.
+    pub fn page(&self, object: u8, page: &mut [u8]) -> u8 {
+        // Safety: the unit is whole and apart from the slice, whose pointer comes with its length.
+        unsafe { raw::circmon_page(&self.rows, object, page.as_mut_ptr(), size(page)) }
+    }
 }
