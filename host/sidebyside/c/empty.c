@@ -4,6 +4,7 @@
 
 int main(void) {
     const uint8_t table[CIRCMON_TABLE_BYTES] = {0x88, 0x00, 0x0C, 0xC0, 0x00, 0xE0};
+    const uint8_t create[CIRCMON_REQUEST_BYTES] = {0x50, 0x80};
     uint8_t image[CIRCMON_IMAGE_BYTES];
     circmon_unit unit;
     printf("open %d\n", circmon_open(&unit, NULL, 0));
@@ -11,6 +12,10 @@ int main(void) {
     printf(" %d\n", circmon_start(&unit, table, sizeof table));
     printf("ask %d\n", circmon_ask(&unit, NULL, 0));
     printf("save %d\n", circmon_save(&unit, NULL, 0));
+    printf("page %d", circmon_page(&unit, 64, NULL, 0));
+    printf(" %d", circmon_page(&unit, 0, NULL, 0));
+    circmon_ask(&unit, create, sizeof create);
+    printf(" %d\n", circmon_page(&unit, 0, NULL, 0));
     printf("begin %d", circmon_begin(NULL, 0, image, sizeof image));
     printf(" %d", circmon_begin(table, sizeof table, NULL, 0));
     printf(" %d\n", circmon_begin(table, sizeof table, image, sizeof image));

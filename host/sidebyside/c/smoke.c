@@ -7,6 +7,17 @@ static const uint8_t table[CIRCMON_TABLE_BYTES] = {0x88, 0x00, 0x0C, 0xC0, 0x00,
 static const uint8_t requests[3][CIRCMON_REQUEST_BYTES] = {
     {0x50, 0x80, 0, 0, 0, 0}, {0x10, 0x80, 0x01, 0, 0, 0}, {0x70, 0x80, 0, 0, 0, 0}};
 
+/* The numbers 2, 4, 13 and 0, the line of subject 1, the last line, and a byte that is left. */
+static void page_of(const circmon_unit *unit) {
+    uint8_t page[CIRCMON_PAGE_BYTES + 1];
+    memset(page, 0xEE, sizeof page);
+    printf("page %d", circmon_page(unit, 64, page, sizeof page));
+    printf(" %d", circmon_page(unit, 63, page, sizeof page));
+    printf(" %d", circmon_page(unit, 0, page, CIRCMON_PAGE_BYTES - 1));
+    printf(" %d\n", circmon_page(unit, 0, page, sizeof page));
+    printf("%.15s%.18s%02x\n", (const char *)page + 15, (const char *)page + 240, page[CIRCMON_PAGE_BYTES]);
+}
+
 static void on_a_unit(uint8_t *image, circmon_size length) {
     circmon_unit unit;
     printf("start %d\n", circmon_start(&unit, table, sizeof table));
@@ -17,6 +28,7 @@ static void on_a_unit(uint8_t *image, circmon_size length) {
     printf("save %d\n", circmon_save(&unit, image, length));
     printf("open %d\n", circmon_open(&unit, image, length));
     printf("ask %d\n", circmon_ask(&unit, requests[2], sizeof requests[2]));
+    page_of(&unit);
 }
 
 static void on_an_image(uint8_t *image, circmon_size length) {

@@ -16,6 +16,7 @@ static uint8_t written[CIRCMON_IMAGE_BYTES];
 static uint8_t requests[PIECES][CIRCMON_REQUEST_BYTES];
 static uint8_t replies[PIECES];
 static uint8_t told[CIRCMON_DISTINGUISH_BYTES];
+static uint8_t text[CIRCMON_PAGE_BYTES];
 static volatile uint8_t answer;
 
 /* The six bytes of a request: kind 4 bits, actor 5, other 5, object 7, mode 3, class 4, needs 16, spare 4. */
@@ -61,6 +62,7 @@ static void *nothing(void *unused) { return unused; }
 static void *open_unit(void *unused) { answer = circmon_open(&unit, image, sizeof image); return unused; }
 static void *start(void *unused) { answer = circmon_start(&unit, table, sizeof table); return unused; }
 static void *save(void *unused) { answer = circmon_save(&unit, written, sizeof written); return unused; }
+static void *page(void *unused) { answer = circmon_page(&unit, OBJECTS - 1, text, sizeof text); return unused; }
 static void *begin(void *unused) { answer = circmon_begin(table, sizeof table, written, sizeof written); return unused; }
 static void *reading(void *unused) { answer = circmon_read(image, sizeof image); return unused; }
 static void *level(void *unused) { answer = circmon_request(image, sizeof image, requests[3 * OBJECTS], CIRCMON_REQUEST_BYTES); return unused; }
@@ -98,7 +100,7 @@ static size_t depth(void *(*work)(void *)) {
 int main(void) {
     const struct { const char *name; void *(*work)(void *); } rows[] = {
         {"circmon_open", open_unit}, {"circmon_start", start}, {"circmon_ask", ask}, {"circmon_save", save},
-        {"circmon_begin", begin}, {"circmon_read", reading}, {"circmon_request", level}, {"circmon_replay", replay},
+        {"circmon_page", page}, {"circmon_begin", begin}, {"circmon_read", reading}, {"circmon_request", level}, {"circmon_replay", replay},
         {"circmon_distinguish", distinguish}};
     depth(nothing);
     size_t least = depth(nothing);

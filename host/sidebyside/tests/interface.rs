@@ -8,9 +8,15 @@ use std::process::Command;
 /// What a parameter is for the machine.
 #[derive(Clone, Copy, Debug, PartialEq, Eq)]
 enum Passed {
-    Bytes { mutable: bool },
-    Unit { mutable: bool },
+    Bytes {
+        mutable: bool,
+    },
+    Unit {
+        mutable: bool,
+    },
     Length,
+    /// one byte, by value
+    Number,
 }
 
 #[derive(Clone, Debug, PartialEq, Eq)]
@@ -60,6 +66,7 @@ fn in_c(parameter: &str) -> Vec<Parameter> {
     let (kind, name) = parameter.rsplit_once(' ').expect("a type and a name");
     let passed = match (kind, name.starts_with('*')) {
         ("circmon_size", false) => Passed::Length,
+        ("uint8_t", false) => Passed::Number,
         ("uint8_t", true) => Passed::Bytes { mutable: true },
         ("const uint8_t", true) => Passed::Bytes { mutable: false },
         ("circmon_unit", true) => Passed::Unit { mutable: true },
@@ -74,6 +81,7 @@ fn in_rust(parameter: &str) -> Vec<Parameter> {
     let (name, kind) = parameter.split_once(": ").expect("a name and a type");
     let passed = match kind {
         "u64" => Passed::Length,
+        "u8" => Passed::Number,
         "*mut u8" => Passed::Bytes { mutable: true },
         "*const u8" => Passed::Bytes { mutable: false },
         "*mut Rows" => Passed::Unit { mutable: true },
@@ -83,9 +91,12 @@ fn in_rust(parameter: &str) -> Vec<Parameter> {
     vec![self::parameter(name, passed)]
 }
 
-/// `image: &mut [u8]`: a slice passes as a pointer and a length, a reference to an array as one pointer.
+/// `image: &mut [u8]`: a slice passes as a pointer and a length, a reference to an array as one pointer, a number as itself.
 fn in_rattle(parameter: &str) -> Vec<Parameter> {
     let (name, kind) = parameter.split_once(": ").expect("a name and a type");
+    if kind == "u8" {
+        return vec![self::parameter(name, Passed::Number)];
+    }
     let (mutable, kind) = kind.strip_prefix("&mut ").map_or((false, kind.strip_prefix('&')), |it| (true, Some(it)));
     match kind {
         Some("[u8]") => vec![
@@ -158,12 +169,14 @@ fn the_sizes_of_the_header_are_those_of_the_bindings() {
         ("REQUEST_BYTES", circmon::REQUEST_BYTES),
         ("DISTINGUISH_BYTES", circmon::DISTINGUISH_BYTES),
         ("UNIT_BYTES", circmon::UNIT_BYTES),
+        ("PAGE_BYTES", circmon::PAGE_BYTES),
     ];
     assert_eq!(sizes, BTreeMap::from(expected));
     let rows = format!("uint8_t row[{}][{}];", circmon::ROWS, circmon::ROW_BYTES);
     assert!(text.contains(&rows), "{rows}");
     assert!(text.contains("typedef uint64_t circmon_size;"));
     assert_eq!((reference::TABLE_BYTES, reference::IMAGE_BYTES), (circmon::TABLE_BYTES, circmon::IMAGE_BYTES));
+    assert_eq!(reference::PAGE_BYTES, circmon::PAGE_BYTES);
     assert_eq!((reference::SUBJECTS, reference::OBJECTS), (circmon::SUBJECTS, circmon::OBJECTS));
 }
 
@@ -178,4 +191,8 @@ fn a_parameter_that_is_not_so_would_be_seen() {
     }
     assert_ne!(declared(&text.replace(", circmon_size image_len", ""), "uint8_t ", ";", in_c), right);
     assert_ne!(declared(&text.replace("_save", "_store"), "uint8_t ", ";", in_c), right);
+    let text = "uint8_t circmon_page(const circmon_unit *unit, uint8_t object, uint8_t *page, circmon_size page_len);";
+    let right = declared(text, "uint8_t ", ";", in_c);
+    assert_eq!(right["circmon_page"], header()["circmon_page"]);
+    assert_ne!(declared(&text.replace("uint8_t object", "circmon_size object"), "uint8_t ", ";", in_c), right);
 }
