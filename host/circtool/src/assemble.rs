@@ -191,7 +191,11 @@ fn request(line: &mut Line) -> Result<Request, ScriptError> {
     }
 }
 
-fn numbered(word: &str, letter: char, count: usize) -> Option<usize> {
+/// What a word is that `numbered` takes with the letter o.
+pub const OBJECT: &str = "an object (o0 to o63)";
+
+/// The number behind the letter, below the count.
+pub fn numbered(word: &str, letter: char, count: usize) -> Option<usize> {
     number(word.strip_prefix(letter)?, count - 1)
 }
 
@@ -200,7 +204,7 @@ fn mode(line: &mut Line) -> Result<Mode, ScriptError> {
 }
 
 fn object(line: &mut Line) -> Result<usize, ScriptError> {
-    line.take("an object (o0 to o63)", |word| numbered(word, 'o', OBJECTS))
+    line.take(OBJECT, |word| numbered(word, 'o', OBJECTS))
 }
 
 fn with_execute(line: &mut Line) -> Result<bool, ScriptError> {

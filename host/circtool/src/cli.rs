@@ -8,13 +8,13 @@ use crate::input::{assembled, form, is_text, read, Form, Input};
 use crate::paint::Paint;
 use crate::show::show;
 use crate::view::View;
-use crate::{help, refusal, save};
+use crate::{help, page, refusal, save};
 use circmon::{Unit, IMAGE_BYTES, REQUEST_BYTES, TABLE_BYTES};
 use std::ffi::{OsStr, OsString};
 use std::io::{ErrorKind, Read, Write};
 
 pub const FINE: u8 = 0;
-/// a refused table or image, or two images that differ
+/// a refused table or image, an object without a page, or two images that differ
 pub const REFUSED: u8 = 1;
 /// usage, or input that cannot be read
 pub const TROUBLE: u8 = 2;
@@ -41,6 +41,11 @@ type Step<T> = Result<T, Outcome>;
 
 fn trouble(err: String) -> Outcome {
     Outcome::failed(TROUBLE, err)
+}
+
+/// Words of the command line that the subcommand does not take.
+fn bad_usage(name: &str, message: String) -> Outcome {
+    trouble(format!("circtool {name}: {message}; see 'circtool {name} --help'\n"))
 }
 
 /// Carries out a call. Nothing is written to standard output or a file before its input is found good.
@@ -87,7 +92,7 @@ fn subcommand(name: &str, words: &[OsString], standard_input: &mut dyn Read, pai
     }
     let arguments = match Arguments::new(words, &takes(name)) {
         Ok(arguments) => arguments,
-        Err(message) => return trouble(format!("circtool {name}: {message}; see 'circtool {name} --help'\n")),
+        Err(message) => return bad_usage(name, message),
     };
     let result = match name {
         "asm" => asm(&arguments, standard_input),
@@ -95,6 +100,7 @@ fn subcommand(name: &str, words: &[OsString], standard_input: &mut dyn Read, pai
         "explain" => explain_run(&arguments, standard_input, paint),
         "run" => run(&arguments, standard_input),
         "show" => show_image(&arguments, standard_input, paint),
+        "page" => pages(&arguments, standard_input, paint),
         _ => compare_images(&arguments, standard_input, paint),
     };
     result.unwrap_or_else(|outcome| outcome)
@@ -105,6 +111,8 @@ fn takes(name: &str) -> Takes {
         "explain" => (&["--script", "--bytes"], &[], 1),
         "run" => (&["--script", "--bytes"], &["--image"], 1),
         "show" => (&["--anyway"], &[], 1),
+        // the image, and words that are no files: the objects
+        "page" => (&["--all"], &[], usize::MAX),
         "compare" => (&[], &[], 2),
         _ => (&[], &[], 1),
     };
@@ -243,6 +251,12 @@ fn show_image(arguments: &Arguments, standard_input: &mut dyn Read, paint: Paint
         outcome.out = format!("{heading}\n{}", show(&View::new(&input.bytes), paint)).into_bytes();
     }
     Ok(outcome)
+}
+
+fn pages(arguments: &Arguments, standard_input: &mut dyn Read, paint: Paint) -> Step<Outcome> {
+    let asked = page::asked(arguments).map_err(|message| bad_usage("page", message))?;
+    let input = read(arguments.file(), standard_input).map_err(trouble)?;
+    page::pages(&input, &asked, paint).map(Outcome::fine).map_err(|err| Outcome::failed(REFUSED, err))
 }
 
 fn compare_images(arguments: &Arguments, standard_input: &mut dyn Read, paint: Paint) -> Step<Outcome> {

@@ -10,13 +10,15 @@ Usage: circtool SUBCOMMAND [OPTIONS] [FILE]
   explain  a run: each request and reply in words, and why it was refused
   run      a run: one reply for each request; can write the image after it
   show     the state in an image
+  page     the access page of an object in an image
   compare  two images: equal, or where they differ and which requests show it
   help     this text, or that of a subcommand
 
 'circtool help SUBCOMMAND' says more. --version prints the version.
 Where no file or '-' is given, standard input is read. Every reply and every acceptance comes from the proved library.
 
-Exit status: 0 fine; 1 a table or image is refused, or two images differ; 2 usage, or input that cannot be read.
+Exit status: 0 fine; 1 a table or image is refused, an object is not live, or two images differ; 2 usage, or input that
+cannot be read.
 ";
 
 pub const ASM: &str = "\
@@ -105,6 +107,23 @@ Example: circtool show marked.img
 Exit status: 0 fine; 1 the image is refused; 2 usage, or a file that cannot be read.
 ";
 
+pub const PAGE: &str = "\
+Usage: circtool page IMAGE OBJECT ..
+       circtool page --all [IMAGE]
+
+Prints the access page of each object, o0 to o63, or with --all of every live one: under its owner and its label or 'no
+label' the page as the library writes it, a line for each subject and a last line.
+
+  01 rwae r--- 1       s1 has the rights r, w, a and e and holds r, which is one access
+  to 01 00 00 00 01    one subject holds r, none w, a or e; the total is one access
+
+Where one of the objects is not live, no page is printed.
+
+Example: circtool page marked.img o1
+
+Exit status: 0 fine; 1 the image is refused, or an object is not live; 2 usage, or a file that cannot be read.
+";
+
 pub const COMPARE: &str = "\
 Usage: circtool compare A B
 
@@ -125,6 +144,7 @@ pub fn of(subcommand: &str) -> Option<&'static str> {
         "explain" => EXPLAIN,
         "run" => RUN,
         "show" => SHOW,
+        "page" => PAGE,
         "compare" => COMPARE,
         _ => return None,
     })

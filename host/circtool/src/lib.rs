@@ -17,6 +17,7 @@ mod kinds;
 pub mod layout;
 pub mod level;
 pub mod mode;
+pub mod page;
 pub mod paint;
 pub mod properties;
 pub mod refusal;

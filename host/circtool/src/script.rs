@@ -127,7 +127,7 @@ impl<'a> Line<'a> {
 }
 
 /// A word as an error shows it: what nobody sees and what a terminal would obey stands by its code, and a long word is cut.
-fn quoted(word: &str) -> String {
+pub fn quoted(word: &str) -> String {
     let most = 40;
     let start: String = word.chars().take(most).map(printable).collect();
     format!("'{start}{}'", if word.chars().count() > most { ".." } else { "" })

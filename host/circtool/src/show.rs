@@ -43,8 +43,13 @@ fn label(object: &Object, paint: Paint) -> String {
     }
 }
 
+/// An object with its owner and label.
+pub fn object_line(number: usize, object: &Object, paint: Paint) -> String {
+    format!("o{number:<3} owner s{:<3} {}\n", object.owner, label(object, paint))
+}
+
 fn object_lines(number: usize, object: &Object, paint: Paint) -> String {
-    let mut lines = format!("  o{number:<3} owner s{:<3} {}\n", object.owner, label(object, paint));
+    let mut lines = format!("  {}", object_line(number, object, paint));
     for subject in 0..SUBJECTS {
         let (rights, held) = (object.rights[subject], object.held[subject]);
         if !rights.is_empty() || !held.is_empty() {
