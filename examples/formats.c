@@ -1,5 +1,6 @@
-/* Tables, requests and images by their bits, written from docs/FORMATS.md alone: a table with three subjects, each of the
- * seven kinds of request, and the record of an object read out of the image. docs/FORMATS.md builds and runs it. */
+/* Tables, requests and images by their bits, and a page by its characters, written from docs/FORMATS.md alone: a table with
+ * three subjects, each of the seven kinds of request, the record of an object read out of the image, and its access page.
+ * docs/FORMATS.md builds and runs it. */
 #include "circmon.h"
 #include <stdio.h>
 
@@ -67,6 +68,21 @@ static void show_object(const uint8_t *image, unsigned object) {
     }
 }
 
+/* The fields of a page are text at fixed places. */
+static void show_page(const uint8_t *image, unsigned object) {
+    circmon_unit unit;
+    uint8_t page[CIRCMON_PAGE_BYTES];
+    const char *text = (const char *)page, *last = text + 240;
+    circmon_open(&unit, image, CIRCMON_IMAGE_BYTES);
+    printf("the page of o%u: %d\n", object, circmon_page(&unit, (uint8_t)object, page, sizeof page));
+    for (const char *line = text; line < last; line += 15) {
+        if (line[13] != '0') {
+            printf("    s%.2s: rights %.4s, accesses %.4s, in number %c\n", line, line + 3, line + 8, line[13]);
+        }
+    }
+    printf("    holders: r %.2s, w %.2s, a %.2s, e %.2s, total %.2s\n", last + 3, last + 6, last + 9, last + 12, last + 15);
+}
+
 static const struct request requests[] = {
     {"s1 creates o1 with e", CREATE, 1, 0, 1, E, 0, 0},
     {"s1 changes the level of o1 to class 2 needs {0}", CHANGE_LEVEL, 1, 0, 1, NONE, 2, 0x0001},
@@ -95,5 +111,6 @@ int main(void) {
     }
     hex("bytes 61 to 66 of the image\n", image + 61, 6);
     show_object(image, 1);
+    show_page(image, 1);
     return 0;
 }

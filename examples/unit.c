@@ -1,5 +1,5 @@
-/* A unit in C: it starts from an enrolment table, answers requests in memory, saves its state as an image and opens it
- * again; and a request on an image alone. docs/EMBEDDING.md builds and runs it. */
+/* A unit in C: it starts from an enrolment table, answers requests in memory, writes the access page of an object, saves its
+ * state as an image and opens it again; and a request on an image alone. docs/EMBEDDING.md builds and runs it. */
 #include "circmon.h"
 #include <stdio.h>
 #include <string.h>
@@ -21,11 +21,15 @@ static const uint8_t release[CIRCMON_REQUEST_BYTES] = {0x20, 0x80, 0x01, 0x00, 0
 int main(void) {
     circmon_unit unit, again;
     uint8_t saved[CIRCMON_IMAGE_BYTES], image[CIRCMON_IMAGE_BYTES], telling[CIRCMON_DISTINGUISH_BYTES];
+    uint8_t page[CIRCMON_PAGE_BYTES];
     printf("start: %d\n", circmon_start(&unit, table, sizeof table));
     for (size_t i = 0; i < sizeof requests / sizeof *requests; i++) {
         uint8_t reply = circmon_ask(&unit, requests[i].bytes, CIRCMON_REQUEST_BYTES);
         printf("%s: %d, %s\n", requests[i].words, reply, reply < 2 ? "granted" : "refused");
     }
+    /* the page is text for a terminal */
+    printf("page of o0: %d\n", circmon_page(&unit, 0, page, sizeof page));
+    fwrite(page, 1, sizeof page, stdout);
     /* the image is the whole state */
     printf("save: %d\n", circmon_save(&unit, saved, sizeof saved));
     printf("open: %d\n", circmon_open(&again, saved, sizeof saved));
