@@ -3,36 +3,14 @@
 
 mod shared;
 
-use circmon::Unit;
+use circmon::{Unit, PAGE_BYTES};
 use circtool::words::hex;
 use load::Random;
 use reference::{Kind, Monitor, Request};
+use shared::formats::{fields, page, table, Fields};
 use sidebyside::{compiled, image, root, SHAPES};
 use std::collections::BTreeMap;
 use std::process::Command;
-
-fn page() -> String {
-    std::fs::read_to_string(root().join("docs/FORMATS.md")).unwrap()
-}
-
-/// The cells of the table whose headings begin so.
-fn table(heading: &str) -> Vec<Vec<String>> {
-    let page = page();
-    let mut lines = page.lines().skip_while(|line| !line.starts_with(&format!("| {heading} |")));
-    assert!(lines.next().is_some(), "no table of {heading}");
-    let cells = |line: &str| line.trim_matches('|').split('|').map(|cell| cell.trim().to_string()).collect();
-    let rows: Vec<Vec<String>> = lines.skip(1).take_while(|line| line.starts_with('|')).map(cells).collect();
-    assert!(rows.len() >= 3, "{rows:?}");
-    rows
-}
-
-/// The first bit and the width of each field.
-type Fields = BTreeMap<String, (usize, usize)>;
-
-fn fields(heading: &str) -> Fields {
-    let number = |cell: &String| cell.parse().unwrap();
-    table(heading).iter().map(|row| (row[0].clone(), (number(&row[1]), number(&row[2])))).collect()
-}
 
 /// The number in a field of a record that begins at this bit.
 fn read(bytes: &[u8], at: usize, (first, width): (usize, usize)) -> u64 {
@@ -230,6 +208,12 @@ fn the_worked_examples_are_what_the_library_reads_and_writes() {
         assert_eq!(unit.ask(&bytes), 0);
     }
     assert_eq!(unit.image()[61..67], in_image);
+    let mut written = [0; PAGE_BYTES];
+    assert_eq!(unit.page(1, &mut written), 0);
+    let (page, written) = (page(), String::from_utf8(written.to_vec()).unwrap());
+    let example = page.lines().skip_while(|line| !line.starts_with("An example: of o1 ")).skip(2).map(str::trim);
+    let lines: Vec<&str> = written.lines().collect();
+    assert_eq!(example.take(3).collect::<Vec<_>>(), [lines[0], lines[1], lines[16]]);
 }
 
 #[test]

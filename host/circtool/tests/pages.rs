@@ -1,12 +1,14 @@
-//! `page`: the access pages of objects, beside those of the second implementation; objects that are not live, refused images
-//! and bad words.
+//! `page`: the access pages of objects, beside those of the second implementation and the tables of docs/FORMATS.md; objects
+//! that are not live, refused images and bad words.
 
 mod shared;
 
 use circtool::input::Input;
+use circtool::mode::{Mode, Modes};
 use circtool::page::{pages, Asked};
 use circtool::paint::Paint;
 use reference::{Level, Monitor, Object, OBJECTS, PAGE_BYTES};
+use shared::formats::fields;
 use shared::{circtool, ended, err, folder, out};
 use sidebyside::image;
 
@@ -145,4 +147,43 @@ fn only_an_absent_label_is_coloured() {
     assert_eq!(shared::without_colour(&coloured), text(Paint::PLAIN));
     assert_eq!(coloured.matches('\x1b').count(), 2, "{coloured}");
     assert!(coloured.starts_with("o0   owner s1   \x1b[1;31mno label\x1b[0m (not class 0: "), "{coloured}");
+}
+
+/// The page of an object with each field where docs/FORMATS.md has it, and spaces between.
+fn documented(object: &reference::Object) -> Vec<u8> {
+    let (of_line, of_last) = (fields("field of a line"), fields("field of the last line"));
+    let mut page = vec![b' '; PAGE_BYTES];
+    let mut put = |at: usize, (first, width): (usize, usize), text: &str| {
+        page[at + first..at + first + width].copy_from_slice(text.as_bytes());
+    };
+    for subject in 0..16 {
+        let (rights, held) = (Modes(object.rights[subject]), Modes(object.held[subject]));
+        let (number, count) = (format!("{subject:02}"), held.count().to_string());
+        let texts = [&number, &rights.row(), &held.row(), &count, "\n"];
+        for (field, text) in ["subject", "rights", "held", "count", "newline"].into_iter().zip(texts) {
+            put(15 * subject, of_line[field], text);
+        }
+    }
+    let holders = Mode::ALL.map(|mode| object.held.iter().filter(|&&held| Modes(held).has(mode)).count());
+    for (mode, holders) in Mode::ALL.into_iter().zip(holders) {
+        put(240, of_last[&mode.to_string()], &format!("{holders:02}"));
+    }
+    let total = format!("{:02}", holders.iter().sum::<usize>());
+    for (field, text) in [("to", "to"), ("total", &total), ("newline", "\n")] {
+        put(240, of_last[field], text);
+    }
+    page
+}
+
+#[test]
+fn pages_have_the_fields_of_the_document() {
+    for seed in 0..20 {
+        let monitor = load::rich(seed, 64, 500);
+        let unit = circmon::Unit::from_image(&image(&monitor)).unwrap();
+        for (slot, object) in monitor.objects.iter().enumerate() {
+            let mut written = [0; PAGE_BYTES];
+            assert_eq!(unit.page(slot as u8, &mut written), if object.is_some() { 0 } else { 4 });
+            assert!(object.as_ref().is_none_or(|it| documented(it) == written), "seed {seed}, o{slot}");
+        }
+    }
 }

@@ -2,6 +2,7 @@
 #![allow(dead_code)] // each test program uses a part
 
 pub mod clone;
+pub mod formats;
 
 use load::{Random, Shape};
 use reference::Monitor;
