@@ -1,10 +1,10 @@
-//! Whole states: begun, opened, saved, and one request on an image, beside the second implementation.
+//! Whole states: begun, opened, saved, pages of their objects, and one request on an image, beside the second implementation.
 
 use crate::loads::{prepare, shape};
 use crate::timing::{each, median, ROUNDS};
 use circmon::Unit;
 use load::Random;
-use reference::{Kind, Mode, Monitor, Request, IMAGE_BYTES};
+use reference::{Kind, Mode, Monitor, Request, IMAGE_BYTES, OBJECTS, PAGE_BYTES};
 
 /// The microseconds of the proved monitor and of the second implementation, taken in turns.
 fn row(work: &str, proved: &mut dyn FnMut(), reference: &mut dyn FnMut()) {
@@ -30,6 +30,8 @@ pub fn images() {
         units(&monitor, &image, &what);
         calls(&image, &what);
     }
+    pages("page, sparse", false);
+    pages("page, dense", true);
 }
 
 /// The table is short and the image long: a beginning that is written is nearly the time of writing alone.
@@ -55,6 +57,21 @@ fn units(monitor: &Monitor, image: &[u8; IMAGE_BYTES], what: &str) {
     let (mut one, mut two) = ([0; IMAGE_BYTES], [0; IMAGE_BYTES]);
     row(&format!("save, {what}"), &mut || assert_eq!(unit.save(&mut one), 0), &mut || {
         assert_eq!(monitor.write_image(&mut two), 0)
+    });
+    assert_eq!(one, two);
+}
+
+/// The pages of the live objects in turn. What one costs does not depend on how many there are.
+fn pages(work: &str, dense: bool) {
+    let (monitor, _) = prepare(&mut Random::new(7), OBJECTS, dense);
+    let mut image = [0; IMAGE_BYTES];
+    monitor.write_image(&mut image);
+    let unit = Unit::from_image(&image).expect("an image that was written");
+    let live: Vec<u8> = (0..OBJECTS as u8).filter(|&object| monitor.objects[usize::from(object)].is_some()).collect();
+    let (mut ours, mut theirs) = (live.iter().cycle(), live.iter().cycle());
+    let (mut one, mut two) = ([0; PAGE_BYTES], [0; PAGE_BYTES]);
+    row(work, &mut || assert_eq!(unit.page(*ours.next().expect("a live object"), &mut one), 0), &mut || {
+        assert_eq!(monitor.write_page(*theirs.next().expect("a live object"), &mut two), 0)
     });
     assert_eq!(one, two);
 }
