@@ -15,7 +15,7 @@ Usage: circtool SUBCOMMAND [OPTIONS] [FILE]
   help     this text, or that of a subcommand
 
 'circtool help SUBCOMMAND' says more. --version prints the version.
-Where no file or '-' is given, standard input is read. Every reply and every acceptance comes from the proved library.
+Where no file or '-' is given, standard input is read. Every reply, acceptance and page comes from the proved library.
 
 Exit status: 0 fine; 1 a table or image is refused, an object is not live, or two images differ; 2 usage, or input that
 cannot be read.
@@ -117,7 +117,8 @@ label' the page as the library writes it, a line for each subject and a last lin
   01 rwae r--- 1       s1 has the rights r, w, a and e and holds r, which is one access
   to 01 00 00 00 01    one subject holds r, none w, a or e; the total is one access
 
-Where one of the objects is not live, no page is printed.
+Where objects are named, so is the image; '-' is standard input. Where one of them is not live, no page is
+printed.
 
 Example: circtool page marked.img o1
 

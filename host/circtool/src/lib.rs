@@ -1,4 +1,4 @@
-//! What the command `circtool` is made of. Every reply and every acceptance comes from the proved library through the
+//! What the command `circtool` is made of. Every reply, acceptance and page comes from the proved library through the
 //! crate `circmon`; what stands here reads bytes and scripts, finds the words for them, and prints.
 
 mod arguments;
