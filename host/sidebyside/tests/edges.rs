@@ -1,6 +1,6 @@
 //! The edges of every range and length, the last that is allowed and the first that is not, given to both implementations:
 //! subject 15 and 16, object 63 and 64, mode 4 and 5, requests of 5, 6 and 7 bytes, tables of 41, 42 and 43, and buffers of
-//! 1,273 and 1,274.
+//! 1,273 and 1,274, for a page of 257 and 258.
 
 use circmon::{Unit, REQUEST_BYTES};
 use reference::{reply, Level, Monitor, IMAGE_BYTES, OBJECTS, SUBJECTS, TABLE_BYTES};
@@ -108,5 +108,28 @@ fn buffers_of_1273_and_1274_bytes() {
         let read = if length == 1274 { 0 } else { reply::LENGTH };
         assert_eq!(circmon::read(&proved), read, "{length} bytes");
         assert_eq!(Monitor::from_image(&second).err().unwrap_or(0), read, "{length} bytes");
+    }
+}
+
+#[test]
+fn pages_of_objects_63_and_64_in_257_and_258_bytes() {
+    let mut both = Both::new();
+    assert_eq!(both.request(&fields(CREATE, 0, 0, 63, 0)), reply::CHANGED);
+    for (object, length, number) in [
+        (63, 257, reply::SHORT_BUFFER),
+        (63, 258, 0),
+        (63, 259, 0),
+        (62, 257, reply::NOT_LIVE),
+        (62, 258, reply::NOT_LIVE),
+        (64, 257, reply::MALFORMED),
+        (64, 258, reply::MALFORMED),
+    ] {
+        let (mut proved, mut second) = (vec![LEFT; length], vec![LEFT; length]);
+        assert_eq!(both.unit.page(object, &mut proved), number, "o{object}, {length} bytes");
+        assert_eq!(both.monitor.write_page(object, &mut second), number, "o{object}, {length} bytes");
+        assert_eq!(proved, second, "o{object}, {length} bytes");
+        let written = if number == 0 { 258 } else { 0 };
+        assert!(proved[..written].iter().all(|&byte| byte != LEFT), "o{object}, {length} bytes: what is written");
+        assert!(proved[written..].iter().all(|&byte| byte == LEFT), "o{object}, {length} bytes: what is left");
     }
 }
