@@ -76,6 +76,7 @@ impl Seen {
         let mut sum = 0;
         for line in lines {
             let held = number(&line[13..]);
+            assert_eq!(usize::from(held), line[8..12].iter().filter(|&&letter| letter != b'-').count(), "{what}");
             self.held.note(held);
             for (place, &letter) in line[3..7].iter().chain(&line[8..12]).enumerate() {
                 assert!([b"rwae"[place % 4], b'-'].contains(&letter), "{what}: {letter}");
