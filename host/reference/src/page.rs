@@ -23,64 +23,48 @@ impl Monitor {
         if buffer.len() < PAGE_BYTES {
             return reply::SHORT_BUFFER;
         }
-        let mut text = Text { bytes: &mut buffer[..PAGE_BYTES], at: 0 };
+        let (lines, last) = buffer[..PAGE_BYTES].split_at_mut(SUBJECTS * LINE);
         let mut total = 0;
-        for subject in 0..SUBJECTS {
-            total += write_line(&mut text, object, subject);
+        for (subject, line) in lines.chunks_exact_mut(LINE).enumerate() {
+            total += write_line(line, object, subject);
         }
-        write_last_line(&mut text, object, total);
+        write_last_line(last, object, total);
         reply::CHANGED
     }
 }
 
 /// Writes the line of a subject, and returns how many accesses it holds.
-fn write_line(text: &mut Text, object: &Object, subject: usize) -> u8 {
+fn write_line(line: &mut [u8], object: &Object, subject: usize) -> u8 {
     let held = object.held[subject];
     let count = Mode::ALL.iter().map(|mode| u8::from(held & mode.bit() != 0)).sum();
-    text.two_digits(subject as u8);
-    text.put(b' ');
-    text.modes(object.rights[subject]);
-    text.put(b' ');
-    text.modes(held);
-    text.put(b' ');
-    text.put(b'0' + count);
-    text.put(b'\n');
+    line.fill(b' ');
+    two_digits(&mut line[0..2], subject as u8);
+    modes(&mut line[3..7], object.rights[subject]);
+    modes(&mut line[8..12], held);
+    line[13] = b'0' + count;
+    line[14] = b'\n';
     count
 }
 
-fn write_last_line(text: &mut Text, object: &Object, total: u8) {
-    text.put(b't');
-    text.put(b'o');
-    text.put(b' ');
-    for mode in Mode::ALL {
-        text.two_digits(object.held.iter().map(|held| u8::from(held & mode.bit() != 0)).sum());
-        text.put(b' ');
+fn write_last_line(line: &mut [u8], object: &Object, total: u8) {
+    line.fill(b' ');
+    line[0..2].copy_from_slice(b"to");
+    for (at, mode) in [3, 6, 9, 12].into_iter().zip(Mode::ALL) {
+        let holders = object.held.iter().map(|held| u8::from(held & mode.bit() != 0)).sum();
+        two_digits(&mut line[at..at + 2], holders);
     }
-    text.two_digits(total);
-    text.put(b'\n');
+    two_digits(&mut line[15..17], total);
+    line[17] = b'\n';
 }
 
-/// Characters that are written one behind the other.
-struct Text<'a> {
-    bytes: &'a mut [u8],
-    at: usize,
+fn two_digits(place: &mut [u8], number: u8) {
+    place[0] = b'0' + number / 10;
+    place[1] = b'0' + number % 10;
 }
 
-impl Text<'_> {
-    fn put(&mut self, character: u8) {
-        self.bytes[self.at] = character;
-        self.at += 1;
-    }
-
-    fn two_digits(&mut self, number: u8) {
-        self.put(b'0' + number / 10);
-        self.put(b'0' + number % 10);
-    }
-
-    /// Each mode of the set at its own place, or a dash there.
-    fn modes(&mut self, set: u8) {
-        for (mode, letter) in Mode::ALL.into_iter().zip(*b"rwae") {
-            self.put(if set & mode.bit() != 0 { letter } else { b'-' });
-        }
+/// Each mode of the set at its own place, or a dash there.
+fn modes(places: &mut [u8], set: u8) {
+    for (at, mode) in Mode::ALL.into_iter().enumerate() {
+        places[at] = if set & mode.bit() != 0 { b"rwae"[at] } else { b'-' };
     }
 }
