@@ -1,7 +1,7 @@
 //! What `--help` prints.
 
 pub const GENERAL: &str = "\
-circtool: scripts, explanations, states and comparisons for the monitor circmon
+circtool: scripts, explanations, states, access pages and comparisons for the monitor circmon
 
 Usage: circtool SUBCOMMAND [OPTIONS] [FILE]
 
