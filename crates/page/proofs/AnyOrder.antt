@@ -1,12 +1,10 @@
 -- Every list in which each of the four modes stands once is an order of them, and the holders printed add up to the total in each.
 -- Assumes nothing.
-use Prim.Native.Nat.{ℕ}
 use mathlib.Core.Path.{_≡_, refl, sym, ap, _∙_}
 use mathlib.Core.Bool.{true}
-use mathlib.Core.List.{List}
+use mathlib.Core.List.{List, [], _∷_}
 use lib.ListN.{getD}
 use borrow.Author.Tests.{eqb-true, eq-eqb}
-use Rattle.bits.specs.Bits.{bit}
 use Rattle.model.specs.declared.Mode.{Mode}
 use Rattle.model.specs.declared.Mode.the-variants.{Read, Write, Append, Execute}
 use Rattle.model.specs.declared.Object.{Object}
@@ -41,3 +39,15 @@ any-order ms h = orders-counted sameMode same-mode (λ x. eq-eqb (place x) (plac
 -- "the sum over the four modes in any order is the same number"
 pub printed-each-once : (ob : Object) (ms : List Mode) → ((x : Mode) → timesIn sameMode x ms ≡ 1) → sumOver ms (holdersPrinted (page ob)) ≡ totalPrinted (page ob)
 printed-each-once ob ms h = printed-in-any-order ob ms (any-order ms h)
+
+-- computed: another order, and a list that is none
+pub backwards-once : (x : Mode) → timesIn sameMode x (Execute ∷ Append ∷ Write ∷ Read ∷ []) ≡ 1
+unfolding sumOver
+backwards-once Read = refl
+backwards-once Write = refl
+backwards-once Append = refl
+backwards-once Execute = refl
+
+pub twice-is-not-once : timesIn sameMode Read (Read ∷ Read ∷ Write ∷ Append ∷ []) ≡ 2
+unfolding sumOver
+twice-is-not-once = refl

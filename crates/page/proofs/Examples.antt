@@ -1,10 +1,13 @@
 -- Pages of small objects, computed: each expected list is a line of text, character by character.
 -- Assumes nothing.
+use Prim.Native.Nat.{ℕ}
+use native.Mathlib.Omega.{arith}
 use mathlib.Core.Path.{_≡_, refl}
-use mathlib.Core.Bool.{false}
+use mathlib.Core.Bool.{true, false}
 use mathlib.Core.List.{List, [], _∷_, _++_}
-use lib.ListN.{length, take, drop, replicate}
+use lib.ListN.{take, drop, replicate}
 use Rattle.bits.specs.Bits.{join}
+use Rattle.model.specs.declared.Mode.the-variants.{Read, Write, Append, Execute}
 use Rattle.model.specs.declared.Object.{Object}
 use Rattle.model.specs.declared.Decision.the-variants.{MalformedRequest, NotLive, ShortBuffer, Granted}
 use Rattle.model.specs.Tests.{unless}
@@ -12,7 +15,8 @@ use Rattle.model.specs.Modes.{has}
 use Rattle.model.specs.State.{noObject, withOwner, withRows, withObject, emptyMonitor}
 use Rattle.model.specs.Buffers.{tooShort}
 use Rattle.orders.specs.Sums.{sumBelow, sumOver}
-use Rattle.page.specs.Page.{mark, modeCount, line, lines, holders, total, lastLine, page, paging, paged}
+use Rattle.page.specs.Page.{mark, modeCount, line, lines, holders, total, lastLine, page, paging}
+use Rattle.page.specs.Printed.{IsDigit, rightShown, accessShown, subjectPrinted, heldPrinted, holdersPrinted, totalPrinted}
 
 -- subject 1 has r, w and e and holds r and e; subject 2 has a and holds it; subject 15 has and holds all four
 abbrev shared : Object
@@ -34,7 +38,7 @@ pub line-above-fifteen : line 10 246 24 ≡ 49 ∷ 48 ∷ 32 ∷ 45 ∷ 119 ∷ 
 unfolding line mark modeCount has sumOver
 line-above-fifteen = refl
 
--- nobody has or holds anything in the line of subject 0, whether it is enrolled or not
+-- subject 0 has and holds nothing
 -- `00 ---- ---- 0`
 pub first-line : take 15 (page shared) ≡ 48 ∷ 48 ∷ 32 ∷ 45 ∷ 45 ∷ 45 ∷ 45 ∷ 32 ∷ 45 ∷ 45 ∷ 45 ∷ 45 ∷ 32 ∷ 48 ∷ 10 ∷ []
 unfolding page lines lastLine join line mark modeCount holders total has sumOver sumBelow
@@ -60,3 +64,20 @@ above-first = (refl, refl)
 pub room-for-a-page : (paging (withObject emptyMonitor 0 shared) 0 (replicate 257 7) ≡ ShortBuffer) × (paging (withObject emptyMonitor 0 shared) 0 (replicate 258 7) ≡ Granted)
 unfolding paging unless tooShort
 room-for-a-page = (refl, refl)
+
+-- ten characters are digits, their neighbours are none
+pub only-digits : (IsDigit 47 → ⊥) × IsDigit 48 × IsDigit 57 × (IsDigit 58 → ⊥)
+only-digits = (λ d. absurd (omega (arith, d .0)), (omega arith, omega arith), (omega arith, omega arith), λ d. absurd (omega (arith, d .1)))
+
+-- what is read off characters, whatever stands around them: a line `15 rwae -w-- 7`, alone and behind fifteen other bytes
+abbrev odd-line : List ℕ
+odd-line = 49 ∷ 53 ∷ 32 ∷ 114 ∷ 119 ∷ 97 ∷ 101 ∷ 32 ∷ 45 ∷ 119 ∷ 45 ∷ 45 ∷ 32 ∷ 55 ∷ 10 ∷ []
+
+pub line-read : (subjectPrinted odd-line 0 ≡ 15) × (subjectPrinted (replicate 15 0 ++ odd-line) 1 ≡ 15) × (heldPrinted odd-line 0 ≡ 7) × (heldPrinted (replicate 15 0 ++ odd-line) 1 ≡ 7)
+    × (rightShown odd-line 0 Append ≡ true) × (accessShown odd-line 0 Write ≡ true) × (accessShown odd-line 0 Read ≡ false)
+line-read = (refl, refl, refl, refl, refl, refl, refl)
+
+-- and a last line `to 10 23 45 67 89`
+pub last-read : (p : List ℕ) → p ≡ replicate 240 0 ++ (116 ∷ 111 ∷ 32 ∷ 49 ∷ 48 ∷ 32 ∷ 50 ∷ 51 ∷ 32 ∷ 52 ∷ 53 ∷ 32 ∷ 54 ∷ 55 ∷ 32 ∷ 56 ∷ 57 ∷ 10 ∷ [])
+    → (holdersPrinted p Read ≡ 10) × (holdersPrinted p Write ≡ 23) × (holdersPrinted p Append ≡ 45) × (holdersPrinted p Execute ≡ 67) × (totalPrinted p ≡ 89)
+last-read p e = rw e (refl, refl, refl, refl, refl)

@@ -2,10 +2,9 @@
 -- Assumes nothing.
 use Prim.Native.Nat.{ℕ, _<_, _≤_}
 use mathlib.Core.Path.{_≡_, refl, sym, ap, _∙_}
-use mathlib.Core.Bool.{Bool, true, false, not, cond}
+use mathlib.Core.Bool.{true, false}
 use mathlib.Core.List.{List}
-use lib.ListN.{length, drop}
-use lib.Dec.{ltb}
+use lib.ListN.{length}
 use borrow.Author.Tests.{lt-ltb, le-ltb}
 use Rattle.model.specs.declared.Monitor.{Monitor}
 use Rattle.model.specs.declared.Decision.{Decision}
@@ -13,7 +12,7 @@ use Rattle.model.specs.declared.Decision.the-variants.{Granted, MalformedReques
 use Rattle.model.specs.Tests.{unless}
 use Rattle.model.specs.State.{objectCount, object}
 use Rattle.model.specs.Decisions.{refuses}
-use Rattle.model.specs.Buffers.{tooShort, front}
+use Rattle.model.specs.Buffers.{front}
 use Rattle.model.proofs.Tests.{cond-true, cond-false}
 use Rattle.model.proofs.Buffers.{short-is, room-is}
 use Rattle.page.specs.Page.{page, pageSize, paging, paged}

@@ -1,4 +1,4 @@
--- What stands in a page, place by place: the second entry of its definition, from the words of the request.
+-- What stands in a page, place by place: the second entry of its definition, from the words of the change request.
 -- Assumes nothing.
 use Prim.Native.Nat.{ℕ, zero, suc, _+_, _*_, _/_, _%_, _<_, _≤_}
 use native.Mathlib.Omega.{arith}
@@ -6,7 +6,7 @@ use mathlib.Core.Path.{_≡_, refl, sym, ap, ap₂, subst, _∙_}
 use mathlib.Core.Logic.{⊎-elim}
 use mathlib.Core.Bool.{Bool, true, false, cond}
 use mathlib.Core.List.{List, _++_}
-use lib.ListN.{length, getD, List·getD-append}
+use lib.ListN.{getD, List·getD-append}
 use lib.Seq.{getD-append-add}
 use lib.Dec.{eqb}
 use Rattle.bits.specs.Bits.{bit, join}
@@ -20,9 +20,9 @@ use Rattle.model.proofs.Tests.{le-or-lt}
 use Rattle.orders.specs.Sums.{sumBelow, sumOver}
 use Rattle.orders.specs.Orders.{OrderOf}
 use Rattle.page.specs.Page.{space, newline, dash, letter, modes, mark, modeCount, line, lines, lineSize, holders, total, lastLine, page}
-use Rattle.page.specs.Printed.{charAt, lineChar, lastChar, place, rightShown, accessShown, IsDigit, one, two, subjectPrinted, heldPrinted, holdersPrinted, totalPrinted}
+use Rattle.page.specs.Printed.{lineChar, lastChar, place, rightShown, accessShown, IsDigit, valueOf, valueOfTwo, subjectPrinted, heldPrinted, holdersPrinted, totalPrinted}
 use Rattle.orders.proofs.Sums.{sum-same, sum-over-same}
-use Rattle.page.proofs.Sizes.{count-small, holders-small, total-small, total-in-any-order, line-length, lines-length}
+use Rattle.page.proofs.Sizes.{count-small, holders-small, total-small, total-in-any-order, lines-length}
 
 -- ---- places
 
@@ -52,7 +52,7 @@ module _ (ob : Object) where
 -- ---- digits
 
 -- two digits say a number below 100 and are digits
-two-read : (n : ℕ) → two (digit (n / 10)) (digit (n % 10)) ≡ n
+two-read : (n : ℕ) → valueOfTwo (digit (n / 10)) (digit (n % 10)) ≡ n
 two-read n = omega arith
 
 two-digits : (n : ℕ) → n < 100 → IsDigit (digit (n / 10)) × IsDigit (digit (n % 10))
@@ -123,11 +123,12 @@ module _ (ob : Object) (s : ℕ) (h : s < subjectCount) where
   -- "subject in two digits"
   pub subject-printed : subjectPrinted (page ob) s ≡ s
   unfolding line
-  subject-printed = ap₂ two (line-at ob s 0 h (omega arith)) (line-at ob s 1 h (omega arith)) ∙ two-read s
+  subject-printed = ap₂ valueOfTwo (line-at ob s 0 h (omega arith)) (line-at ob s 1 h (omega arith)) ∙ two-read s
 
-  held-is : heldPrinted (page ob) s ≡ modeCount (heldBy ob s)
+  -- what is printed is the number itself
+  pub held-is : heldPrinted (page ob) s ≡ modeCount (heldBy ob s)
   unfolding line
-  held-is = ap one (line-at ob s 13 h (omega arith)) ∙ omega arith
+  held-is = ap valueOf (line-at ob s 13 h (omega arith)) ∙ omega arith
 
   -- "how many are held in one digit": as many as the line has letters among the accesses held
   pub held-printed : heldPrinted (page ob) s ≡ sumOver modes (λ x. bit (accessShown (page ob) s x))
@@ -161,18 +162,19 @@ module _ (ob : Object) where
   unfolding lastLine join
   total-second = last-at ob 16
 
-  -- "the counts of holders of r, w, a and e in two digits": in as many lines does the mode's letter stand among the accesses held
-  holders-are : (x : Mode) → holdersPrinted (page ob) x ≡ holders ob x
-  holders-are x = ap₂ two (holders-first x) (holders-second x) ∙ two-read (holders ob x)
+  -- what is printed is the number itself
+  pub holders-are : (x : Mode) → holdersPrinted (page ob) x ≡ holders ob x
+  holders-are x = ap₂ valueOfTwo (holders-first x) (holders-second x) ∙ two-read (holders ob x)
 
+  -- "the counts of holders of r, w, a and e in two digits": in as many lines does the mode's letter stand among the accesses held
   pub holders-printed : (x : Mode) → holdersPrinted (page ob) x ≡ sumBelow subjectCount (λ s. bit (accessShown (page ob) s x))
   unfolding holders
   holders-printed x =
       holders-are x
       ∙ sum-same subjectCount (λ s. bit (has x (heldBy ob s))) (λ s. bit (accessShown (page ob) s x)) (λ s h. ap bit (sym (access-shown ob s h x)))
 
-  total-is : totalPrinted (page ob) ≡ total ob
-  total-is = ap₂ two total-first total-second ∙ two-read (total ob)
+  pub total-is : totalPrinted (page ob) ≡ total ob
+  total-is = ap₂ valueOfTwo total-first total-second ∙ two-read (total ob)
 
   -- "The total is the sum down the lines"
   pub total-printed : totalPrinted (page ob) ≡ sumBelow subjectCount (heldPrinted (page ob))

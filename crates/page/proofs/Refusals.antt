@@ -1,16 +1,14 @@
 -- What is answered to a page that is asked for: the first cause, in the order 2, 4, 13; and what the buffer then holds.
 -- Assumes nothing.
-use Prim.Native.Nat.{ℕ, _<_, _≤_}
+use Prim.Native.Nat.{ℕ}
 use native.Mathlib.Omega.{arith}
-use mathlib.Core.Path.{_≡_, refl, sym, ap, _∙_}
-use mathlib.Core.Bool.{Bool, true, false, not}
+use mathlib.Core.Path.{_≡_, refl, ap, _∙_}
 use mathlib.Core.List.{List, [], _∷_}
-use lib.ListN.{length, take, drop}
+use lib.ListN.{take, drop}
 use borrow.Author.Tests.{ltb-true, ltb-false}
 use Rattle.model.specs.declared.Monitor.{Monitor}
 use Rattle.model.specs.declared.Decision.the-variants.{Granted, MalformedRequest, NotLive, ShortBuffer}
 use Rattle.model.specs.State.{objectCount, object}
-use Rattle.model.specs.Decisions.{number, refuses}
 use Rattle.model.specs.Buffers.{tooShort}
 use Rattle.model.proofs.Tests.{apart, not-on, not-off}
 use Rattle.model.proofs.Buffers.{is-short, has-room, front-new, front-later}

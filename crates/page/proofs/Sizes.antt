@@ -14,25 +14,25 @@ use Rattle.model.specs.Modes.{has}
 use Rattle.model.specs.State.{subjectCount, rightsOf, heldBy}
 use Rattle.model.specs.Buffers.{put}
 use Rattle.model.proofs.Buffers.{length-put}
-use Rattle.orders.specs.Sums.{sumBelow, sumOver}
+use Rattle.orders.specs.Sums.{sumOver}
 use Rattle.orders.specs.Orders.{OrderOf}
 use Rattle.page.specs.Page.{modes, modeCount, line, lines, lineSize, holders, total, lastLine, lastSize, page, pageSize}
 use Rattle.orders.proofs.Sums.{sum-order, sum-columns, sum-below-most, sum-over-most}
 
 -- ---- numbers
 
-pub bit-small : (b : Bool) → bit b ≤ 1
-bit-small true = omega arith
-bit-small false = omega arith
+pub bit-most : (b : Bool) → bit b ≤ 1
+bit-most true = omega arith
+bit-most false = omega arith
 
 -- a set has at most four modes, a mode at most sixteen holders, and there are at most 64 accesses
 pub count-small : (set : ℕ) → modeCount set ≤ 4
 unfolding modeCount
-count-small set = sum-over-most modes 1 (λ x. bit (has x set)) (λ x. bit-small (has x set))
+count-small set = sum-over-most modes 1 (λ x. bit (has x set)) (λ x. bit-most (has x set))
 
 pub holders-small : (ob : Object) (x : Mode) → holders ob x ≤ 16
 unfolding holders
-holders-small ob x = sum-below-most subjectCount 1 (λ s. bit (has x (heldBy ob s))) (λ s. bit-small (has x (heldBy ob s)))
+holders-small ob x = sum-below-most subjectCount 1 (λ s. bit (has x (heldBy ob s))) (λ s. bit-most (has x (heldBy ob s)))
 
 pub total-small : (ob : Object) → total ob ≤ 64
 unfolding total

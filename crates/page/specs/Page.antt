@@ -1,4 +1,4 @@
--- The access page of an object: sixteen lines and a last one, as bytes, and what is answered where there is none.
+-- "Access page" (change request §1): the page of an object as bytes, sixteen lines and a last one, and what is answered where there is none.
 -- Assumes nothing.
 use Prim.Native.Nat.{ℕ, zero, suc, _+_, _*_}
 use mathlib.Core.Bool.{Bool, not, cond}
@@ -29,7 +29,7 @@ newline = 10
 abbrev pub dash : ℕ
 dash = 45
 
--- r, w, a, e
+-- "r, w, a, e"
 abbrev pub letter : Mode → ℕ
 letter Read = 114
 letter Write = 119

@@ -28,37 +28,37 @@ place Write = 1
 place Append = 2
 place Execute = 3
 
--- the line of subject s has the mode's letter among the rights, and among the accesses held
+-- the mode's letter stands among "the rights" of a line, and among "the held accesses"
 abbrev pub rightShown : List ℕ → ℕ → Mode → Bool
 rightShown p s x = eqb (lineChar p s (3 + place x)) (letter x)
 
 abbrev pub accessShown : List ℕ → ℕ → Mode → Bool
 accessShown p s x = eqb (lineChar p s (8 + place x)) (letter x)
 
--- "digits"
+-- a decimal digit, 0 to 9
 abbrev pub IsDigit : ℕ → Type 0
 IsDigit c = (48 ≤ c) × (c ≤ 57)
 
--- the number that one digit is, and that two are
-abbrev pub one : ℕ → ℕ
-one c = c - 48
+-- the number that a digit stands for, "in one digit", and that two stand for, "in two digits"
+abbrev pub valueOf : ℕ → ℕ
+valueOf c = c - 48
 
-abbrev pub two : ℕ → ℕ → ℕ
-two c d = 10 * one c + one d
+abbrev pub valueOfTwo : ℕ → ℕ → ℕ
+valueOfTwo c d = 10 * valueOf c + valueOf d
 
--- the subject that a line is of, and how many it says are held
+-- a line's "subject in two digits", and "how many are held in one digit"
 abbrev pub subjectPrinted : List ℕ → ℕ → ℕ
-subjectPrinted p s = two (lineChar p s 0) (lineChar p s 1)
+subjectPrinted p s = valueOfTwo (lineChar p s 0) (lineChar p s 1)
 
 abbrev pub heldPrinted : List ℕ → ℕ → ℕ
-heldPrinted p s = one (lineChar p s 13)
+heldPrinted p s = valueOf (lineChar p s 13)
 
--- the holders of a mode and the total, in the last line
+-- the last line's "counts of holders of r, w, a and e in two digits", and "the total in two digits"
 abbrev pub holdersPrinted : List ℕ → Mode → ℕ
-holdersPrinted p x = two (lastChar p (3 + 3 * place x)) (lastChar p (4 + 3 * place x))
+holdersPrinted p x = valueOfTwo (lastChar p (3 + 3 * place x)) (lastChar p (4 + 3 * place x))
 
 abbrev pub totalPrinted : List ℕ → ℕ
-totalPrinted p = two (lastChar p 15) (lastChar p 16)
+totalPrinted p = valueOfTwo (lastChar p 15) (lastChar p 16)
 
 -- two modes are the same: they have the same place
 abbrev pub sameMode : Mode → Mode → Bool

@@ -4,7 +4,7 @@ ghost use Prim.Native.Nat.{_<_};
 ghost use Rattle.model.specs.State.{objectCount, object};
 ghost use Rattle.unit.specs.Rows.{rowCount, stateIn};
 ghost use Rattle.page.specs.Page.{holders, lastLine};
-use crate::sets::one;
+use crate::sets::bit_of;
 use buffers::two_digits;
 use model::Mode;
 use model::Monitor;
@@ -21,7 +21,7 @@ fn holders(unit: &[[u8; 16]], o: u8, x: Mode) -> u8
     let mut s: usize = 0;
     while s < Monitor::SUBJECTS {
         let held = held_by(unit, o, s as u8);
-        count += one(held, x);
+        count += bit_of(held, x);
         s += 1;
     }
     count

@@ -20,21 +20,21 @@ fn line(s: u8, rights: u8, held: u8) -> [u8; LINE_BYTES]
     ensures { λ r. ⌜ r ≡ line s rights held ⌝ }
 {
     let subject = two_digits(s);
-    let may = marks(rights);
-    let does = marks(held);
+    let first = marks(rights);
+    let second = marks(held);
     [
         subject[0],
         subject[1],
         b' ',
-        may[0],
-        may[1],
-        may[2],
-        may[3],
+        first[0],
+        first[1],
+        first[2],
+        first[3],
         b' ',
-        does[0],
-        does[1],
-        does[2],
-        does[3],
+        second[0],
+        second[1],
+        second[2],
+        second[3],
         b' ',
         b'0' + count(held),
         b'\n',

@@ -36,7 +36,7 @@ pub fn marks(set: u8) -> [u8; 4]
 }
 
 // 1 where the mode is in the set.
-pub fn one(set: u8, x: Mode) -> u8
+pub fn bit_of(set: u8, x: Mode) -> u8
     ensures { λ r. ⌜ r ≡ bit (has x set) ⌝ }
 {
     flag(has(x, set))
@@ -45,9 +45,9 @@ pub fn one(set: u8, x: Mode) -> u8
 pub fn count(set: u8) -> u8
     ensures { λ r. ⌜ r ≡ modeCount set ⌝ }
 {
-    let r = one(set, Mode::Read);
-    let w = one(set, Mode::Write);
-    let a = one(set, Mode::Append);
-    let e = one(set, Mode::Execute);
+    let r = bit_of(set, Mode::Read);
+    let w = bit_of(set, Mode::Write);
+    let a = bit_of(set, Mode::Append);
+    let e = bit_of(set, Mode::Execute);
     r + w + a + e
 }

@@ -17,7 +17,7 @@ use Rattle.model.specs.declared.Decision.the-variants.{Granted, NotEnrolled}
 use Rattle.model.specs.Tests.{implies, unless}
 use Rattle.model.specs.Levels.{levelDominates, dominates, sameLabel}
 use Rattle.model.specs.Modes.{has, add, remove}
-use Rattle.model.specs.State.{enrolled, object}
+use Rattle.model.specs.State.{enrolled, object, heldBy}
 use Rattle.model.specs.Decisions.{number, refuses}
 use Rattle.model.specs.Requests.{fields, modeAllowed, unusedZero, wellFormed, request, creation, decodeFields, decode, pack, encode, InRange}
 use Rattle.model.specs.Rules.{target, simpleAll, starPair, starFrom, starFor, starAll, changed, already, checks, answer, step}
@@ -86,6 +86,9 @@ pub record Shown : Type 0 where
   -- a reply under 2 and one that is not: steps 1 and 2
   pub granted-there : reply (getD markedBytes 0 []) (stateAt 0) ≡ 0
   pub refused-there : reply (getD markedBytes 1 []) (stateAt 1) ≡ 7
+  -- an access that is held, after step 5, and a subject that is not enrolled
+  pub held-there : has Read (heldBy (object (stateAt 5) 0) 1) ≡ true
+  pub absent-there : enrolled (stateAt 5) 15 ≡ false
 
 pub shown : Shown
 unfolding markedBytes rows tableW tableFrom tableForm labelForm labelFrom tableChecks begin readTable allZero bytesToBits toBits odd cut fromBits field decode decodeFields fields wellFormed modeAllowed unusedZero request respond step after checks already changed starAll starFor starFrom starPair implies unless answer simpleAll has add remove sameLabel dominates levelDominates
@@ -99,6 +102,8 @@ shown =
       create-granted = refl;
       granted-there = refl;
       refused-there = refl;
+      held-there = refl;
+      absent-there = refl;
     }
 
 -- replies under 2 and from 2 on, as the theorems ask for them

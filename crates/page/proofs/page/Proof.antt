@@ -1,10 +1,9 @@
 -- `page::page` meets its contract.
 -- Assumes nothing.
-use Prim.Native.Nat.{ℕ, _+_, _*_, _≤_}
+use Prim.Native.Nat.{ℕ, _+_}
 use native.Mathlib.Omega.{arith}
-use mathlib.Core.Path.{_≡_, refl, sym, ap, ap₂, _∙_}
+use mathlib.Core.Path.{_≡_, sym, ap, ap₂, _∙_}
 use mathlib.Core.List.{List, _++_}
-use lib.ListN.{length}
 use Rattle.model.specs.declared.Object.{Object}
 use Rattle.model.specs.State.{subjectCount, object}
 use Rattle.model.specs.Buffers.{put, front}
@@ -12,7 +11,7 @@ use Rattle.model.proofs.Tests.{not-on, not-off}
 use Rattle.model.proofs.Buffers.{put-more, put-front}
 use Rattle.unit.specs.Rows.{stateIn}
 use Rattle.page.specs.Page.{page, pageSize, lines, lastLine}
-use Rattle.page.proofs.Sizes.{lines-length, lines-put, last-length, page-length}
+use Rattle.page.proofs.Sizes.{lines-length, page-length}
 use Rattle.page.proofs.Paging.{page-above, page-not-live, page-short, page-done}
 use borrow.Author.Needs.{needs}
 use Rattle.page.proofs.page.Statement.{statement}

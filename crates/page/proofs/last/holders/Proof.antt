@@ -1,8 +1,8 @@
 -- `page::last::holders` meets its contract: after s turns the holders among the subjects below s are counted.
 -- Assumes nothing.
-use Prim.Native.Nat.{ℕ, _-_, _+_, _≤_}
+use Prim.Native.Nat.{_-_, _+_, _≤_}
 use native.Mathlib.Omega.{arith}
-use mathlib.Core.Path.{_≡_, refl, sym, ap, ap₂, _∙_}
+use mathlib.Core.Path.{_≡_, ap, ap₂, _∙_}
 use borrow.Author.Needs.{needs}
 use Rattle.bits.specs.Bits.{bit}
 use Rattle.model.specs.Modes.{has}
@@ -11,7 +11,7 @@ use Rattle.unit.specs.Rows.{stateIn}
 use Rattle.orders.specs.Sums.{sumBelow}
 use Rattle.page.specs.Page.{holders}
 use Rattle.orders.proofs.Sums.{no-sum, sum-more}
-use Rattle.page.proofs.Sizes.{bit-small}
+use Rattle.page.proofs.Sizes.{bit-most}
 use Rattle.page.proofs.last.holders.Statement.{statement}
 use Rattle.page.proofs.last.holders.Tie as tie
 
@@ -30,11 +30,11 @@ cast-held-by c = search needs
 held-by-requires : tie.Need-held-by-requires Inv-loop μ-loop
 held-by-requires c κs = search needs
 
-one-requires : tie.Need-one-requires Inv-loop μ-loop
-one-requires c κs = search needs
+bit-of-requires : tie.Need-bit-of-requires Inv-loop μ-loop
+bit-of-requires c κs = search needs
 
 add-count : tie.Need-add-count Inv-loop μ-loop
-add-count c = omega (arith, c .before .before .before .loop .inv .0, c .before .before .before .loop .inv .1, c .one .ensures, bit-small (has (c .before .before .before .before .args .x) (c .before .held-by .result)))
+add-count c = omega (arith, c .before .before .before .loop .inv .0, c .before .before .before .loop .inv .1, c .bit-of .ensures, bit-most (has (c .before .before .before .before .args .x) (c .before .held-by .result)))
 
 add-s : tie.Need-add-s Inv-loop μ-loop
 add-s c = search needs
@@ -50,8 +50,8 @@ loop-again c =
     let x = start .args .x in
     let ob = object (stateIn (start .args .unit .now)) (start .args .o) in (
       omega (arith, c .before .before .loop-test .taken),
-      omega (arith, loop .inv .1, c .one .ensures, bit-small (has x (held .result))),
-      ap₂ (λ n k. n + k) (loop .inv .2) (c .one .ensures ∙ ap (λ h. bit (has x h)) (held .ensures))
+      omega (arith, loop .inv .1, c .bit-of .ensures, bit-most (has x (held .result))),
+      ap₂ (λ n k. n + k) (loop .inv .2) (c .bit-of .ensures ∙ ap (λ h. bit (has x h)) (held .ensures))
           ∙ sum-more (loop .s) (λ t. bit (has x (heldBy ob t))),
     )
 
@@ -72,7 +72,7 @@ holders-spec =
     loop-holds
     cast-held-by
     held-by-requires
-    one-requires
+    bit-of-requires
     add-count
     add-s
     loop-less

@@ -36,23 +36,18 @@ two-digits-requires-3 c κs = search needs
 two-digits-requires-4 : tie.Need-two-digits-requires-4
 two-digits-requires-4 c κs = search needs
 
-add-two-digits : tie.Need-add-two-digits
-add-two-digits c =
-    let start = c .before .before .before .before .before .before .before .before in
-    let ob = object (stateIn (start .args .unit .now)) (start .args .o) in
-    omega (arith, over-modes (holders ob), total-over-modes ob, total-small ob, c .before .before .before .before .before .before .before .holders .ensures, c .before .before .before .before .before .before .holders2 .ensures, c .before .before .before .before .before .holders3 .ensures, c .before .before .before .before .holders4 .ensures)
-
-add-two-digits-2 : tie.Need-add-two-digits-2
-add-two-digits-2 c =
-    let start = c .before .before .before .before .before .before .before .before in
-    let ob = object (stateIn (start .args .unit .now)) (start .args .o) in
-    omega (arith, over-modes (holders ob), total-over-modes ob, total-small ob, c .before .before .before .before .before .before .before .holders .ensures, c .before .before .before .before .before .before .holders2 .ensures, c .before .before .before .before .before .holders3 .ensures, c .before .before .before .before .holders4 .ensures)
-
 add-two-digits-3 : tie.Need-add-two-digits-3
 add-two-digits-3 c =
     let start = c .before .before .before .before .before .before .before .before in
     let ob = object (stateIn (start .args .unit .now)) (start .args .o) in
     omega (arith, over-modes (holders ob), total-over-modes ob, total-small ob, c .before .before .before .before .before .before .before .holders .ensures, c .before .before .before .before .before .before .holders2 .ensures, c .before .before .before .before .before .holders3 .ensures, c .before .before .before .before .holders4 .ensures)
+
+-- the parts of the sum are smaller
+add-two-digits : tie.Need-add-two-digits
+add-two-digits c = omega (arith, add-two-digits-3 c)
+
+add-two-digits-2 : tie.Need-add-two-digits-2
+add-two-digits-2 c = omega (arith, add-two-digits-3 c)
 
 two-digits-requires-5 : tie.Need-two-digits-requires-5
 two-digits-requires-5 c κs = search needs

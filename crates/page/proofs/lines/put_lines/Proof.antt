@@ -1,15 +1,15 @@
 -- `page::lines::put_lines` meets its contract: after s turns the lines of the subjects below s are put.
 -- Assumes nothing.
-use Prim.Native.Nat.{ℕ, _-_, _+_, _*_, _≤_}
+use Prim.Native.Nat.{_-_, _*_, _≤_}
 use native.Mathlib.Omega.{arith}
-use mathlib.Core.Path.{_≡_, refl, sym, ap, ap₂, _∙_}
+use mathlib.Core.Path.{_≡_, ap, ap₂, _∙_}
 use lib.ListN.{length}
 use borrow.Author.Needs.{needs}
 use Rattle.model.specs.State.{subjectCount, object}
 use Rattle.model.specs.Buffers.{put}
-use Rattle.model.proofs.Buffers.{put-none, put-more, length-put}
+use Rattle.model.proofs.Buffers.{put-none, put-more}
 use Rattle.unit.specs.Rows.{stateIn}
-use Rattle.page.specs.Page.{line, lines, pageSize}
+use Rattle.page.specs.Page.{line, lines}
 use Rattle.page.proofs.Sizes.{line-length, lines-length, lines-more, no-lines, lines-put}
 use Rattle.page.proofs.lines.put_lines.Statement.{statement}
 use Rattle.page.proofs.lines.put_lines.Tie as tie

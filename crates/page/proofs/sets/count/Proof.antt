@@ -1,7 +1,6 @@
 -- `page::sets::count` meets its contract: the sum is at most four, and so is each part of it.
 -- Assumes nothing.
 use native.Mathlib.Omega.{arith}
-use mathlib.Core.Path.{sym, ap, ap₂, _∙_}
 use Rattle.bits.specs.Bits.{bit}
 use Rattle.model.specs.Modes.{has}
 use Rattle.page.specs.Page.{modeCount}
@@ -10,23 +9,23 @@ use borrow.Author.Needs.{needs}
 use Rattle.page.proofs.sets.count.Statement.{statement}
 use Rattle.page.proofs.sets.count.Tie as tie
 
-one-requires : tie.Need-one-requires
-one-requires c κs = search needs
+bit-of-requires : tie.Need-bit-of-requires
+bit-of-requires c κs = search needs
 
-one-requires-2 : tie.Need-one-requires-2
-one-requires-2 c κs = search needs
+bit-of-requires-2 : tie.Need-bit-of-requires-2
+bit-of-requires-2 c κs = search needs
 
-one-requires-3 : tie.Need-one-requires-3
-one-requires-3 c κs = search needs
+bit-of-requires-3 : tie.Need-bit-of-requires-3
+bit-of-requires-3 c κs = search needs
 
-one-requires-4 : tie.Need-one-requires-4
-one-requires-4 c κs = search needs
+bit-of-requires-4 : tie.Need-bit-of-requires-4
+bit-of-requires-4 c κs = search needs
 
 returns : tie.Need-returns
 unfolding modeCount
 returns c =
     let set = c .before .before .before .before .args .set in
-    omega (arith, over-modes (λ x. bit (has x set)), c .before .before .before .one .ensures, c .before .before .one2 .ensures, c .before .one3 .ensures, c .one4 .ensures)
+    omega (arith, over-modes (λ x. bit (has x set)), c .before .before .before .bit-of .ensures, c .before .before .bit-of2 .ensures, c .before .bit-of3 .ensures, c .bit-of4 .ensures)
 
 add-result : tie.Need-add-result
 add-result c = omega (arith, returns c, count-small (c .before .before .before .before .args .set))
@@ -41,10 +40,10 @@ pub count-spec : {M : Type 1} → statement M
 count-spec =
     tie.close
     (tie.spec
-    one-requires
-    one-requires-2
-    one-requires-3
-    one-requires-4
+    bit-of-requires
+    bit-of-requires-2
+    bit-of-requires-3
+    bit-of-requires-4
     add-result
     add-result-2
     add-result-3

@@ -1,6 +1,6 @@
 -- `page::sets::mark` meets its contract.
 -- Assumes nothing.
-use mathlib.Core.Path.{sym, ap, _∙_}
+use mathlib.Core.Path.{sym, _∙_}
 use Rattle.model.proofs.Tests.{cond-true, cond-false}
 use Rattle.page.specs.Page.{mark, letter, dash}
 use borrow.Author.Needs.{needs}
