@@ -24,6 +24,7 @@ pub const DISTINGUISH_BYTES: usize = 4 * REQUEST_BYTES;
 /// The characters of a line of an access page and its newline.
 const PAGE_LINE_BYTES: usize = 14 + 1;
 const PAGE_LAST_LINE_BYTES: usize = 17 + 1;
+/// The room that a page asks for.
 pub const PAGE_BYTES: usize = SUBJECTS * PAGE_LINE_BYTES + PAGE_LAST_LINE_BYTES;
 
 /// The length of a slice as the library takes it.

@@ -25,7 +25,9 @@ pub fn asked(arguments: &Arguments) -> Result<Asked, String> {
     let words = arguments.files.get(1..).unwrap_or_default();
     match (arguments.has("--all"), words.is_empty()) {
         (true, true) => Ok(Asked::All),
-        (true, false) => Err("--all and an object exclude each other".to_string()),
+        (true, false) => {
+            Err(format!("expected nothing behind the image and --all, found {}", quoted(&words[0].to_string_lossy())))
+        }
         (false, true) => Err(format!("expected an image and {OBJECT} behind it, or --all")),
         (false, false) => {
             let objects: Result<_, _> = words.iter().map(|word| named(&word.to_string_lossy())).collect();
@@ -35,7 +37,7 @@ pub fn asked(arguments: &Arguments) -> Result<Asked, String> {
 }
 
 fn named(word: &str) -> Result<usize, String> {
-    match numbered(word, 'o', u32::MAX as usize) {
+    match numbered(word, 'o', 1 << 32) {
         Some(object) if object < OBJECTS => Ok(object),
         Some(object) => Err(Malformed::Object(object as u32).to_string()),
         None => Err(format!("expected {OBJECT}, found {}", quoted(word))),
@@ -66,5 +68,6 @@ pub fn pages(input: &Input, asked: &Asked, paint: Paint) -> Result<Vec<u8>, Stri
 }
 
 fn heading(view: &View, object: usize, paint: Paint) -> String {
-    view.objects[object].as_ref().map(|it| object_line(object, it, paint)).unwrap_or_default()
+    let record = view.objects[object].as_ref().expect("the library wrote its page, so it is live");
+    object_line(object, record, paint)
 }

@@ -7,7 +7,7 @@ use circmon::{Unit, PAGE_BYTES};
 use circtool::words::hex;
 use load::Random;
 use reference::{Kind, Monitor, Request};
-use shared::formats::{fields, page, table, Fields};
+use shared::formats::{document, fields, table, Fields};
 use sidebyside::{compiled, image, root, SHAPES};
 use std::collections::BTreeMap;
 use std::process::Command;
@@ -159,7 +159,7 @@ fn the_pictures_have_two_letters_for_each_bit() {
     for (heading, first) in
         [("field of a request", "| kind "), ("field of a subject", "|e| class "), ("field of an object", "|l| owner ")]
     {
-        let page = page();
+        let page = document();
         let line = page.lines().find(|line| line.trim_start().starts_with(first)).unwrap();
         let widths: Vec<usize> = line.trim().trim_matches('|').split('|').map(|cell| cell.len().div_ceil(2)).collect();
         let mut fields: Vec<(usize, usize)> = fields(heading).into_values().collect();
@@ -171,7 +171,7 @@ fn the_pictures_have_two_letters_for_each_bit() {
 
 /// The worked examples: the bits of the fields, the bits of the bytes, and the bytes.
 fn examples() -> Vec<Vec<u8>> {
-    let page = page();
+    let page = document();
     let lines: Vec<&str> = page.lines().collect();
     let bits = |line: &str| line.chars().filter(|letter| "01".contains(*letter)).collect::<String>();
     let mut found = Vec::new();
@@ -210,7 +210,7 @@ fn the_worked_examples_are_what_the_library_reads_and_writes() {
     assert_eq!(unit.image()[61..67], in_image);
     let mut written = [0; PAGE_BYTES];
     assert_eq!(unit.page(1, &mut written), 0);
-    let (page, written) = (page(), String::from_utf8(written.to_vec()).unwrap());
+    let (page, written) = (document(), String::from_utf8(written.to_vec()).unwrap());
     let example = page.lines().skip_while(|line| !line.starts_with("An example: of o1 ")).skip(2).map(str::trim);
     let lines: Vec<&str> = written.lines().collect();
     assert_eq!(example.take(3).collect::<Vec<_>>(), [lines[0], lines[1], lines[16]]);

@@ -117,7 +117,7 @@ fn bad_words_have_status_2() {
         (vec![], neither),
         (vec!["-"], neither),
         (vec!["o7"], neither),
-        (vec!["-", "o7", "--all"], "--all and an object exclude each other"),
+        (vec!["-", "o7", "--all"], "expected nothing behind the image and --all, found 'o7'"),
         (vec!["-", "o64"], "object 64 is above 63"),
         (vec!["-", "o7", "o255"], "object 255 is above 63"),
         (vec!["-", "o99999999999999999999"], "expected an object (o0 to o63), found 'o99999999999999999999'"),

@@ -149,7 +149,7 @@ fn pairs(random: &mut Random) -> Vec<(usize, Mode)> {
 }
 
 /// What lets everybody hold everything on one object, access by access, and then nobody anything in another order.
-fn crowding(random: &mut Random, level: Level) -> (u8, Vec<Request>) {
+fn all_then_nothing(random: &mut Random, level: Level) -> (u8, Vec<Request>) {
     let (owner, object) = (random.below(SUBJECTS), random.below(OBJECTS));
     let by = |actor: usize, kind: Kind| Request { actor, object, kind };
     let mut requests = vec![by(owner, Kind::Create { execute: true }), by(owner, Kind::ChangeLevel(level))];
@@ -167,7 +167,7 @@ fn pages_of_an_object_with_every_number_of_holders() {
     for seed in 0..50 {
         let mut monitor = Monitor::begin([Some(level); SUBJECTS]);
         let mut unit = Unit::from_table(&monitor.table()).unwrap();
-        let (object, requests) = crowding(&mut Random::new(seed), level);
+        let (object, requests) = all_then_nothing(&mut Random::new(seed), level);
         for request in requests {
             let what = format!("seed {seed}: {request:?}");
             let reply = monitor.step(request);

@@ -3,14 +3,14 @@
 use super::root;
 use std::collections::BTreeMap;
 
-pub fn page() -> String {
+pub fn document() -> String {
     std::fs::read_to_string(root().join("docs/FORMATS.md")).unwrap()
 }
 
 /// The cells of the table whose headings begin so.
 pub fn table(heading: &str) -> Vec<Vec<String>> {
-    let page = page();
-    let mut lines = page.lines().skip_while(|line| !line.starts_with(&format!("| {heading} |")));
+    let document = document();
+    let mut lines = document.lines().skip_while(|line| !line.starts_with(&format!("| {heading} |")));
     assert!(lines.next().is_some(), "no table of {heading}");
     let cells = |line: &str| line.trim_matches('|').split('|').map(|cell| cell.trim().to_string()).collect();
     let rows: Vec<Vec<String>> = lines.skip(1).take_while(|line| line.starts_with('|')).map(cells).collect();
