@@ -12,6 +12,7 @@ use unit::held_by;
 
 pub const LAST_BYTES: usize = 18;
 
+// How many subjects hold the mode.
 fn holders(unit: &[[u8; 16]], o: u8, x: Mode) -> u8
     requires { do ⌜ (← ⟦unit.len()⟧) ≡ rowCount ⌝ }
     requires { ⌜ o < objectCount ⌝ }

@@ -16,31 +16,33 @@ use unit::rights_of;
 
 pub const LINE_BYTES: usize = 15;
 
+// The line of a subject, from its two sets.
 fn line(s: u8, rights: u8, held: u8) -> [u8; LINE_BYTES]
     ensures { λ r. ⌜ r ≡ line s rights held ⌝ }
 {
     let subject = two_digits(s);
-    let first = marks(rights);
-    let second = marks(held);
+    let shown_rights = marks(rights);
+    let shown_held = marks(held);
     [
         subject[0],
         subject[1],
         b' ',
-        first[0],
-        first[1],
-        first[2],
-        first[3],
+        shown_rights[0],
+        shown_rights[1],
+        shown_rights[2],
+        shown_rights[3],
         b' ',
-        second[0],
-        second[1],
-        second[2],
-        second[3],
+        shown_held[0],
+        shown_held[1],
+        shown_held[2],
+        shown_held[3],
         b' ',
         b'0' + count(held),
         b'\n',
     ]
 }
 
+// The lines into the first bytes of out.
 pub fn put_lines(out: &mut [u8], unit: &[[u8; 16]], o: u8)
     requires { do ⌜ (← ⟦unit.len()⟧) ≡ rowCount ⌝ }
     requires { ⌜ (o < objectCount) × (pageSize ≤ length (now out)) ⌝ }

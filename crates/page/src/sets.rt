@@ -18,12 +18,14 @@ fn letter(x: Mode) -> u8
     }
 }
 
+// The letter of the mode, or a dash where it is not in the set.
 fn mark(set: u8, x: Mode) -> u8
     ensures { λ r. ⌜ r ≡ mark set x ⌝ }
 {
     if has(x, set) { letter(x) } else { b'-' }
 }
 
+// r, w, a and e, each at its own place.
 pub fn marks(set: u8) -> [u8; 4]
     ensures { λ r. ⌜ r ≡ marks set ⌝ }
 {
@@ -42,6 +44,7 @@ pub fn bit_of(set: u8, x: Mode) -> u8
     flag(has(x, set))
 }
 
+// How many of the four modes are in the set.
 pub fn count(set: u8) -> u8
     ensures { λ r. ⌜ r ≡ modeCount set ⌝ }
 {
