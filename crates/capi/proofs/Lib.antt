@@ -4,3 +4,4 @@ pub mod Numbers
 pub mod Calls
 pub mod UnitRuns
 pub mod Pages
+pub mod Comparing

@@ -2,3 +2,4 @@
 pub mod Boundary
 pub mod Calls
 pub mod UnitRuns
+pub mod Comparing

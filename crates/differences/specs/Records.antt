@@ -14,10 +14,10 @@ use Rattle.model.specs.declared.Mode.{Mode}
 use Rattle.model.specs.declared.Mode.the-variants.{Read}
 use Rattle.model.specs.declared.Request.{Request}
 use Rattle.model.specs.declared.Request.the-variants.{Get, Release, Delete, ChangeLevel}
-use Rattle.model.specs.Levels.{dominates, present, sameLabel}
+use Rattle.model.specs.Levels.{compare, present, sameLabel}
 use Rattle.model.specs.Modes.{has}
 use Rattle.model.specs.State.{subjectCount, objectCount, clearanceAt, objectAt}
-use Rattle.telling.specs.Distinguish.{orElse, search, searchModes, when, differ, toLabel}
+use Rattle.telling.specs.Distinguish.{byComparison, orElse, search, searchModes, when, differ, toLabel}
 use Rattle.differences.specs.declared.sequence.Place.{Place}
 use Rattle.differences.specs.Sequences.{readingAt, requestsOf}
 
@@ -82,15 +82,15 @@ freePlace l =
       object = freeOf objectCount l;
     }
 
--- the level at which s reads; above: b dominates a, below: a dominates b
-unfoldable pub levelApart : Place → ℕ → Level → Level → Bool → Bool → List Request
-levelApart p s a b above below = cond above (cond below [] (requestsOf (readingAt p s b))) (requestsOf (readingAt p s a))
+-- two levels: s reads at the one that the other does not dominate
+unfoldable pub levelApart : Place → ℕ → Level → Level → List Request
+levelApart p s a b = byComparison (compare a b) (requestsOf (readingAt p s a)) (requestsOf (readingAt p s b))
 
 -- two clearances of subject s
 unfoldable pub clearanceApart : Place → ℕ → Label → Label → List Request
 clearanceApart p s Absent b = []
 clearanceApart p s (Present a) Absent = []
-clearanceApart p s (Present a) (Present b) = levelApart p s a b (dominates (Present b) (Present a)) (dominates (Present a) (Present b))
+clearanceApart p s (Present a) (Present b) = levelApart p s a b
 
 -- the first subject whose clearances differ
 unfoldable pub clearancesApart : Place → List Subject → List Subject → List Request

@@ -10,8 +10,9 @@ use crate::sequence::differ;
 use crate::sequence::is_found;
 use crate::sequence::reading_at;
 use crate::sequence::when;
-use labels::dominates;
+use labels::compare;
 use labels::is_present;
+use model::Comparison;
 use model::Label;
 use model::Level;
 use model::Monitor;
@@ -72,17 +73,16 @@ pub fn free_place(unit: &[[u8; 16]]) -> Place
     }
 }
 
-// A level that the other clearance does not dominate, if there is one. above: b dominates a; below: a dominates b.
-fn level_apart(p: Place, s: u8, a: Level, b: Level, above: bool, below: bool) -> Sequence
-    ensures { λ r. ⌜ requestsOf r ≡ levelApart p s a b above below ⌝ }
+// At a level that the other one does not dominate, if there is one.
+fn level_apart(p: Place, s: u8, a: Level, b: Level) -> Sequence
+    ensures { λ r. ⌜ requestsOf r ≡ levelApart p s a b ⌝ }
 {
-    if !above {
-        return reading_at(p, s, a);
-    }
-    if below {
-        Sequence::Nothing
-    } else {
-        reading_at(p, s, b)
+    let answer = compare(a, b);
+    match answer {
+        Comparison::Equal => Sequence::Nothing,
+        Comparison::Above => reading_at(p, s, a),
+        Comparison::Below => reading_at(p, s, b),
+        Comparison::Apart => reading_at(p, s, a),
     }
 }
 
@@ -90,13 +90,11 @@ fn level_apart(p: Place, s: u8, a: Level, b: Level, above: bool, below: bool) ->
 fn clearance_apart(p: Place, s: u8, a: Label, b: Label) -> Sequence
     ensures { λ r. ⌜ requestsOf r ≡ clearanceApart p s a b ⌝ }
 {
-    let above = dominates(b, a);
-    let below = dominates(a, b);
     match a {
         Label::Absent => Sequence::Nothing,
         Label::Present(x) => match b {
             Label::Absent => Sequence::Nothing,
-            Label::Present(y) => level_apart(p, s, x, y, above, below),
+            Label::Present(y) => level_apart(p, s, x, y),
         },
     }
 }

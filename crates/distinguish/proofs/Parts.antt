@@ -9,7 +9,6 @@ use Rattle.model.specs.declared.Label.{Label}
 use Rattle.model.specs.declared.Label.the-variants.{Absent, Present}
 use Rattle.model.specs.declared.Monitor.{Monitor}
 use Rattle.model.specs.declared.Request.{Request}
-use Rattle.model.specs.Levels.{dominates}
 use Rattle.model.specs.State.{clearance, object}
 use Rattle.telling.specs.Distinguish.{orElse, search, searchModes, byEnrolment, byLife, byOwner, byLabel, byRight, byAccess, byObject, freeBelow, readAt, toClearance, byClearance, distinguish}
 use Rattle.differences.specs.declared.sequence.Sequence.{Sequence}
@@ -46,7 +45,7 @@ reading-part m s l =
     ∙ sym (requests-either (object m (freeOf 64 (m .objects)) .live) _ _)
 
 clearance-part : (m : Monitor) (s : ℕ) (a b : Label) → toClearance m s a b ≡ clearanceApart (freePlace (m .objects)) s a b
-unfolding toClearance clearanceApart levelApart dominates
+unfolding toClearance clearanceApart levelApart
 clearance-part m s Absent b = refl
 clearance-part m s (Present a) Absent = refl
 clearance-part m s (Present a) (Present b) = rw (reading-part m s a, reading-part m s b)

@@ -12,6 +12,7 @@ use borrow.Author.Tests.{eq-eqb}
 use Rattle.model.specs.declared.Level.{Level}
 use Rattle.model.specs.declared.Label.{Label}
 use Rattle.model.specs.declared.Label.the-variants.{Absent, Present}
+use Rattle.model.specs.declared.Comparison.{Comparison}
 use Rattle.model.specs.declared.Object.{Object}
 use Rattle.model.specs.declared.Monitor.{Monitor}
 use Rattle.model.specs.declared.Mode.the-variants.{Read}
@@ -20,16 +21,18 @@ use Rattle.model.specs.declared.Request.the-variants.{Get, Create, Delete, Chan
 use Rattle.model.specs.declared.Decision.the-variants.{Granted, NotEnrolled, NotLive, NoRight, NoLabel, SimpleBroken, StarBroken}
 use Rattle.model.specs.declared.Response.{Response}
 use Rattle.model.specs.Tests.{implies, unless}
-use Rattle.model.specs.Levels.{dominates, levelDominates, present}
+use Rattle.model.specs.Levels.{compare, equalOrAbove, dominates, levelDominates, present}
 use Rattle.model.specs.Modes.{has}
 use Rattle.model.specs.State.{noModes, clearance, enrolled, object, rightsOf, heldBy, withLabel, LevelFits, LabelFits}
 use Rattle.model.specs.Requests.{creation, InRange}
 use Rattle.model.specs.Rules.{changed, afterwards, checks, created, starFor, step}
 use Rattle.model.proofs.Tests.{pass, stop, not-stop, distinct, cond-all}
 use Rattle.model.proofs.Tests as tests
-use Rattle.model.proofs.Levels.{level-refl, level-antisym}
+use Rattle.model.proofs.Levels.{level-refl}
+use Rattle.model.proofs.Comparisons.{mirror, level-back, equal-exactly}
 use Rattle.model.proofs.After.{object-there}
 use Rattle.telling.specs.Distinguish.{freeBelow, readAt, toClearance, byClearance}
+use Rattle.equal_images.proofs.Answers.{comparison-all}
 use Rattle.invariants.proofs.Granted.{grants-create, grants-change}
 use Rattle.invariants.proofs.Form.{no-modes}
 use Rattle.invariants.proofs.Pairs.{none-held}
@@ -212,16 +215,16 @@ module _ (m n : Monitor) (S : Sound m) (N : Sound n) (objects : (o : ℕ) → o 
 
   -- s has clearance a in the one and b in the other
   clearance-probe : (a b : Label) → clearance m s ≡ a → clearance n s ≡ b → Probe m n (toClearance m s a b) (a ≡ b)
-  unfolding toClearance slot
+  unfolding toClearance slot levelDominates
   clearance-probe Absent Absent p q = alike refl refl
   clearance-probe Absent (Present y) p q = tests.apart (ap present q) (sym (same s s-below) ∙ ap present p)
   clearance-probe (Present x) Absent p q = tests.apart (here-of (Present x) p refl .1) (ap present q)
   clearance-probe (Present x) (Present y) p q =
-      cond-all (λ (qs : List Request). Probe m n qs (Present x ≡ Present y)) (levelDominates y x) _ _
-      (λ u. cond-all (λ (qs : List Request). Probe m n qs (Present x ≡ Present y)) (levelDominates x y) [] _
-      (λ v. alike refl (ap Present (level-antisym x y (subst LabelFits p (S .formed .clearances-fit s)) (subst LabelFits q (N .formed .clearances-fit s)) v u)))
-      (λ v. of-second x y p q v))
-      (λ u. of-first x y p q u)
+      comparison-all (λ (qs : List Request). Probe m n qs (Present x ≡ Present y)) (compare x y) _ _
+      (λ e. alike refl (ap Present (equal-exactly x y (subst LabelFits p (S .formed .clearances-fit s) .1) (subst LabelFits q (N .formed .clearances-fit s) .1) .0 e)))
+      (λ e. of-first x y p q (level-back x y ∙ ap (λ (c : Comparison). equalOrAbove (mirror c)) e))
+      (λ e. of-second x y p q (ap equalOrAbove e))
+      (λ e. of-first x y p q (level-back x y ∙ ap (λ (c : Comparison). equalOrAbove (mirror c)) e))
 
   pub probe-clearance : Probe m n (byClearance m n s) (clearance m s ≡ clearance n s)
   unfolding byClearance

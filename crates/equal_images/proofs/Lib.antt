@@ -2,6 +2,7 @@
 pub mod Probes
 pub mod Objects
 pub mod ObjectProbes
+pub mod Answers
 pub mod Clearances
 pub mod Demand3
 pub mod ToldApart

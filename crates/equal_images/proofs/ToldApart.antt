@@ -14,7 +14,7 @@ use Rattle.model.specs.declared.Label.the-variants.{Absent, Present}
 use Rattle.model.specs.declared.Monitor.{Monitor}
 use Rattle.model.specs.declared.Mode.{Mode}
 use Rattle.model.specs.declared.Request.{Request}
-use Rattle.model.specs.Levels.{levelDominates}
+use Rattle.model.specs.Levels.{compare}
 use Rattle.model.specs.State.{emptyMonitor, clearance, object}
 use Rattle.model.specs.Decisions.{refuses}
 use Rattle.model.specs.Requests.{encode}
@@ -24,6 +24,7 @@ use Rattle.model.specs.Reading.{imageChecks, monitorFrom, begin, readImage}
 use Rattle.model.specs.Beginnings.{image, Accepted}
 use Rattle.model.proofs.Tests.{cond-all, cond-false}
 use Rattle.telling.specs.Distinguish.{orElse, search, searchModes, when, byEnrolment, byLife, byOwner, toLabel, byLabel, byRight, byAccess, byObject, readAt, toClearance, byClearance, distinguish}
+use Rattle.equal_images.proofs.Answers.{comparison-all}
 use Rattle.images.proofs.Trips.{image-bytes-back}
 use Rattle.images.proofs.Reached.{sound-begun}
 use Rattle.equal_images.proofs.Demand3.{distinguishes, distinguishes-not}
@@ -75,7 +76,7 @@ unfolding toClearance
 few-clearance m s Absent b = omega arith
 few-clearance m s (Present a) Absent = omega arith
 few-clearance m s (Present a) (Present b) =
-    cond-all Few (levelDominates b a) _ _ (λ e. cond-all Few (levelDominates a b) [] _ (λ f. omega arith) (λ f. few-read m _ s b)) (λ e. few-read m _ s a)
+    comparison-all Few (compare a b) _ _ (λ e. omega arith) (λ e. few-read m _ s a) (λ e. few-read m _ s b) (λ e. few-read m _ s a)
 
 pub at-most-four : (m n : Monitor) → length (distinguish m n) ≤ 4
 unfolding distinguish byEnrolment byClearance

@@ -2,9 +2,10 @@
 ghost use mathlib.Core.Path.{_≡_};
 ghost use mathlib.Core.Bool.{_&&_};
 ghost use Rattle.model.specs.Tests.{implies, unless};
-ghost use Rattle.model.specs.Levels.{subset, levelDominates, dominates, present, sameLabel};
+ghost use Rattle.model.specs.Levels.{subset, covers, answered, compare, equalOrAbove, dominates, present, sameLabel};
 ghost use Rattle.model.specs.Modes.{weight, has, add, remove, observes, needsLabel, anyObserves, anyAlters, anyNeedsLabel};
 ghost use Rattle.model.specs.Decisions.{number, refuses};
+use model::Comparison;
 use model::Decision;
 use model::Label;
 use model::Level;
@@ -40,10 +41,45 @@ fn includes(a: u16, b: u16) -> bool
     b & a == b
 }
 
-fn level_dominates(a: Level, b: Level) -> bool
-    ensures { λ r. ⌜ r ≡ levelDominates a b ⌝ }
+fn covers(a: Level, b: Level) -> bool
+    ensures { λ r. ⌜ r ≡ covers a b ⌝ }
 {
     (b.class <= a.class) & includes(a.needs, b.needs)
+}
+
+// first: a dominates b; second: b dominates a.
+fn answered(first: bool, second: bool) -> Comparison
+    ensures { λ r. ⌜ r ≡ answered first second ⌝ }
+{
+    if first {
+        if second {
+            Comparison::Equal
+        } else {
+            Comparison::Above
+        }
+    } else if second {
+        Comparison::Below
+    } else {
+        Comparison::Apart
+    }
+}
+
+// How the level a compares with b.
+pub fn compare(a: Level, b: Level) -> Comparison
+    ensures { λ r. ⌜ r ≡ compare a b ⌝ }
+{
+    answered(covers(a, b), covers(b, a))
+}
+
+fn equal_or_above(c: Comparison) -> bool
+    ensures { λ r. ⌜ r ≡ equalOrAbove c ⌝ }
+{
+    match c {
+        Comparison::Equal => true,
+        Comparison::Above => true,
+        Comparison::Below => false,
+        Comparison::Apart => false,
+    }
 }
 
 pub fn dominates(a: Label, b: Label) -> bool
@@ -53,7 +89,7 @@ pub fn dominates(a: Label, b: Label) -> bool
         Label::Absent => false,
         Label::Present(x) => match b {
             Label::Absent => false,
-            Label::Present(y) => level_dominates(x, y),
+            Label::Present(y) => equal_or_above(compare(x, y)),
         },
     }
 }

@@ -13,7 +13,7 @@ use Rattle.model.specs.declared.Mode.the-variants.{Read, Write, Append, 
 use Rattle.model.specs.declared.Request.the-variants.{Get, Give, Rescind, Delete, ChangeLevel}
 use Rattle.model.specs.declared.Decision.the-variants.{Granted, NotLive, NoRight, NoLabel, SimpleBroken}
 use Rattle.model.specs.Tests.{implies, unless}
-use Rattle.model.specs.Levels.{dominates, levelDominates}
+use Rattle.model.specs.Levels.{dominates, levelDominates, compare}
 use Rattle.model.specs.Modes.{has, add, remove}
 use Rattle.model.specs.State.{noObject, nobody, object, rightsOf, heldBy, withOwner, withLabel, withRows, withObject, fresh}
 use Rattle.model.specs.Requests.{creation}
@@ -43,12 +43,12 @@ execute-needs-no-label = refl
 
 -- class and needs both count, and two levels may be apart
 pub needs-count : (dominates (level 5 1) (level 3 3) ≡ false) × (dominates (level 1 1) (level 0 2) ≡ false) × (dominates (level 0 2) (level 1 1) ≡ false)
-unfolding dominates levelDominates
+unfolding dominates levelDominates compare
 needs-count = (refl, refl, refl)
 
 -- not dominated is not dominates: subject 1 has (3, 0003) and the label is (0, 0004), neither above the other
 pub apart-is-refused : (checks (Get 1 0 Read) (state (level 0 4) 0 0) ≡ SimpleBroken) × (checks (Get 1 0 Read) (state (level 0 3) 0 0) ≡ Granted)
-unfolding checks changed has add implies unless starFor starFrom starPair dominates levelDominates
+unfolding checks changed has add implies unless starFor starFrom starPair dominates levelDominates compare
 apart-is-refused = (refl, refl)
 
 -- give and rescind need ownership and the right itself; the right alone, or ownership alone, is not enough
@@ -75,13 +75,13 @@ delete-leaves-nothing = refl
 
 -- change of level looks at every subject's accesses: subject 0 reads object 0
 pub change-looks-at-all : checks (ChangeLevel 1 0 (record { class = 2; needs = 1 })) (state (level 1 1) 8 0) ≡ SimpleBroken
-unfolding checks changed has implies unless simpleAll dominates levelDominates
+unfolding checks changed has implies unless simpleAll dominates levelDominates compare
 change-looks-at-all = refl
 
 -- star: who reads class 1 may not append to class 0, and who appends only reads nothing
 pub star-one-way : (starFor 1 (withObject (state (level 1 1) 0 8) 1 (low 2) .objects) ≡ false)
     × (starFor 1 (withObject (state (level 1 1) 0 2) 1 (low 8) .objects) ≡ true)
-unfolding starFor starFrom starPair has implies dominates levelDominates
+unfolding starFor starFrom starPair has implies dominates levelDominates compare
 star-one-way = (refl, refl)
 
 -- life comes before right, right before label

@@ -5,7 +5,7 @@ use native.Mathlib.Numerals.{one-add}
 use native.Mathlib.Omega.{arith}
 use mathlib.Core.Path.{_≡_, refl, sym, ap, _∙_, subst}
 use mathlib.Core.Logic.{_↔_}
-use mathlib.Core.Bool.{true, false}
+use mathlib.Core.Bool.{Bool, true, false}
 use lib.Dec.{leb, eqb}
 use lib.Pow.{shr-shr}
 use borrow.Author.Tests.{le-leb, leb-true, eqb-true, eq-eqb}
@@ -13,8 +13,7 @@ use Rattle.bits.specs.Bits.{odd}
 use Rattle.model.specs.declared.Level.{Level}
 use Rattle.model.specs.declared.Label.{Label}
 use Rattle.model.specs.declared.Label.the-variants.{Absent, Present}
-use Rattle.model.specs.Levels.{need, LevelDominates, Dominates, subset, levelDominates, dominates, present, sameLabel}
-use Rattle.model.specs.State.{LevelFits}
+use Rattle.model.specs.Levels.{need, LevelDominates, Dominates, subset, covers, answered, compare, equalOrAbove, levelDominates, dominates, present, sameLabel}
 use Rattle.model.proofs.Tests.{and-left, and-right, and-both, clash}
 
 -- ---- the test over needs
@@ -57,14 +56,30 @@ need-subset (suc k) b a h =
 
 -- ---- the tests decide the relations
 
-pub level-decides : (a b : Level) → (levelDominates a b ≡ true) ↔ LevelDominates a b
-unfolding levelDominates
-level-decides a b = (
+pub covers-decides : (a b : Level) → (covers a b ≡ true) ↔ LevelDominates a b
+covers-decides a b = (
   λ e. record {
     class = leb-true _ _ (and-left (leb (b .class) (a .class)) _ e);
     needs = subset-need 16 (b .needs) (a .needs) (and-right (leb (b .class) (a .class)) _ e);
   },
   λ d. and-both (le-leb (b .class) (a .class) (d .class)) (need-subset 16 (b .needs) (a .needs) (d .needs)),
+)
+
+-- of the two tests that an answer is made of, equal or above tells the first
+pub answered-first : (p q : Bool) → equalOrAbove (answered p q) ≡ p
+answered-first true true = refl
+answered-first true false = refl
+answered-first false true = refl
+answered-first false false = refl
+
+pub level-covers : (a b : Level) → levelDominates a b ≡ covers a b
+unfolding levelDominates compare
+level-covers a b = answered-first (covers a b) (covers b a)
+
+pub level-decides : (a b : Level) → (levelDominates a b ≡ true) ↔ LevelDominates a b
+level-decides a b = (
+  λ e. covers-decides a b .0 (sym (level-covers a b) ∙ e),
+  λ d. level-covers a b ∙ covers-decides a b .1 d,
 )
 
 -- the test that the checks use decides what the scope says
@@ -80,9 +95,11 @@ subset-refl : (k n : ℕ) → subset k n n ≡ true
 subset-refl zero n = refl
 subset-refl (suc k) n = and-both (le-leb (n % 2) (n % 2) (omega arith)) (subset-refl k (n / 2))
 
+pub covers-refl : (a : Level) → covers a a ≡ true
+covers-refl a = and-both (le-leb (a .class) (a .class) (omega arith)) (subset-refl 16 (a .needs))
+
 pub level-refl : (a : Level) → levelDominates a a ≡ true
-unfolding levelDominates
-level-refl a = and-both (le-leb (a .class) (a .class) (omega arith)) (subset-refl 16 (a .needs))
+level-refl a = level-covers a a ∙ covers-refl a
 
 subset-antisym : (k n j : ℕ) → n < 2 ^ k → j < 2 ^ k → subset k n j ≡ true → subset k j n ≡ true → n ≡ j
 subset-antisym zero n j p q e f = omega arith
@@ -94,14 +111,14 @@ subset-antisym (suc k) n j p q e f =
     (and-right (leb (n % 2) (j % 2)) _ e) (and-right (leb (j % 2) (n % 2)) _ f) in
     omega arith
 
-pub level-antisym : (a b : Level) → LevelFits a → LevelFits b → levelDominates a b ≡ true → levelDominates b a ≡ true → a ≡ b
-unfolding levelDominates
-level-antisym a b p q e f =
+-- whatever the classes are, also those that no level of the scope has
+pub covers-antisym : (a b : Level) → a .needs < 65536 → b .needs < 65536 → covers a b ≡ true → covers b a ≡ true → a ≡ b
+covers-antisym a b p q e f =
     let low : b .class ≤ a .class = leb-true _ _ (and-left (leb (b .class) (a .class)) _ e) in
     let high : a .class ≤ b .class = leb-true _ _ (and-left (leb (a .class) (b .class)) _ f) in
     let class-same : a .class ≡ b .class = omega arith in
     let needs-same : a .needs ≡ b .needs =
-    subset-antisym 16 (a .needs) (b .needs) (p .1) (q .1) (and-right (leb (a .class) (b .class)) _ f) (and-right (leb (b .class) (a .class)) _ e) in
+    subset-antisym 16 (a .needs) (b .needs) p q (and-right (leb (a .class) (b .class)) _ f) (and-right (leb (b .class) (a .class)) _ e) in
     λ i. record { class = class-same i; needs = needs-same i }
 
 -- ---- the test of sameness decides equality

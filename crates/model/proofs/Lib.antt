@@ -4,6 +4,7 @@ pub mod Decisions
 pub mod Checks
 pub mod Modes
 pub mod Levels
+pub mod Comparisons
 pub mod Packing
 pub mod Requests
 pub mod Lists

@@ -1,4 +1,4 @@
--- Labels ("Labels" in the scope): levels, absence, and dominance.
+-- Labels ("Labels" in the scope): levels, absence, and dominance; the four answers of a comparison (change request §2).
 -- Assumes nothing.
 use Prim.Native.Nat.{ℕ, zero, suc, _/_, _%_, _^_, _≤_, _<_}
 use mathlib.Core.Path.{_≡_}
@@ -8,6 +8,8 @@ use Rattle.bits.specs.Bits.{odd}
 use Rattle.model.specs.declared.Level.{Level}
 use Rattle.model.specs.declared.Label.{Label}
 use Rattle.model.specs.declared.Label.the-variants.{Absent, Present}
+use Rattle.model.specs.declared.Comparison.{Comparison}
+use Rattle.model.specs.declared.Comparison.the-variants.{Equal, Above, Below, Apart}
 
 -- "held as 16 bits where need k weighs 2^k": need k is in the set n
 unfoldable pub need : ℕ → ℕ → Bool
@@ -29,9 +31,31 @@ abbrev pub subset : ℕ → ℕ → ℕ → Bool
 subset zero b a = true
 subset (suc k) b a = leb (b % 2) (a % 2) && subset k (b / 2) (a / 2)
 
--- the test that decides LevelDominates
+-- "A's class is at least B's and every need of B is in A"
+abbrev pub covers : Level → Level → Bool
+covers a b = leb (b .class) (a .class) && subset 16 (b .needs) (a .needs)
+
+-- "equal, above (only A dominates), below (only B does) or apart (neither)", by whether A dominates and whether B does
+abbrev pub answered : Bool → Bool → Comparison
+answered true true = Equal
+answered true false = Above
+answered false true = Below
+answered false false = Apart
+
+-- "Comparing label A with label B": of levels, since an absent label is none of the four
+unfoldable pub compare : Level → Level → Comparison
+compare a b = answered (covers a b) (covers b a)
+
+-- the answers under which A dominates B
+abbrev pub equalOrAbove : Comparison → Bool
+equalOrAbove Equal = true
+equalOrAbove Above = true
+equalOrAbove Below = false
+equalOrAbove Apart = false
+
+-- "Every check that uses the comparison follows the new meaning": the test that decides LevelDominates
 unfoldable pub levelDominates : Level → Level → Bool
-levelDominates a b = leb (b .class) (a .class) && subset 16 (b .needs) (a .needs)
+levelDominates a b = equalOrAbove (compare a b)
 
 -- the test that decides Dominates
 unfoldable pub dominates : Label → Label → Bool

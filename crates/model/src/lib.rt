@@ -14,6 +14,14 @@ pub enum Label {
     Present(Level),
 }
 
+// How one level compares with another: the same; above, only the first dominates; below, only the second does; apart, neither.
+pub enum Comparison {
+    Equal,
+    Above,
+    Below,
+    Apart,
+}
+
 // A subject is enrolled exactly where its clearance is present.
 pub struct Subject {
     pub clearance: Label,

@@ -14,7 +14,7 @@ use Rattle.bits.specs.Bits.{odd, toBits, fromBits, bytesToBits, field, cut, joi
 use Rattle.model.specs.declared.Decision.{Decision}
 use Rattle.model.specs.declared.Decision.the-variants.{WrongLength}
 use Rattle.model.specs.Tests.{implies, unless}
-use Rattle.model.specs.Levels.{levelDominates, dominates, sameLabel}
+use Rattle.model.specs.Levels.{compare, levelDominates, dominates, sameLabel}
 use Rattle.model.specs.Modes.{has, add, remove}
 use Rattle.model.specs.Decisions.{number, refuses}
 use Rattle.model.specs.Requests.{fields, modeAllowed, unusedZero, wellFormed, request, decodeFields, decode}
@@ -136,7 +136,7 @@ three =
 pub printed-lines : (program three ≡ 48 ∷ 10 ∷ 48 ∷ 10 ∷ 49 ∷ 10 ∷ [])
     × (program (three ++ (0x10 ∷ 0x80 ∷ [])) ≡ 48 ∷ 10 ∷ 48 ∷ 10 ∷ 49 ∷ 10 ∷ 50 ∷ 10 ∷ [])
     × (program tableW ≡ [])
-unfolding program linesAfter line pieces tableW join tableFrom tableForm labelForm labelFrom tableChecks begin readTable allZero bytesToBits toBits odd cut fromBits field decode decodeFields fields wellFormed modeAllowed unusedZero request respond step replies after checks already changed starAll starFor starFrom starPair implies unless answer simpleAll has add remove sameLabel dominates levelDominates
+unfolding program linesAfter line pieces tableW join tableFrom tableForm labelForm labelFrom tableChecks begin readTable allZero bytesToBits toBits odd cut fromBits field decode decodeFields fields wellFormed modeAllowed unusedZero request respond step replies after checks already changed starAll starFor starFrom starPair implies unless answer simpleAll has add remove sameLabel dominates levelDominates compare
 printed-lines = (refl, refl, refl)
 
 -- 41 bytes print 10, and a bit in the record of subject 2, who is absent there, prints 11

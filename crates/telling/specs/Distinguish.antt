@@ -7,12 +7,14 @@ use lib.Dec.{eqb}
 use Rattle.model.specs.declared.Level.{Level}
 use Rattle.model.specs.declared.Label.{Label}
 use Rattle.model.specs.declared.Label.the-variants.{Absent, Present}
+use Rattle.model.specs.declared.Comparison.{Comparison}
+use Rattle.model.specs.declared.Comparison.the-variants.{Equal, Above, Below, Apart}
 use Rattle.model.specs.declared.Monitor.{Monitor}
 use Rattle.model.specs.declared.Mode.{Mode}
 use Rattle.model.specs.declared.Mode.the-variants.{Read, Write, Append, Execute}
 use Rattle.model.specs.declared.Request.{Request}
 use Rattle.model.specs.declared.Request.the-variants.{Get, Release, Create, Delete, ChangeLevel}
-use Rattle.model.specs.Levels.{levelDominates, sameLabel}
+use Rattle.model.specs.Levels.{compare, sameLabel}
 use Rattle.model.specs.Modes.{has}
 use Rattle.model.specs.State.{subjectCount, objectCount, clearance, enrolled, object, rightsOf, heldBy}
 use Rattle.model.specs.Requests.{creation}
@@ -86,12 +88,19 @@ readAt m o s l =
     cond (object m o .live) (Delete (object m o .owner) o ∷ Create s o (creation false) ∷ ChangeLevel s o l ∷ Get s o Read ∷ [])
     (Create s o (creation false) ∷ ChangeLevel s o l ∷ Get s o Read ∷ [])
 
+-- of two lists, for the level of the one and of the other: the first whose level the other level does not dominate
+abbrev pub byComparison : Comparison → List Request → List Request → List Request
+byComparison Equal first second = []
+byComparison Above first second = first
+byComparison Below first second = second
+byComparison Apart first second = first
+
 -- another clearance: s reads at a level that one of the two does not dominate, 8 or not
 unfoldable pub toClearance : Monitor → ℕ → Label → Label → List Request
 toClearance m s Absent b = []
 toClearance m s (Present a) Absent = []
 toClearance m s (Present a) (Present b) =
-    cond (levelDominates b a) (cond (levelDominates a b) [] (readAt m (freeBelow objectCount m) s b)) (readAt m (freeBelow objectCount m) s a)
+    byComparison (compare a b) (readAt m (freeBelow objectCount m) s a) (readAt m (freeBelow objectCount m) s b)
 
 unfoldable pub byClearance : Monitor → Monitor → ℕ → List Request
 byClearance m n s = toClearance m s (clearance m s) (clearance n s)
