@@ -2,7 +2,7 @@
 -- Assumes nothing.
 use Prim.Native.Nat.{ℕ, zero, suc}
 use mathlib.Core.Bool.{Bool, true, false, cond, not}
-use mathlib.Core.List.{List, [], _∷_}
+use mathlib.Core.List.{List, []}
 use lib.Dec.{eqb}
 use lib.ListN.{getD}
 use Rattle.model.specs.declared.Level.{Level}
@@ -13,8 +13,8 @@ use Rattle.model.specs.declared.Object.{Object}
 use Rattle.model.specs.declared.Mode.{Mode}
 use Rattle.model.specs.declared.Mode.the-variants.{Read}
 use Rattle.model.specs.declared.Request.{Request}
-use Rattle.model.specs.declared.Request.the-variants.{Get, Release, Delete, ChangeLevel}
-use Rattle.model.specs.Levels.{compare, present, sameLabel}
+use Rattle.model.specs.declared.Request.the-variants.{Get, Release, Delete}
+use Rattle.model.specs.Levels.{compare, present}
 use Rattle.model.specs.Modes.{has}
 use Rattle.model.specs.State.{subjectCount, objectCount, clearanceAt, objectAt}
 use Rattle.telling.specs.Distinguish.{byComparison, orElse, search, searchModes, when, differ, toLabel}

@@ -2,11 +2,9 @@
 -- Assumes nothing.
 use Prim.Native.Nat.{ℕ}
 use mathlib.Core.Path.{_≡_, sym, ap, _∙_}
-use mathlib.Core.List.{List}
 use borrow.Author.Needs.{needs}
 use Rattle.model.specs.declared.Level.{Level}
 use Rattle.model.specs.declared.Comparison.{Comparison}
-use Rattle.model.specs.declared.Request.{Request}
 use Rattle.model.specs.Levels.{compare}
 use Rattle.telling.specs.Distinguish.{byComparison}
 use Rattle.differences.specs.declared.sequence.Place.{Place}
