@@ -6,9 +6,32 @@ pub struct Level {
     pub needs: u16,
 }
 
+/// How a level compares with another one.
+#[derive(Clone, Copy, Debug, PartialEq, Eq)]
+pub enum Comparison {
+    Equal,
+    /// only this one dominates
+    Above,
+    /// only the other one dominates
+    Below,
+    /// neither dominates
+    Apart,
+}
+
 impl Level {
-    /// The class is at least the other's, and every need of the other is here.
+    /// By what only one of the two has: a higher class, or a need that the other does not have.
+    pub fn compare(&self, other: &Level) -> Comparison {
+        let more = self.class > other.class || self.needs & !other.needs != 0;
+        let less = self.class < other.class || other.needs & !self.needs != 0;
+        match (more, less) {
+            (false, false) => Comparison::Equal,
+            (true, false) => Comparison::Above,
+            (false, true) => Comparison::Below,
+            (true, true) => Comparison::Apart,
+        }
+    }
+
     pub fn dominates(&self, other: &Level) -> bool {
-        self.class >= other.class && other.needs & !self.needs == 0
+        matches!(self.compare(other), Comparison::Equal | Comparison::Above)
     }
 }

@@ -14,7 +14,7 @@ mod request;
 mod star;
 
 pub use image::{IMAGE_BYTES, TABLE_BYTES};
-pub use level::Level;
+pub use level::{Comparison, Level};
 pub use marked::{marked_run, table_w};
 pub use mode::Mode;
 pub use monitor::Monitor;

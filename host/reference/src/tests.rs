@@ -1,4 +1,4 @@
-//! The marked run, an access page and the sizes, from the text of the requirements. The edges are in `sidebyside`, for both implementations.
+//! The marked run, an access page, comparisons and the sizes, from the text of the requirements. The edges are in `sidebyside`, for both implementations.
 
 use crate::marked::{marked_run, table_w};
 use crate::*;
@@ -89,6 +89,29 @@ fn the_last_line_of_a_page_where_everyone_holds_everything() {
     let mut page = [0; PAGE_BYTES];
     assert_eq!(monitor.write_page(5, &mut page), reply::CHANGED);
     assert!(page.ends_with(b"\n15 rwae rwae 4\nto 16 16 16 16 64\n"));
+}
+
+/// "A dominates B when A's class is at least B's and every need of B is in A", need by need.
+fn at_least(a: Level, b: Level) -> bool {
+    let has = |level: Level, need: u16| level.needs / (1 << need) % 2 == 1;
+    a.class >= b.class && (0..16).all(|need| has(a, need) || !has(b, need))
+}
+
+#[test]
+fn a_comparison_as_the_text_has_it() {
+    let numbers = [(0, 0), (1, 0), (1, 1), (1, 2), (1, 3), (2, 1), (2, 0x8001), (15, 0xFFFF)];
+    let levels = numbers.map(|(class, needs)| Level { class, needs });
+    for (a, b) in levels.iter().flat_map(|a| levels.map(|b| (*a, b))) {
+        let expected = match (at_least(a, b), at_least(b, a)) {
+            (true, true) => Comparison::Equal,
+            (true, false) => Comparison::Above,
+            (false, true) => Comparison::Below,
+            (false, false) => Comparison::Apart,
+        };
+        assert_eq!(a.compare(&b), expected, "{a:?} with {b:?}");
+        assert_eq!(a.dominates(&b), at_least(a, b), "{a:?} over {b:?}");
+        assert_eq!(expected == Comparison::Equal, a == b, "{a:?} with {b:?}");
+    }
 }
 
 #[test]
