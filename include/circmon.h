@@ -106,6 +106,15 @@ uint8_t circmon_replay(const uint8_t *table, circmon_size table_len, const uint8
 uint8_t circmon_distinguish(const uint8_t *a, circmon_size a_len, const uint8_t *b, circmon_size b_len,
                             uint8_t *requests, circmon_size requests_len);
 
+/* ---- Levels: the clearance of a subject and the label of an object */
+
+/* Compares level a with level b, each as its class and its set of needs, in which need k weighs 2^k. One level dominates
+ * another where its class is at least as high and every need of the other is in its set.
+ * Returns 0 equal: class and needs are the same; 1 above: only a dominates; 2 below: only b does; 3 apart: neither does. So a
+ * dominates b where it returns 0 or 1. An absent label or clearance is no level and is none of the four: do not compare it. A
+ * class above 15, which no table, image or request has, is compared as the number that it is. */
+uint8_t circmon_compare(uint8_t class_a, uint16_t needs_a, uint8_t class_b, uint16_t needs_b);
+
 #ifdef __cplusplus
 }
 #endif

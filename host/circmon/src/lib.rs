@@ -1,11 +1,13 @@
-//! Safe Rust over the proved monitor: a unit in memory, and the functions of include/circmon.h on images.
+//! Safe Rust over the proved monitor: a unit in memory, and the functions of include/circmon.h on images and on levels.
 //!
 //! The contracts of the functions are proved of the Rattle code (crates/capi). What stands here is the boundary: the
 //! declarations, and slices handed on as pointer and length.
 
+mod level;
 mod raw;
 mod unit;
 
+pub use level::{compare, Comparison, Level};
 pub use unit::{Rows, Unit, ROWS, ROW_BYTES, UNIT_BYTES};
 
 /// The proved library that is linked here, for programs in C over include/circmon.h. The build script puts it there.

@@ -53,5 +53,7 @@ int main(void) {
     printf("distinguish %d\n", circmon_distinguish(image, sizeof image, fresh, sizeof fresh, telling, sizeof telling));
     printf("telling %02x %02x %02x %02x %02x %02x %02x\n", telling[0], telling[1], telling[2], telling[3], telling[4],
            telling[5], telling[6]);
+    printf("compare %d %d", circmon_compare(1, 0x0001, 1, 0x0001), circmon_compare(2, 0x8001, 1, 0x8000));
+    printf(" %d %d\n", circmon_compare(1, 0x0000, 1, 0x8000), circmon_compare(16, 0x0001, 15, 0x8000));
     return 0;
 }

@@ -71,6 +71,7 @@ static void *reading(void *unused) { answer = circmon_read(image, sizeof image);
 static void *level(void *unused) { answer = circmon_request(image, sizeof image, requests[3 * OBJECTS], CIRCMON_REQUEST_BYTES); return unused; }
 static void *replay(void *unused) { answer = circmon_replay(table, sizeof table, requests[0], sizeof requests, replies, sizeof replies); return unused; }
 static void *distinguish(void *unused) { answer = circmon_distinguish(image, sizeof image, other, sizeof other, told, sizeof told); return unused; }
+static void *compare(void *unused) { answer = circmon_compare(2, 0x0001, 1, 0x0003); return unused; }
 
 /* Every kind, from the full state on: what the deepest of them needs. */
 static void *ask(void *unused) {
@@ -104,7 +105,7 @@ int main(void) {
     const struct { const char *name; void *(*work)(void *); } rows[] = {
         {"circmon_open", open_unit}, {"circmon_start", start}, {"circmon_ask", ask}, {"circmon_save", save},
         {"circmon_page", page}, {"circmon_begin", begin}, {"circmon_read", reading}, {"circmon_request", level}, {"circmon_replay", replay},
-        {"circmon_distinguish", distinguish}};
+        {"circmon_distinguish", distinguish}, {"circmon_compare", compare}};
     depth(nothing);
     for (size_t i = 0; i < sizeof rows / sizeof *rows; i++) {
         fill();

@@ -15,8 +15,10 @@ enum Passed {
         mutable: bool,
     },
     Length,
-    /// one byte, by value
-    Number,
+    /// by value
+    Number {
+        bits: u8,
+    },
 }
 
 #[derive(Clone, Debug, PartialEq, Eq)]
@@ -66,7 +68,8 @@ fn in_c(parameter: &str) -> Vec<Parameter> {
     let (kind, name) = parameter.rsplit_once(' ').expect("a type and a name");
     let passed = match (kind, name.starts_with('*')) {
         ("circmon_size", false) => Passed::Length,
-        ("uint8_t", false) => Passed::Number,
+        ("uint8_t", false) => Passed::Number { bits: 8 },
+        ("uint16_t", false) => Passed::Number { bits: 16 },
         ("uint8_t", true) => Passed::Bytes { mutable: true },
         ("const uint8_t", true) => Passed::Bytes { mutable: false },
         ("circmon_unit", true) => Passed::Unit { mutable: true },
@@ -81,7 +84,8 @@ fn in_rust(parameter: &str) -> Vec<Parameter> {
     let (name, kind) = parameter.split_once(": ").expect("a name and a type");
     let passed = match kind {
         "u64" => Passed::Length,
-        "u8" => Passed::Number,
+        "u8" => Passed::Number { bits: 8 },
+        "u16" => Passed::Number { bits: 16 },
         "*mut u8" => Passed::Bytes { mutable: true },
         "*const u8" => Passed::Bytes { mutable: false },
         "*mut Rows" => Passed::Unit { mutable: true },
@@ -94,8 +98,8 @@ fn in_rust(parameter: &str) -> Vec<Parameter> {
 /// `image: &mut [u8]`: a slice passes as a pointer and a length, a reference to an array as one pointer, a number as itself.
 fn in_rattle(parameter: &str) -> Vec<Parameter> {
     let (name, kind) = parameter.split_once(": ").expect("a name and a type");
-    if kind == "u8" {
-        return vec![self::parameter(name, Passed::Number)];
+    if let Some(bits) = kind.strip_prefix('u') {
+        return vec![self::parameter(name, Passed::Number { bits: bits.parse().expect("a width") })];
     }
     let (mutable, kind) = kind.strip_prefix("&mut ").map_or((false, kind.strip_prefix('&')), |it| (true, Some(it)));
     match kind {
@@ -195,4 +199,8 @@ fn a_parameter_that_is_not_so_would_be_seen() {
     let right = declared(text, "uint8_t ", ";", in_c);
     assert_eq!(right["circmon_page"], header()["circmon_page"]);
     assert_ne!(declared(&text.replace("uint8_t object", "circmon_size object"), "uint8_t ", ";", in_c), right);
+    let text = "uint8_t circmon_compare(uint8_t class_a, uint16_t needs_a, uint8_t class_b, uint16_t needs_b);";
+    let right = declared(text, "uint8_t ", ";", in_c);
+    assert_eq!(right["circmon_compare"], header()["circmon_compare"]);
+    assert_ne!(passed(&declared(&text.replacen("uint16_t", "uint8_t", 1), "uint8_t ", ";", in_c)), passed(&right));
 }
