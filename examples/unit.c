@@ -1,5 +1,6 @@
 /* A unit in C: it starts from an enrolment table, answers requests in memory, writes the access page of an object, saves its
- * state as an image and opens it again; and a request on an image alone. docs/EMBEDDING.md builds and runs it. */
+ * state as an image and opens it again; a request on an image alone; and two levels compared. docs/EMBEDDING.md builds and runs
+ * it. */
 #include "circmon.h"
 #include <stdio.h>
 #include <string.h>
@@ -16,12 +17,13 @@ static const struct {
     {"s1 labels o0 class 0 needs {}", {0x70, 0x80, 0x00, 0x00, 0x00, 0x00}},
     {"s1 gets r on o0", {0x10, 0x80, 0x01, 0x00, 0x00, 0x00}},
 };
+static const char *const answers[] = {"equal", "above", "below", "apart"};
 static const uint8_t release[CIRCMON_REQUEST_BYTES] = {0x20, 0x80, 0x01, 0x00, 0x00, 0x00};
 
 int main(void) {
     circmon_unit unit, again;
     uint8_t saved[CIRCMON_IMAGE_BYTES], image[CIRCMON_IMAGE_BYTES], telling[CIRCMON_DISTINGUISH_BYTES];
-    uint8_t page[CIRCMON_PAGE_BYTES];
+    uint8_t page[CIRCMON_PAGE_BYTES], answer;
     printf("start: %d\n", circmon_start(&unit, table, sizeof table));
     for (size_t i = 0; i < sizeof requests / sizeof *requests; i++) {
         uint8_t reply = circmon_ask(&unit, requests[i].bytes, CIRCMON_REQUEST_BYTES);
@@ -39,5 +41,8 @@ int main(void) {
     printf("s1 releases r on o0, on an image: %d\n", circmon_request(image, sizeof image, release, sizeof release));
     printf("requests that tell it from the one saved: %d\n",
            circmon_distinguish(image, sizeof image, saved, sizeof saved, telling, sizeof telling));
+    /* why s0 could not read an object with this label */
+    answer = circmon_compare(1, 0x0001, 2, 0x0002);
+    printf("class 1 needs {0} compared with class 2 needs {1}: %d, %s\n", answer, answers[answer]);
     return 0;
 }

@@ -11,17 +11,17 @@ pub struct Level {
     pub needs: u16,
 }
 
-/// How a level A compares with a level B.
+/// How a level A compares with a level B, with the numbers of the library.
 #[derive(Clone, Copy, Debug, PartialEq, Eq)]
 pub enum Comparison {
     /// class and needs are the same
-    Equal,
+    Equal = 0,
     /// only A dominates
-    Above,
+    Above = 1,
     /// only B dominates
-    Below,
+    Below = 2,
     /// neither dominates
-    Apart,
+    Apart = 3,
 }
 
 impl Comparison {

@@ -1,6 +1,6 @@
 //! Where two states differ, in words.
 
-use crate::level::{label_words, Level};
+use crate::level::{label_words, level_words, Level};
 use crate::mode::Modes;
 use crate::view::{Object, View, OBJECTS, SUBJECTS};
 
@@ -17,7 +17,8 @@ pub fn differences(a: &View, b: &View) -> Vec<String> {
 }
 
 fn clearance(subject: usize, a: Option<Level>, b: Option<Level>) -> Option<String> {
-    let words = |level: Option<Level>| level.map_or("not enrolled".to_string(), |level| format!("clearance {level}"));
+    let clearance = |level| format!("clearance {}", level_words(level));
+    let words = |level: Option<Level>| level.map_or("not enrolled".to_string(), clearance);
     (a != b).then(|| format!("s{subject}: {} in A, {} in B", words(a), words(b)))
 }
 
@@ -26,7 +27,7 @@ fn brief(object: &Object) -> String {
 }
 
 fn labelled(label: Option<Level>) -> String {
-    label.map_or(label_words(None), |level| format!("label {level}"))
+    label.map_or(label_words(None), |level| format!("label {}", level_words(level)))
 }
 
 fn both_live(object: usize, a: &Object, b: &Object) -> Vec<String> {

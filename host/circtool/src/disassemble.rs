@@ -1,6 +1,7 @@
 //! Bytes back to a script, exactly: assembling it gives the same bytes, for every byte string.
 
 use crate::fault;
+use crate::level::level_words;
 use crate::request::{reasons_words, Request};
 use crate::view::View;
 use crate::words::{hex, refusal_words};
@@ -32,8 +33,10 @@ fn table_lines(table: &[u8]) -> String {
         let place = fault::of_table(table).first().map(|fault| format!(": {fault}")).unwrap_or_default();
         return format!("# table refused with {}{place}\ntable-bytes {bytes}\n", refusal_words(number));
     }
-    let lines: String =
-        View::new(table).enrolled().map(|(subject, level)| format!("subject {subject} {level}\n")).collect();
+    let lines: String = View::new(table)
+        .enrolled()
+        .map(|(subject, level)| format!("subject {subject} {}\n", level_words(level)))
+        .collect();
     if lines.is_empty() {
         "# nobody is enrolled\n".to_string()
     } else {

@@ -2,6 +2,7 @@
 
 use crate::cause::{judge, Verdict};
 use crate::paint::Paint;
+use crate::show::subject_lines;
 use crate::view::View;
 use crate::words::{bytes_words, count, reply_words, wrapped};
 use circmon::{Unit, REQUEST_BYTES};
@@ -51,15 +52,6 @@ pub fn explain(unit: &mut Unit, requests: &[u8], lines: &[usize], paint: Paint) 
     text.push('\n');
     text.push_str(&summary(&steps));
     text
-}
-
-fn subject_lines(view: &View) -> String {
-    let lines: String = view.enrolled().map(|(subject, level)| format!("  s{subject:<3} {level}\n")).collect();
-    if lines.is_empty() {
-        "  nobody is enrolled\n".to_string()
-    } else {
-        lines
-    }
 }
 
 fn row(start: &str, step: &Step, width: usize, paint: Paint) -> String {

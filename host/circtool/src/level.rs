@@ -1,32 +1,28 @@
-//! Levels: a class and a set of needs-to-know. A clearance is a level, and so is a label that is present.
+//! Levels in words: a class and a set of needs-to-know. How one compares with another is asked of the library.
 
-use std::fmt;
+use circmon::{compare, Comparison};
 
-#[derive(Clone, Copy, Debug, PartialEq, Eq)]
-pub struct Level {
-    pub class: u8,
-    /// need k weighs 2^k
-    pub needs: u16,
+pub use circmon::Level;
+
+/// Why a level does not dominate another, said behind the name of the one with that of the other: which answer the comparison
+/// gives, and what is missing. Nothing where it does dominate.
+pub fn shortfall(level: Level, other: Level, name: &str) -> Option<String> {
+    let answer = match compare(level, other) {
+        Comparison::Equal | Comparison::Above => return None,
+        Comparison::Below => format!("is below {name} and does not dominate it"),
+        Comparison::Apart => format!("is apart from {name}, neither dominates the other"),
+    };
+    Some(format!("{answer}; missing: {}", missing(level, other)))
 }
 
-impl Level {
-    /// The class is at least the other's, and every need of the other is here.
-    pub fn dominates(self, other: Level) -> bool {
-        self.class >= other.class && other.needs & !self.needs == 0
-    }
-
-    /// What keeps this level from dominating the other, in words; nothing where it does.
-    pub fn shortfall(self, other: Level) -> Option<String> {
-        let mut parts = Vec::new();
-        if self.class < other.class {
-            parts.push(format!("class {} is under class {}", self.class, other.class));
-        }
-        let missing = other.needs & !self.needs;
-        if missing != 0 {
-            parts.push(format!("needs {} are missing", set(missing)));
-        }
-        (!parts.is_empty()).then(|| parts.join(" and "))
-    }
+/// What a level lacks of another: the class, needs, or both.
+fn missing(level: Level, other: Level) -> String {
+    let needs = other.needs & !level.needs;
+    let parts = [
+        (level.class < other.class).then(|| format!("the class ({} is under {})", level.class, other.class)),
+        (needs != 0).then(|| format!("needs {}", set(needs))),
+    ];
+    parts.into_iter().flatten().collect::<Vec<_>>().join(" and ")
 }
 
 /// A set of needs: `{0,1}`, or `{}` where it is empty.
@@ -36,38 +32,49 @@ fn set(needs: u16) -> String {
 }
 
 /// As scripts write it: `class 3 needs {0,1}`, `class 0 needs {}`.
-impl fmt::Display for Level {
-    fn fmt(&self, out: &mut fmt::Formatter) -> fmt::Result {
-        write!(out, "class {} needs {}", self.class, set(self.needs))
-    }
+pub fn level_words(level: Level) -> String {
+    format!("class {} needs {}", level.class, set(level.needs))
 }
 
 /// What stands for an absent label. It never looks like a level.
 pub const NO_LABEL: &str = "no label";
 
 pub fn label_words(label: Option<Level>) -> String {
-    label.map_or(NO_LABEL.to_string(), |level| level.to_string())
+    label.map_or(NO_LABEL.to_string(), level_words)
 }
 
 #[cfg(test)]
 mod tests {
     use super::*;
 
+    const LEVEL: Level = Level { class: 2, needs: 0b011 };
+
+    /// What is said of a level beside `LEVEL`.
+    fn said(class: u8, needs: u16) -> Option<String> {
+        shortfall(Level { class, needs }, LEVEL, "it")
+    }
+
     #[test]
-    fn a_shortfall_is_named_exactly_where_a_level_does_not_dominate() {
-        for (class, needs) in [(0, 0), (1, 1), (1, 2), (3, 3), (2, 0x8001), (15, 0xFFFF)] {
-            for (other_class, other_needs) in [(0, 0), (1, 1), (1, 2), (3, 3), (2, 0x8001), (15, 0xFFFF)] {
-                let (level, other) = (Level { class, needs }, Level { class: other_class, needs: other_needs });
-                assert_eq!(level.dominates(other), level.shortfall(other).is_none(), "{level} over {other}");
-            }
+    fn nothing_is_missing_where_a_level_dominates() {
+        for (class, needs) in [(2, 0b011), (3, 0b011), (2, 0b111), (15, 0xFFFF)] {
+            assert_eq!(said(class, needs), None, "class {class} needs {needs:b}");
         }
     }
 
     #[test]
-    fn the_shortfall_names_class_and_needs() {
-        let (low, high) = (Level { class: 1, needs: 1 }, Level { class: 3, needs: 0b1110 });
-        assert_eq!(low.shortfall(high).unwrap(), "class 1 is under class 3 and needs {1,2,3} are missing");
-        assert_eq!(high.shortfall(low).unwrap(), "needs {0} are missing");
+    fn the_answer_and_what_is_missing_are_said() {
+        let (below, apart) = ("is below it and does not dominate it", "is apart from it, neither dominates the other");
+        for (class, needs, answer, missing) in [
+            (1, 0b011, below, "the class (1 is under 2)"),
+            (2, 0b001, below, "needs {1}"),
+            (0, 0b000, below, "the class (0 is under 2) and needs {0,1}"),
+            (1, 0b111, apart, "the class (1 is under 2)"),
+            (3, 0b010, apart, "needs {0}"),
+            (2, 0b100, apart, "needs {0,1}"),
+            (1, 0b101, apart, "the class (1 is under 2) and needs {1}"),
+        ] {
+            assert_eq!(said(class, needs), Some(format!("{answer}; missing: {missing}")), "class {class} {needs:b}");
+        }
     }
 
     #[test]

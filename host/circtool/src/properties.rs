@@ -1,9 +1,10 @@
 //! Where a state breaks one of the four properties: every place, so that it can be named. Requests are explained from
 //! the state after them, refused images from the state that they say.
 
-use crate::level::{label_words, Level};
+use crate::level::{label_words, level_words, shortfall, Level};
 use crate::mode::Modes;
 use crate::view::{Object, View, SUBJECTS};
+use circmon::compare;
 
 /// What one subject holds on one object, with what it is compared with.
 #[derive(Clone, Debug, PartialEq, Eq)]
@@ -80,30 +81,25 @@ fn star_of(all: &[Holding], subject: usize) -> Vec<Pair> {
     pairs
 }
 
-/// An absent level neither dominates nor is dominated.
-fn dominates(above: Option<Level>, below: Option<Level>) -> bool {
-    matches!((above, below), (Some(above), Some(below)) if above.dominates(below))
+/// An absent level neither dominates nor is dominated, and is not compared.
+fn dominates(level: Option<Level>, other: Option<Level>) -> bool {
+    matches!((level, other), (Some(level), Some(other)) if compare(level, other).dominates())
 }
 
-/// What keeps one from dominating the other, also where one is absent.
-fn shortfall(above: Option<Level>, below: Option<Level>) -> String {
-    match (above, below) {
-        (Some(above), Some(below)) => above.shortfall(below).unwrap_or_default(),
-        _ => "an absent level dominates nothing and nothing dominates it".to_string(),
+/// Why one does not dominate the other, whose name is given; also where one is absent.
+fn why(level: Option<Level>, other: Option<Level>, name: &str) -> String {
+    match (level, other) {
+        (Some(level), Some(other)) => shortfall(level, other, name).unwrap_or_default(),
+        _ => format!("does not dominate {name}: an absent level dominates nothing and nothing dominates it"),
     }
 }
 
 impl Holding {
     /// Why the clearance does not dominate the label.
     pub fn simple_words(&self) -> String {
-        let clearance = self.clearance.map_or("none, it is absent".to_string(), |level| level.to_string());
-        format!(
-            "the clearance of s{} ({clearance}) does not dominate the label of o{} ({}): {}",
-            self.subject,
-            self.object,
-            label_words(self.label),
-            shortfall(self.clearance, self.label)
-        )
+        let clearance = self.clearance.map_or("none, it is absent".to_string(), level_words);
+        let label = format!("the label of o{} ({})", self.object, label_words(self.label));
+        format!("the clearance of s{} ({clearance}) {}", self.subject, why(self.clearance, self.label, &label))
     }
 }
 
@@ -113,13 +109,12 @@ impl Pair {
     pub fn words(&self, verb: &str) -> String {
         let (read, written) = (&self.read, &self.written);
         format!(
-            "s{} {verb} {} and {}, and the label of o{} does not dominate that of o{}: {}",
+            "s{} {verb} {} and {}, and the label of o{} {}",
             read.subject,
             side(read.held.reading(), read),
             side(written.held.writing(), written),
             written.object,
-            read.object,
-            shortfall(written.label, read.label)
+            why(written.label, read.label, &format!("that of o{}", read.object))
         )
     }
 }

@@ -2,7 +2,7 @@
 
 use crate::bits::{field, put};
 use crate::kinds::{Row, KINDS, WITH_MODE};
-use crate::level::Level;
+use crate::level::{level_words, Level};
 use crate::mode::Mode;
 use crate::view::{OBJECTS, SUBJECTS};
 use circmon::REQUEST_BYTES;
@@ -200,7 +200,7 @@ impl Request {
             Some(mode) => words.replace("MODE", &mode.to_string()),
             None => words.replace(WITH_MODE, ""),
         };
-        let words = words.replace("OTHER", &format!("s{other}")).replace("LEVEL", &level.to_string());
+        let words = words.replace("OTHER", &format!("s{other}")).replace("LEVEL", &level_words(level));
         format!("s{} {}", self.actor, words.replace("OBJECT", &format!("o{}", self.object)))
     }
 }

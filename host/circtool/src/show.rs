@@ -1,6 +1,6 @@
 //! A state for people.
 
-use crate::level::NO_LABEL;
+use crate::level::{level_words, NO_LABEL};
 use crate::paint::Paint;
 use crate::view::{Object, View, SUBJECTS};
 use crate::words::count;
@@ -8,13 +8,22 @@ use crate::words::count;
 /// The whole text: counts, subjects with clearances, live objects with owner, label and rows.
 pub fn show(view: &View, paint: Paint) -> String {
     let mut text = counts(view);
-    text.push_str(&format!("\n{}\n", paint.heading("subjects")));
-    let subjects: String = view.enrolled().map(|(subject, level)| format!("  s{subject:<3} {level}\n")).collect();
-    text.push_str(if subjects.is_empty() { "  nobody is enrolled\n" } else { &subjects });
+    text.push_str(&format!("\n{}\n{}", paint.heading("subjects"), subject_lines(view)));
     text.push_str(&format!("\n{}\n", paint.heading("objects")));
     let objects: String = view.live().map(|(number, object)| object_lines(number, object, paint)).collect();
     text.push_str(if objects.is_empty() { "  none is live\n" } else { &objects });
     text
+}
+
+/// The enrolled subjects with their clearances.
+pub fn subject_lines(view: &View) -> String {
+    let line = |(subject, level)| format!("  s{subject:<3} {}\n", level_words(level));
+    let lines: String = view.enrolled().map(line).collect();
+    if lines.is_empty() {
+        "  nobody is enrolled\n".to_string()
+    } else {
+        lines
+    }
 }
 
 fn counts(view: &View) -> String {
@@ -38,7 +47,7 @@ fn counts(view: &View) -> String {
 /// The label as a column of its own: an absent one says what follows from it and never looks like class 0.
 fn label(object: &Object, paint: Paint) -> String {
     match object.label {
-        Some(level) => format!("label {level}"),
+        Some(level) => format!("label {}", level_words(level)),
         None => format!("{} (not class 0: nobody reads, writes or appends)", paint.warning(NO_LABEL)),
     }
 }

@@ -2,31 +2,21 @@
 
 mod shared;
 
+use circmon::Level;
 use circmon::Unit;
 use circtool::cause::{after, judge, By, Cause, Missing, Verdict};
 use circtool::explain::{explain, step};
-use circtool::level::Level;
 use circtool::mode::Modes;
 use circtool::paint::Paint;
 use circtool::properties::{Holding, Pair};
 use circtool::view::View;
 use reference::{Kind, Monitor, Request};
-use sidebyside::{Count, SHAPES};
+use shared::second;
+use sidebyside::{with_effect, Count, SHAPES};
 
-fn level(level: reference::Level) -> Level {
-    Level { class: level.class, needs: level.needs }
-}
-
-/// The second implementation's state with the access or the label that the request asks for put in, unchecked.
-fn with_effect(monitor: &Monitor, request: &Request) -> Monitor {
-    let mut after = monitor.clone();
-    let object = after.objects[request.object].as_mut().expect("checks 8 and 9 come after 4");
-    match request.kind {
-        Kind::Get(mode) => object.held[request.actor] |= mode.bit(),
-        Kind::ChangeLevel(level) => object.label = Some(level),
-        _ => panic!("checks 8 and 9 are for get and change of level"),
-    }
-    after
+/// That both levels are there and the first does not dominate the second, by the second implementation.
+fn not_dominated(level: Option<Level>, other: Option<Level>) {
+    assert!(!second(level.unwrap()).dominates(&second(other.unwrap())));
 }
 
 /// That the holding is so in this state.
@@ -34,8 +24,8 @@ fn holds(it: &Holding, state: &Monitor) {
     let object = state.objects[it.object].as_ref().expect("a live object");
     assert_eq!(it.held, Modes(object.held[it.subject]));
     assert_eq!(it.rights, Modes(object.rights[it.subject]));
-    assert_eq!(it.label, object.label.map(level));
-    assert_eq!(it.clearance, state.subjects[it.subject].map(level));
+    assert_eq!(it.label.map(second), object.label);
+    assert_eq!(it.clearance.map(second), state.subjects[it.subject]);
 }
 
 fn missing_is_so(it: &Missing, before: &Monitor, request: &Request) {
@@ -52,7 +42,7 @@ fn simple_is_so(place: &Holding, by: By, before: &Monitor, request: &Request) {
     let by_level = matches!(request.kind, Kind::ChangeLevel(_));
     assert_eq!((place.object, by == By::Level), (request.object, by_level));
     assert!(!place.held.reading().is_empty());
-    assert!(!place.clearance.unwrap().dominates(place.label.unwrap()));
+    not_dominated(place.clearance, place.label);
     assert!(by_level || place.subject == request.actor, "a get breaks simple for its actor only");
 }
 
@@ -63,7 +53,7 @@ fn star_is_so(pair: &Pair, by: By, before: &Monitor, request: &Request) {
     let by_level = matches!(request.kind, Kind::ChangeLevel(_));
     assert_eq!((pair.read.subject, by == By::Level), (pair.written.subject, by_level));
     assert!(!pair.read.held.reading().is_empty() && !pair.written.held.writing().is_empty());
-    assert!(!pair.written.label.unwrap().dominates(pair.read.label.unwrap()));
+    not_dominated(pair.written.label, pair.read.label);
     assert!([pair.read.object, pair.written.object].contains(&request.object));
     assert!(by_level || pair.read.subject == request.actor, "a get breaks star for its actor only");
 }
@@ -177,17 +167,23 @@ fn rights_and_ownership_are_named() {
 fn levels_and_what_fails_in_them_are_named() {
     let labelled = "s1 create o0\ns1 give s0 r o0\ns1 give s2 w o0\ns1 level o0 class 2 needs {0}\n";
     let (reply, reason) = last(&format!("{labelled}s0 get r o0"));
-    let clearance = "the clearance of s0 (class 1 needs {0}) does not dominate the label of o0 (class 2 needs {0})";
-    assert_eq!((reply, reason), (8, format!("{clearance}: class 1 is under class 2")));
+    let clearance =
+        "the clearance of s0 (class 1 needs {0}) is below the label of o0 (class 2 needs {0}) and does not \
+                     dominate it; missing: the class (1 is under 2)";
+    assert_eq!((reply, reason.as_str()), (8, clearance));
     let (reply, reason) = last(&format!("{labelled}s2 get w o0"));
-    assert!(reply == 8 && reason.ends_with("(class 2 needs {0}): needs {0} are missing"), "{reason}");
+    let clearance =
+        "the clearance of s2 (class 3 needs {}) is apart from the label of o0 (class 2 needs {0}), neither \
+                     dominates the other; missing: needs {0}";
+    assert_eq!((reply, reason.as_str()), (8, clearance));
     // change of level looks at everyone who holds, not at the owner alone
     let (reply, reason) = last(
         "s1 create o0\ns1 level o0 class 0 needs {}\ns1 give s2 r o0\ns2 get r o0\n\
                                 s1 level o0 class 1 needs {1,15}",
     );
-    let holder = "s2 holds r on o0, and with the new level the clearance of s2 (class 3 needs {}) does not dominate \
-                  the label of o0 (class 1 needs {1,15}): needs {1,15} are missing";
+    let holder =
+        "s2 holds r on o0, and with the new level the clearance of s2 (class 3 needs {}) is apart from the label \
+                  of o0 (class 1 needs {1,15}), neither dominates the other; missing: needs {1,15}";
     assert_eq!((reply, reason.as_str()), (8, holder));
     let (reply, reason) = last("s1 create o0\ns1 get a o0");
     assert!(reply == 7 && reason.starts_with("o0 has no label; that is not class 0"), "{reason}");
@@ -199,8 +195,8 @@ fn star_names_the_subject_and_both_objects() {
                s1 give s2 r o4\ns1 give s2 a o5\n";
     let (reply, reason) = last(&format!("{two}s1 get r o4\ns1 get a o5"));
     let expected =
-        "s1 would hold r on o4 (class 2 needs {0}) and a on o5 (class 1 needs {0,1}), and the label of o5 does \
-                    not dominate that of o4: class 1 is under class 2";
+        "s1 would hold r on o4 (class 2 needs {0}) and a on o5 (class 1 needs {0,1}), and the label of o5 is \
+                    apart from that of o4, neither dominates the other; missing: the class (1 is under 2)";
     assert_eq!((reply, reason.as_str()), (9, expected));
     // the pair is another subject's, and the label is that after the change
     let (reply, reason) = last(&format!(
@@ -208,12 +204,14 @@ fn star_names_the_subject_and_both_objects() {
          s1 level o4 class 1 needs {{}}"
     ));
     let expected = "with the new level s2 holds r on o4 (class 1 needs {}) and a on o5 (class 0 needs {3}), and the \
-                    label of o5 does not dominate that of o4: class 0 is under class 1";
+                    label of o5 is apart from that of o4, neither dominates the other; missing: the class (0 is \
+                    under 1)";
     assert_eq!((reply, reason.as_str()), (9, expected));
 }
 
 /// The replies that each example is written to show.
-const EXAMPLES: [(&str, &[u8]); 4] = [
+const EXAMPLES: [(&str, &[u8]); 5] = [
+    ("four-answers", &[0, 0, 0, 0, 0, 0, 0, 0, 0, 0, 0, 8, 8, 8, 8, 8, 8, 0, 0, 9, 0, 9, 0, 0]),
     ("lobby-display", &[0, 0, 0, 0, 7, 7, 7, 0, 8, 8, 0, 0, 0]),
     ("marked-run", &[0, 7, 0, 1, 0, 0, 0, 0, 9, 0, 8, 0, 9, 6, 0, 1]),
     ("slot-again", &[0, 0, 0, 0, 0, 4, 0, 7, 0, 6, 6, 6, 0]),

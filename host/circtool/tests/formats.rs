@@ -3,7 +3,7 @@
 
 mod shared;
 
-use circmon::{Unit, PAGE_BYTES};
+use circmon::{Level, Unit, PAGE_BYTES};
 use circtool::words::hex;
 use load::Random;
 use reference::{Kind, Monitor, Request};
@@ -113,6 +113,25 @@ fn each_kind_gets_exactly_the_replies_of_its_checks() {
         replies.dedup();
         assert_eq!(*replies, expected, "{}", row[1]);
     }
+}
+
+/// As the page says it of a level over another, need by need.
+fn over(a: Level, b: Level) -> bool {
+    a.class >= b.class && (0..16).all(|need| b.needs >> need & 1 <= a.needs >> need & 1)
+}
+
+#[test]
+fn the_answers_of_a_comparison_are_those_of_the_page() {
+    let rows = table("comparison | name");
+    let yes = |it: bool| if it { "yes" } else { "no" };
+    let levels: Vec<Level> = (0..4 * 8).map(|at| Level { class: at as u8 / 8, needs: at % 8 }).collect();
+    for (a, b) in levels.iter().flat_map(|a| levels.iter().map(move |b| (*a, *b))) {
+        let answer = circmon::compare(a, b);
+        let row = rows.iter().find(|row| row[1] == format!("{answer:?}").to_lowercase()).unwrap();
+        assert_eq!(row[0], (answer as u8).to_string(), "{answer:?}");
+        assert_eq!(row[2..], [yes(over(a, b)), yes(over(b, a))], "{a:?} with {b:?}: {answer:?}");
+    }
+    assert_eq!(rows.len(), 4);
 }
 
 /// A level in a record, where the bit before it is set.

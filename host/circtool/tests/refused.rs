@@ -8,6 +8,7 @@ use circtool::layout::record_of;
 use circtool::refusal;
 use load::Random;
 use reference::{Monitor, Object};
+use shared::second;
 use sidebyside::{image, Count, SHAPES};
 
 fn number_of(faults: &[Fault], what: &str) -> u8 {
@@ -107,7 +108,6 @@ fn spoil(way: u64, subject: usize, object: &mut Object) {
 /// That a fault is so in the state that the image was written from.
 fn is_so(fault: &Fault, state: &Monitor, what: &str) {
     let object = |at: usize| state.objects[at].as_ref().unwrap_or_else(|| panic!("{what}: o{at} is not live"));
-    let level = |level: reference::Level| circtool::level::Level { class: level.class, needs: level.needs };
     match fault {
         Fault::Length { .. } | Fault::Stray { .. } => panic!("{what}: the form is good"),
         Fault::NotEnrolled { subject, object: at, owns, rights, held } => {
@@ -122,14 +122,9 @@ fn is_so(fault: &Fault, state: &Monitor, what: &str) {
             assert!(object(it.object).label.is_none() && object(it.object).held[it.subject] > 1, "{what}");
         }
         Fault::Simple(it) => {
-            assert_eq!(
-                (it.clearance, it.label),
-                (state.subjects[it.subject].map(level), object(it.object).label.map(level))
-            );
-            assert!(
-                object(it.object).reads(it.subject) && !it.clearance.unwrap().dominates(it.label.unwrap()),
-                "{what}"
-            );
+            let (clearance, label) = (state.subjects[it.subject], object(it.object).label);
+            assert_eq!((it.clearance.map(second), it.label.map(second)), (clearance, label), "{what}");
+            assert!(object(it.object).reads(it.subject) && !clearance.unwrap().dominates(&label.unwrap()), "{what}");
         }
         Fault::Star(pair) => {
             let (read, written) = (object(pair.read.object), object(pair.written.object));

@@ -3,7 +3,7 @@
 
 use circmon::{Rows, Unit, ROWS, ROW_BYTES};
 use load::{Random, Shape};
-use reference::{Monitor, IMAGE_BYTES, TABLE_BYTES};
+use reference::{Kind, Monitor, Request, IMAGE_BYTES, TABLE_BYTES};
 use std::collections::BTreeMap;
 use std::io::Write;
 use std::path::{Path, PathBuf};
@@ -51,6 +51,18 @@ pub fn drawn(seed: u64, shape: Shape, requests: usize) -> ([u8; TABLE_BYTES], Ve
         bytes
     };
     (table, (0..requests).map(draw).collect())
+}
+
+/// The second implementation's state with the access or the label that the request asks for put in, unchecked.
+pub fn with_effect(monitor: &Monitor, request: &Request) -> Monitor {
+    let mut after = monitor.clone();
+    let object = after.objects[request.object].as_mut().expect("checks 8 and 9 come after 4");
+    match request.kind {
+        Kind::Get(mode) => object.held[request.actor] |= mode.bit(),
+        Kind::ChangeLevel(level) => object.label = Some(level),
+        _ => panic!("checks 8 and 9 are for get and change of level"),
+    }
+    after
 }
 
 /// How often each number was given, whatever numbers there are.

@@ -1,4 +1,4 @@
-//! What the tests share: runs from seeds, the folder of the repository, and calls of the command.
+//! What the tests share: runs from seeds, levels of the second implementation, the folder of the repository, and calls of the command.
 #![allow(dead_code)] // each test program uses a part
 
 pub mod clone;
@@ -48,6 +48,11 @@ pub fn run(seed: u64, shape: Shape, length: usize) -> Run {
         run.requests.push(bytes);
     }
     run
+}
+
+/// A level as the second implementation has it, which compares it by itself.
+pub fn second(level: circmon::Level) -> reference::Level {
+    reference::Level { class: level.class, needs: level.needs }
 }
 
 /// The command with these words, with bytes on its standard input.

@@ -1,0 +1,144 @@
+//! Of each refusal with 8 or 9 the answer of the comparison is said and exactly what is missing, of requests and of images:
+//! beside the second implementation's comparison, and need by need.
+
+mod shared;
+
+use circmon::Unit;
+use circtool::explain::step;
+use circtool::fault;
+use load::Random;
+use reference::{Comparison, Level, Monitor, Request};
+use sidebyside::{image, with_effect, SHAPES};
+use std::collections::BTreeMap;
+
+/// How often each answer was said with what is missing, by number.
+type Said = BTreeMap<(u8, &'static str, &'static str), usize>;
+
+/// Every answer that refuses, with everything that can be missing.
+fn all(number: u8) -> Vec<(u8, &'static str, &'static str)> {
+    ["below", "apart"].iter().flat_map(|answer| ["class", "needs", "both"].map(|it| (number, *answer, it))).collect()
+}
+
+fn words(level: Level) -> String {
+    format!("class {} needs {}", level.class, set(|need| has(level, need)))
+}
+
+fn has(level: Level, need: u32) -> bool {
+    level.needs / 2u16.pow(need) % 2 == 1
+}
+
+fn set(member: impl Fn(u32) -> bool) -> String {
+    let needs: Vec<String> = (0..16).filter(|need| member(*need)).map(|need| need.to_string()).collect();
+    format!("{{{}}}", needs.join(","))
+}
+
+/// What must be said of a level that does not dominate the other, and what it is counted as.
+fn expected(level: Level, other: Level, name: &str) -> (String, &'static str, &'static str) {
+    let (answer, said) = match level.compare(&other) {
+        Comparison::Below => ("below", format!("is below {name} and does not dominate it")),
+        Comparison::Apart => ("apart", format!("is apart from {name}, neither dominates the other")),
+        answer => panic!("{} with {}: {answer:?} refuses nothing", words(level), words(other)),
+    };
+    let class = format!("the class ({} is under {})", level.class, other.class);
+    let lacks = |need| has(other, need) && !has(level, need);
+    let (what, missing) = match (level.class < other.class, (0..16).any(lacks)) {
+        (true, false) => ("class", class),
+        (false, true) => ("needs", format!("needs {}", set(lacks))),
+        (true, true) => ("both", format!("{class} and needs {}", set(lacks))),
+        (false, false) => panic!("{} with {}: nothing is missing", words(level), words(other)),
+    };
+    (format!("{said}; missing: {missing}"), answer, what)
+}
+
+/// The numbers that stand in the text behind each place of the words.
+fn numbers(text: &str, before: &str) -> Vec<usize> {
+    let digits = |it: &str| it.chars().take_while(char::is_ascii_digit).collect::<String>();
+    text.split(before).skip(1).map(|it| digits(it).parse().unwrap()).collect()
+}
+
+fn label(state: &Monitor, object: usize) -> Level {
+    state.objects[object].as_ref().unwrap().label.unwrap()
+}
+
+/// The reason of a refusal with 8 ends in what the clearance lacks of the label, by the state that breaks the property.
+fn simple(reason: &str, state: &Monitor, said: &mut Said) {
+    let start = reason.find("the clearance of s").unwrap_or_else(|| panic!("{reason}"));
+    let (subject, object) = (numbers(reason, "the clearance of s")[0], numbers(reason, "the label of o")[0]);
+    let (clearance, label) = (state.subjects[subject].unwrap(), label(state, object));
+    let (words, name) = (words(clearance), format!("the label of o{object} ({})", words(label)));
+    let (tail, answer, missing) = expected(clearance, label, &name);
+    assert_eq!(reason[start..], format!("the clearance of s{subject} ({words}) {tail}"));
+    *said.entry((8, answer, missing)).or_default() += 1;
+}
+
+/// The reason of a refusal with 9 ends in what the label of the written object lacks of that of the read one.
+fn star(reason: &str, state: &Monitor, said: &mut Said) {
+    let start = reason.find(", and the label of o").unwrap_or_else(|| panic!("{reason}"));
+    let [read, written] = numbers(&reason[..start], " on o")[..] else { panic!("{reason}") };
+    let (tail, answer, missing) = expected(label(state, written), label(state, read), &format!("that of o{read}"));
+    assert_eq!(reason[start..], format!(", and the label of o{written} {tail}"));
+    *said.entry((9, answer, missing)).or_default() += 1;
+}
+
+fn check(number: u8, reason: &str, state: &Monitor, said: &mut Said) {
+    match number {
+        8 => simple(reason, state, said),
+        9 => star(reason, state, said),
+        _ => panic!("{number}: {reason}"),
+    }
+}
+
+#[test]
+fn requests_refused_with_8_or_9() {
+    let mut said = Said::new();
+    for seed in 0..300 {
+        let run = shared::run(seed, SHAPES[seed as usize % SHAPES.len()], 1000);
+        let mut unit = Unit::from_table(&run.table).unwrap();
+        let mut monitor = Monitor::from_table(&run.table).unwrap();
+        for bytes in &run.requests {
+            let step = step(&mut unit, bytes);
+            if step.reply == 8 || step.reply == 9 {
+                let state = with_effect(&monitor, &Request::decode(bytes).unwrap());
+                check(step.reply, &step.reason.unwrap(), &state, &mut said);
+            }
+            monitor.request(bytes);
+        }
+    }
+    for it in [all(8), all(9)].concat() {
+        assert!(said.get(&it).is_some_and(|times| *times > 30), "{it:?} was not met often: {said:?}");
+    }
+}
+
+/// A state in which some labels are drawn anew; for every other seed they come to lie below the old ones, which keeps the simple
+/// property.
+fn relabelled(seed: u64) -> Monitor {
+    let random = &mut Random::new(seed);
+    let mut monitor = load::rich(seed, 40, 3000);
+    for label in monitor.objects.iter_mut().flatten().filter_map(|it| it.label.as_mut()) {
+        let drawn = load::level(random, SHAPES[2]);
+        let lower = Level { class: label.class.min(drawn.class), needs: label.needs & drawn.needs };
+        if random.once_in(4) {
+            *label = if seed % 2 == 0 { lower } else { drawn };
+        }
+    }
+    monitor
+}
+
+#[test]
+fn images_refused_with_8_or_9() {
+    let mut said = Said::new();
+    for seed in 0..1000 {
+        let monitor = relabelled(seed);
+        let bytes = image(&monitor);
+        let number = circmon::read(&bytes);
+        let faults = fault::of_image(&bytes);
+        assert!(number == 0 || !faults.is_empty(), "seed {seed}: refused with {number}");
+        for fault in faults {
+            assert_eq!(fault.number(), number, "seed {seed}: {fault}");
+            check(number, &fault.to_string(), &monitor, &mut said);
+        }
+    }
+    for it in [all(8), all(9)].concat() {
+        assert!(said.get(&it).is_some_and(|times| *times > 2), "{it:?} was not met: {said:?}");
+    }
+}
