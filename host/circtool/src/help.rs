@@ -16,7 +16,7 @@ Usage: circtool SUBCOMMAND [OPTIONS] [FILE]
 
 'circtool help SUBCOMMAND' says more. --version prints the version.
 Where no file or '-' is given, standard input is read; 'page' with objects needs the image or '-' before them.
-Every reply, acceptance and page comes from the proved library.
+Every reply, acceptance, page and comparison of two levels comes from the proved library.
 
 Exit status: 0 fine; 1 a table or image is refused, an object is not live, or two images differ; 2 usage, or input that
 cannot be read.

@@ -1,5 +1,5 @@
-//! What the command `circtool` is made of. Every reply, acceptance and page comes from the proved library through the
-//! crate `circmon`; what stands here reads bytes and scripts, finds the words for them, and prints.
+//! What the command `circtool` is made of. Every reply, acceptance, page and comparison of two levels comes from the
+//! proved library through the crate `circmon`; what stands here reads bytes and scripts, finds the words for them, and prints.
 
 mod arguments;
 pub mod assemble;

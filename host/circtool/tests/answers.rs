@@ -109,7 +109,7 @@ fn requests_refused_with_8_or_9() {
     }
 }
 
-/// A state in which some labels are drawn anew; for every other seed they come to lie below the old ones, which keeps the simple
+/// A state in which some labels are drawn anew; for every other seed the old ones dominate them, which keeps the simple
 /// property.
 fn relabelled(seed: u64) -> Monitor {
     let random = &mut Random::new(seed);
