@@ -1,6 +1,7 @@
 -- The numbers of `circmon_compare`: what each says of two levels, in words of the relation.
 -- Assumes nothing.
 use Prim.Native.Nat.{ℕ, zero, suc, _<_}
+use native.Mathlib.Omega.{arith}
 use mathlib.Core.Path.{_≡_, refl, sym, ap, ap₂, _∙_}
 use mathlib.Core.Logic.{_↔_}
 use Rattle.model.specs.declared.Level.{Level}
@@ -23,12 +24,18 @@ answer-number Above = refl
 answer-number Below = refl
 answer-number Apart = refl
 
+four-numbers : (c : Comparison) → comparisonNumber c < 4
+four-numbers Equal = omega arith
+four-numbers Above = omega arith
+four-numbers Below = omega arith
+four-numbers Apart = omega arith
+
 module _ (class-a needs-a class-b needs-b : ℕ) where
   abbrev a : Level
-  a = handed class-a needs-a
+  a = record { class = class-a; needs = needs-a }
 
   abbrev b : Level
-  b = handed class-b needs-b
+  b = record { class = class-b; needs = needs-b }
 
   -- what one answer means is what its number means
   numbered : {P : Type 0} (c : Comparison) → (compare a b ≡ c) ↔ P → (compared class-a needs-a class-b needs-b ≡ comparisonNumber c) ↔ P
@@ -47,6 +54,11 @@ module _ (class-a needs-a class-b needs-b : ℕ) where
       let m = compare-means a b in
       (numbered Equal (m .0), numbered Above (m .1), numbered Below (m .2), numbered Apart (m .3))
 
+  -- no other number is returned
+  pub compared-below-4 : compared class-a needs-a class-b needs-b < 4
+  unfolding compared
+  compared-below-4 = four-numbers (compare a b)
+
   -- 0 is said of the same class and the same needs, and of nothing else
   pub compared-0-exactly : needs-a < 65536 → needs-b < 65536
       → (compared class-a needs-a class-b needs-b ≡ 0) ↔ ((class-a ≡ class-b) × (needs-a ≡ needs-b))
@@ -54,7 +66,7 @@ module _ (class-a needs-a class-b needs-b : ℕ) where
       let e = numbered Equal (equal-exactly a b p q) in
       (λ n. (ap (λ (l : Level). l .class) (e .0 n), ap (λ (l : Level). l .needs) (e .0 n)), λ s. e .1 (ap₂ handed (s .0) (s .1)))
 
--- each number, and a class that no level has
-pub each-number : (compared 3 3 3 3 ≡ 0) × (compared 3 3 1 1 ≡ 1) × (compared 3 3 5 7 ≡ 2) × (compared 3 3 5 1 ≡ 3) × (compared 255 0 15 65535 ≡ 3)
+-- each number; the last need; a class that no level has
+pub each-number : (compared 3 3 3 3 ≡ 0) × (compared 3 3 1 1 ≡ 1) × (compared 3 3 5 7 ≡ 2) × (compared 3 3 5 1 ≡ 3) × (compared 0 32768 0 0 ≡ 1) × (compared 255 0 15 65535 ≡ 3)
 unfolding compared compare
-each-number = (refl, refl, refl, refl, refl)
+each-number = (refl, refl, refl, refl, refl, refl)

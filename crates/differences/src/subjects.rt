@@ -73,7 +73,7 @@ pub fn free_place(unit: &[[u8; 16]]) -> Place
     }
 }
 
-// At a level that the other one does not dominate, if there is one.
+// s reads at a level that the other one does not dominate, if there is one.
 fn level_apart(p: Place, s: u8, a: Level, b: Level) -> Sequence
     ensures { λ r. ⌜ requestsOf r ≡ levelApart p s a b ⌝ }
 {

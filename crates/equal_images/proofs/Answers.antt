@@ -1,15 +1,19 @@
 -- The four answers in what tells two clearances apart.
 -- Assumes nothing.
+use Prim.Native.Nat.{ℕ}
 use mathlib.Core.Path.{_≡_, refl, _∙_}
 use mathlib.Core.Bool.{cond}
 use mathlib.Core.List.{List, []}
-use Rattle.model.specs.declared.Level.{Level}
+use Rattle.model.specs.declared.Label.{Label}
+use Rattle.model.specs.declared.Label.the-variants.{Absent, Present}
+use Rattle.model.specs.declared.Monitor.{Monitor}
 use Rattle.model.specs.declared.Comparison.{Comparison}
 use Rattle.model.specs.declared.Comparison.the-variants.{Equal, Above, Below, Apart}
 use Rattle.model.specs.declared.Request.{Request}
 use Rattle.model.specs.Levels.{compare, equalOrAbove, levelDominates}
+use Rattle.model.specs.State.{objectCount}
 use Rattle.model.proofs.Comparisons.{mirror, level-back}
-use Rattle.telling.specs.Distinguish.{byComparison}
+use Rattle.telling.specs.Distinguish.{freeBelow, readAt, byComparison, toClearance}
 
 -- what holds of the list under each answer
 pub comparison-all : (P : List Request → Type 0) (c : Comparison) (x y : List Request)
@@ -26,7 +30,16 @@ by-tests Above x y = refl
 by-tests Below x y = refl
 by-tests Apart x y = refl
 
--- the lists are those that were chosen before there were four answers
-pub lists-as-before : (a b : Level) (x y : List Request) → byComparison (compare a b) x y ≡ cond (levelDominates b a) (cond (levelDominates a b) [] y) x
-unfolding levelDominates
-lists-as-before a b x y = by-tests (compare a b) x y ∙ rw (level-back a b)
+-- the list as it was chosen before there were four answers
+abbrev clearanceBefore : Monitor → ℕ → Label → Label → List Request
+clearanceBefore m s Absent b = []
+clearanceBefore m s (Present a) Absent = []
+clearanceBefore m s (Present a) (Present b) =
+    cond (levelDominates b a) (cond (levelDominates a b) [] (readAt m (freeBelow objectCount m) s b)) (readAt m (freeBelow objectCount m) s a)
+
+-- what tells two clearances apart is what it was
+pub lists-as-before : (m : Monitor) (s : ℕ) (a b : Label) → toClearance m s a b ≡ clearanceBefore m s a b
+unfolding toClearance levelDominates
+lists-as-before m s Absent b = refl
+lists-as-before m s (Present a) Absent = refl
+lists-as-before m s (Present a) (Present b) = by-tests (compare a b) _ _ ∙ rw (level-back a b)

@@ -2,7 +2,7 @@
 ghost use mathlib.Core.Path.{_≡_};
 ghost use mathlib.Core.Bool.{_&&_};
 ghost use Rattle.model.specs.Tests.{implies, unless};
-ghost use Rattle.model.specs.Levels.{subset, covers, answered, compare, equalOrAbove, dominates, present, sameLabel};
+ghost use Rattle.model.specs.Levels.{subset, atLeast, answered, compare, equalOrAbove, dominates, present, sameLabel};
 ghost use Rattle.model.specs.Modes.{weight, has, add, remove, observes, needsLabel, anyObserves, anyAlters, anyNeedsLabel};
 ghost use Rattle.model.specs.Decisions.{number, refuses};
 use model::Comparison;
@@ -41,8 +41,9 @@ fn includes(a: u16, b: u16) -> bool
     b & a == b
 }
 
-fn covers(a: Level, b: Level) -> bool
-    ensures { λ r. ⌜ r ≡ covers a b ⌝ }
+// One direction of a comparison.
+fn at_least(a: Level, b: Level) -> bool
+    ensures { λ r. ⌜ r ≡ atLeast a b ⌝ }
 {
     (b.class <= a.class) & includes(a.needs, b.needs)
 }
@@ -68,7 +69,7 @@ fn answered(first: bool, second: bool) -> Comparison
 pub fn compare(a: Level, b: Level) -> Comparison
     ensures { λ r. ⌜ r ≡ compare a b ⌝ }
 {
-    answered(covers(a, b), covers(b, a))
+    answered(at_least(a, b), at_least(b, a))
 }
 
 fn equal_or_above(c: Comparison) -> bool

@@ -1,18 +1,20 @@
 -- "Four answers from a comparison" (change request §2): each answer in words of the relation, and the test behind the checks as it was.
 -- Assumes nothing.
-use Prim.Native.Nat.{ℕ, _<_}
+use Prim.Native.Nat.{ℕ, _^_, _<_}
 use mathlib.Core.Path.{_≡_, refl, sym, ap, ap₂, _∙_, subst}
 use mathlib.Core.Logic.{_↔_}
 use mathlib.Core.Bool.{Bool, true, false, _&&_}
+use mathlib.Core.List.{[], _∷_, map}
+use lib.ListN.{replicate}
 use lib.Dec.{leb}
 use Rattle.model.specs.declared.Level.{Level}
 use Rattle.model.specs.declared.Label.{Label}
 use Rattle.model.specs.declared.Label.the-variants.{Absent, Present}
 use Rattle.model.specs.declared.Comparison.{Comparison}
 use Rattle.model.specs.declared.Comparison.the-variants.{Equal, Above, Below, Apart}
-use Rattle.model.specs.Levels.{LevelDominates, subset, covers, answered, compare, equalOrAbove, levelDominates, dominates}
+use Rattle.model.specs.Levels.{LevelDominates, subset, atLeast, answered, compare, equalOrAbove, levelDominates, dominates}
 use Rattle.model.proofs.Tests.{split, apart}
-use Rattle.model.proofs.Levels.{answered-first, covers-decides, covers-refl, covers-antisym, level-covers}
+use Rattle.model.proofs.Levels.{answered-first, at-least-decides, at-least-refl, at-least-antisym, level-at-least}
 
 -- ---- the answers and the two tests that they are made of
 
@@ -31,7 +33,7 @@ answered-mirror false false = refl
 
 pub compare-mirror : (a b : Level) → compare b a ≡ mirror (compare a b)
 unfolding compare
-compare-mirror a b = answered-mirror (covers a b) (covers b a)
+compare-mirror a b = answered-mirror (atLeast a b) (atLeast b a)
 
 -- the test of the other direction
 pub level-back : (a b : Level) → levelDominates b a ≡ equalOrAbove (mirror (compare a b))
@@ -60,16 +62,16 @@ both-exactly : {P Q R S : Type 0} → P ↔ R → Q ↔ S → (P × Q) ↔ (R ×
 both-exactly f g = (λ h. (f .0 (h .0), g .0 (h .1)), λ h. (f .1 (h .0), g .1 (h .1)))
 
 module _ (a b : Level) where
-  first : (covers a b ≡ true) ↔ LevelDominates a b
-  first = covers-decides a b
+  first : (atLeast a b ≡ true) ↔ LevelDominates a b
+  first = at-least-decides a b
 
-  second : (covers b a ≡ true) ↔ LevelDominates b a
-  second = covers-decides b a
+  second : (atLeast b a ≡ true) ↔ LevelDominates b a
+  second = at-least-decides b a
 
-  means : {P Q : Type 0} (r s : Bool) → (covers a b ≡ r) ↔ P → (covers b a ≡ s) ↔ Q → (compare a b ≡ answered r s) ↔ (P × Q)
+  means : {P Q : Type 0} (r s : Bool) → (atLeast a b ≡ r) ↔ P → (atLeast b a ≡ s) ↔ Q → (compare a b ≡ answered r s) ↔ (P × Q)
   unfolding compare
   means r s f g =
-      let e = answered-exactly (covers a b) (covers b a) r s in
+      let e = answered-exactly (atLeast a b) (atLeast b a) r s in
       let h = both-exactly f g in
       (λ c. h .0 (e .0 c), λ d. e .1 (h .1 d))
 
@@ -89,10 +91,17 @@ module _ (a b : Level) where
   pub equal-exactly : a .needs < 65536 → b .needs < 65536 → (compare a b ≡ Equal) ↔ (a ≡ b)
   unfolding compare
   equal-exactly p q =
-      let e = answered-exactly (covers a b) (covers b a) true true in (
-        λ c. covers-antisym a b p q (e .0 c .0) (e .0 c .1),
-        λ s. e .1 (subst (λ (l : Level). covers a l ≡ true) s (covers-refl a), subst (λ (l : Level). covers l a ≡ true) s (covers-refl a)),
+      let e = answered-exactly (atLeast a b) (atLeast b a) true true in (
+        λ c. at-least-antisym a b p q (e .0 c .0) (e .0 c .1),
+        λ s. e .1 (subst (λ (l : Level). atLeast a l ≡ true) s (at-least-refl a), subst (λ (l : Level). atLeast l a ≡ true) s (at-least-refl a)),
       )
+
+-- ---- "Every check that uses the comparison follows the new meaning"
+
+-- of two levels the test behind the checks passes exactly where the answer is equal or above
+pub dominates-by-answer : (a b : Level) → dominates (Present a) (Present b) ≡ equalOrAbove (compare a b)
+unfolding dominates levelDominates
+dominates-by-answer a b = refl
 
 -- ---- "Replies don't move"
 
@@ -110,7 +119,7 @@ pub dominates-as-before : (a b : Label) → dominates a b ≡ dominatesBefore a 
 unfolding dominates
 dominates-as-before Absent b = refl
 dominates-as-before (Present a) Absent = refl
-dominates-as-before (Present a) (Present b) = level-covers a b
+dominates-as-before (Present a) (Present b) = level-at-least a b
 
 -- ---- the answers, computed
 
@@ -128,3 +137,9 @@ pub one-part-answers : (compare (level 2 1) (level 1 1) ≡ Above) × (compare (
     × (compare (level 0 32768) (level 0 1) ≡ Apart) × (compare (level 0 0) (level 0 0) ≡ Equal)
 unfolding compare
 one-part-answers = (refl, refl, refl, refl)
+
+-- each need counts
+pub each-need : map (λ (k : ℕ). compare (level 0 (2 ^ k)) (level 0 0)) (0 ∷ 1 ∷ 2 ∷ 3 ∷ 4 ∷ 5 ∷ 6 ∷ 7 ∷ 8 ∷ 9 ∷ 10 ∷ 11 ∷ 12 ∷ 13 ∷ 14 ∷ 15 ∷ [])
+    ≡ replicate 16 Above
+unfolding compare
+each-need = refl

@@ -13,7 +13,7 @@ use Rattle.bits.specs.Bits.{odd}
 use Rattle.model.specs.declared.Level.{Level}
 use Rattle.model.specs.declared.Label.{Label}
 use Rattle.model.specs.declared.Label.the-variants.{Absent, Present}
-use Rattle.model.specs.Levels.{need, LevelDominates, Dominates, subset, covers, answered, compare, equalOrAbove, levelDominates, dominates, present, sameLabel}
+use Rattle.model.specs.Levels.{need, LevelDominates, Dominates, subset, atLeast, answered, compare, equalOrAbove, levelDominates, dominates, present, sameLabel}
 use Rattle.model.proofs.Tests.{and-left, and-right, and-both, clash}
 
 -- ---- the test over needs
@@ -56,8 +56,8 @@ need-subset (suc k) b a h =
 
 -- ---- the tests decide the relations
 
-pub covers-decides : (a b : Level) → (covers a b ≡ true) ↔ LevelDominates a b
-covers-decides a b = (
+pub at-least-decides : (a b : Level) → (atLeast a b ≡ true) ↔ LevelDominates a b
+at-least-decides a b = (
   λ e. record {
     class = leb-true _ _ (and-left (leb (b .class) (a .class)) _ e);
     needs = subset-need 16 (b .needs) (a .needs) (and-right (leb (b .class) (a .class)) _ e);
@@ -72,14 +72,14 @@ answered-first true false = refl
 answered-first false true = refl
 answered-first false false = refl
 
-pub level-covers : (a b : Level) → levelDominates a b ≡ covers a b
+pub level-at-least : (a b : Level) → levelDominates a b ≡ atLeast a b
 unfolding levelDominates compare
-level-covers a b = answered-first (covers a b) (covers b a)
+level-at-least a b = answered-first (atLeast a b) (atLeast b a)
 
 pub level-decides : (a b : Level) → (levelDominates a b ≡ true) ↔ LevelDominates a b
 level-decides a b = (
-  λ e. covers-decides a b .0 (sym (level-covers a b) ∙ e),
-  λ d. level-covers a b ∙ covers-decides a b .1 d,
+  λ e. at-least-decides a b .0 (sym (level-at-least a b) ∙ e),
+  λ d. level-at-least a b ∙ at-least-decides a b .1 d,
 )
 
 -- the test that the checks use decides what the scope says
@@ -95,11 +95,11 @@ subset-refl : (k n : ℕ) → subset k n n ≡ true
 subset-refl zero n = refl
 subset-refl (suc k) n = and-both (le-leb (n % 2) (n % 2) (omega arith)) (subset-refl k (n / 2))
 
-pub covers-refl : (a : Level) → covers a a ≡ true
-covers-refl a = and-both (le-leb (a .class) (a .class) (omega arith)) (subset-refl 16 (a .needs))
+pub at-least-refl : (a : Level) → atLeast a a ≡ true
+at-least-refl a = and-both (le-leb (a .class) (a .class) (omega arith)) (subset-refl 16 (a .needs))
 
 pub level-refl : (a : Level) → levelDominates a a ≡ true
-level-refl a = level-covers a a ∙ covers-refl a
+level-refl a = level-at-least a a ∙ at-least-refl a
 
 subset-antisym : (k n j : ℕ) → n < 2 ^ k → j < 2 ^ k → subset k n j ≡ true → subset k j n ≡ true → n ≡ j
 subset-antisym zero n j p q e f = omega arith
@@ -112,8 +112,8 @@ subset-antisym (suc k) n j p q e f =
     omega arith
 
 -- whatever the classes are, also those that no level of the scope has
-pub covers-antisym : (a b : Level) → a .needs < 65536 → b .needs < 65536 → covers a b ≡ true → covers b a ≡ true → a ≡ b
-covers-antisym a b p q e f =
+pub at-least-antisym : (a b : Level) → a .needs < 65536 → b .needs < 65536 → atLeast a b ≡ true → atLeast b a ≡ true → a ≡ b
+at-least-antisym a b p q e f =
     let low : b .class ≤ a .class = leb-true _ _ (and-left (leb (b .class) (a .class)) _ e) in
     let high : a .class ≤ b .class = leb-true _ _ (and-left (leb (a .class) (b .class)) _ f) in
     let class-same : a .class ≡ b .class = omega arith in

@@ -31,9 +31,9 @@ abbrev pub subset : ℕ → ℕ → ℕ → Bool
 subset zero b a = true
 subset (suc k) b a = leb (b % 2) (a % 2) && subset k (b / 2) (a / 2)
 
--- "A's class is at least B's and every need of B is in A"
-abbrev pub covers : Level → Level → Bool
-covers a b = leb (b .class) (a .class) && subset 16 (b .needs) (a .needs)
+-- one direction of a comparison: whether the first dominates, as LevelDominates says it
+abbrev pub atLeast : Level → Level → Bool
+atLeast a b = leb (b .class) (a .class) && subset 16 (b .needs) (a .needs)
 
 -- "equal, above (only A dominates), below (only B does) or apart (neither)", by whether A dominates and whether B does
 abbrev pub answered : Bool → Bool → Comparison
@@ -44,7 +44,7 @@ answered false false = Apart
 
 -- "Comparing label A with label B": of levels, since an absent label is none of the four
 unfoldable pub compare : Level → Level → Comparison
-compare a b = answered (covers a b) (covers b a)
+compare a b = answered (atLeast a b) (atLeast b a)
 
 -- the answers under which A dominates B
 abbrev pub equalOrAbove : Comparison → Bool
@@ -53,7 +53,7 @@ equalOrAbove Above = true
 equalOrAbove Below = false
 equalOrAbove Apart = false
 
--- "Every check that uses the comparison follows the new meaning": the test that decides LevelDominates
+-- "Every check that uses the comparison follows the new meaning": dominance of levels as the checks test it
 unfoldable pub levelDominates : Level → Level → Bool
 levelDominates a b = equalOrAbove (compare a b)
 

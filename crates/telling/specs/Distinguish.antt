@@ -88,7 +88,7 @@ readAt m o s l =
     cond (object m o .live) (Delete (object m o .owner) o ∷ Create s o (creation false) ∷ ChangeLevel s o l ∷ Get s o Read ∷ [])
     (Create s o (creation false) ∷ ChangeLevel s o l ∷ Get s o Read ∷ [])
 
--- of two lists, for the level of the one and of the other: the first whose level the other level does not dominate
+-- of two lists, one for each of two levels: that of a level which the other does not dominate, the first where both are so; none where they are equal
 abbrev pub byComparison : Comparison → List Request → List Request → List Request
 byComparison Equal first second = []
 byComparison Above first second = first
