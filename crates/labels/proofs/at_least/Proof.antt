@@ -1,6 +1,5 @@
 -- `labels::at_least` meets its contract.
 -- Assumes nothing.
-use Rattle.model.specs.Levels.{atLeast}
 use Rattle.labels.proofs.at_least.Statement.{statement}
 use Rattle.labels.proofs.at_least.Tie as tie
 
