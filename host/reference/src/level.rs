@@ -19,11 +19,11 @@ pub enum Comparison {
 }
 
 impl Level {
-    /// By what only one of the two has: a higher class, or a need that the other does not have. Joined by `|` and not by
-    /// `||`: so the compiler drops what dominance does not ask for, and this is what the proved monitor is compared with.
+    /// By what only one of the two has: a higher class, or a need that the other does not have. `more` is joined by `|` and not
+    /// by `||`: so the compiler drops it where dominance asks, and the proved monitor is compared with this by speed too.
     pub fn compare(&self, other: &Level) -> Comparison {
         let more = (self.class > other.class) | (self.needs & !other.needs != 0);
-        let less = (self.class < other.class) | (other.needs & !self.needs != 0);
+        let less = self.class < other.class || other.needs & !self.needs != 0;
         match (more, less) {
             (false, false) => Comparison::Equal,
             (true, false) => Comparison::Above,
