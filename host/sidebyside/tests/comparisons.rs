@@ -43,6 +43,16 @@ fn mirrored(answer: Comparison) -> Comparison {
     }
 }
 
+/// What docs/EMBEDDING.md says: given what is missing, what was below is equal, and what was apart is above.
+fn given_what_is_missing(a: Level, b: Level, answer: Comparison) {
+    let given = Level { class: a.class.max(b.class), needs: a.needs | b.needs };
+    let expected = match answer {
+        Comparison::Equal | Comparison::Below => Comparison::Equal,
+        Comparison::Above | Comparison::Apart => Comparison::Above,
+    };
+    assert_eq!(circmon::compare(given, b), expected, "{a:?} with {b:?}");
+}
+
 /// One pair, both ways round.
 fn check(a: Level, b: Level, count: &mut Count) {
     let answer = circmon::compare(a, b);
@@ -51,6 +61,7 @@ fn check(a: Level, b: Level, count: &mut Count) {
     assert_eq!(circmon::compare(b, a), mirrored(answer), "{b:?} with {a:?}");
     assert_eq!(answer == Comparison::Equal, a == b, "{a:?} with {b:?}");
     assert_eq!(answer.dominates(), dominates(a, b), "{a:?} over {b:?}");
+    given_what_is_missing(a, b, answer);
     count.note(answer as u8);
 }
 
