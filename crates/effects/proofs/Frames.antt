@@ -42,7 +42,7 @@ subjects-kept-after (b ∷ bs) m =
     ∙ respond-all (λ (r : Response). r .monitor .subjects ≡ m .subjects) b m (λ e. refl) (λ q e. subjects-kept q m)
 
 -- what holds of the record of object o, and of the record that a granted request on it makes, holds of it afterwards
-frame : (P : Object → Type 0) (q : Request) (m : Monitor) (o : ℕ) → P (object m o)
+pub frame : (P : Object → Type 0) (q : Request) (m : Monitor) (o : ℕ) → P (object m o)
     → (checks q m ≡ Granted → target q ≡ o → P (changed q (object m (target q)))) → P (object (step q m .monitor) o)
 frame P q m o p f =
     step-all (λ n. P (object n o)) q m p
@@ -53,7 +53,7 @@ pub others-kept : (q : Request) (m : Monitor) (o : ℕ) → o ≢ target q → o
 others-kept q m o h = frame (λ (ob : Object). ob ≡ object m o) q m o refl (λ g e. absurd (h (sym e)))
 
 -- a granted create finds an object that is not live
-create-finds : (s o : ℕ) (c : Creation) (m : Monitor) → checks (Create s o c) m ≡ Granted → object m o .live ≡ false
+pub create-finds : (s o : ℕ) (c : Creation) (m : Monitor) → checks (Create s o c) m ≡ Granted → object m o .live ≡ false
 create-finds s o c m g = not-on _ (granted-create m s o c g .free)
 
 -- what a granted request on a live object that stays live leaves of its record

@@ -2,5 +2,6 @@
 pub mod Replies
 pub mod Gets
 pub mod Frames
+pub mod Labels
 pub mod Effects
 pub mod Demand2

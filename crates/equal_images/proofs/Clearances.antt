@@ -25,10 +25,11 @@ use Rattle.model.specs.Levels.{compare, equalOrAbove, dominates, levelDominates
 use Rattle.model.specs.Modes.{has}
 use Rattle.model.specs.State.{noModes, clearance, enrolled, object, rightsOf, heldBy, withLabel, LevelFits, LabelFits}
 use Rattle.model.specs.Requests.{creation, InRange}
-use Rattle.model.specs.Rules.{changed, afterwards, checks, created, starFor, step}
+use Rattle.model.specs.Rules.{notLowered, changed, afterwards, checks, created, starFor, step}
 use Rattle.model.proofs.Tests.{pass, stop, not-stop, distinct, cond-all}
 use Rattle.model.proofs.Tests as tests
 use Rattle.model.proofs.Levels.{level-refl}
+use Rattle.model.proofs.Lowering.{first-label-free}
 use Rattle.model.proofs.Comparisons.{mirror, level-back, equal-exactly}
 use Rattle.model.proofs.After.{object-there}
 use Rattle.telling.specs.Distinguish.{freeBelow, readAt, toClearance, byClearance}
@@ -88,6 +89,7 @@ module _ (s o : ℕ) (l : Level) (s-below : s < 16) (o-below : o < 64) (fits : L
           there = ap present clearance-made ∙ there;
           live = ap (λ (k : Object). k .live) object-made;
           owned = eq-eqb (object (made m) o .owner) s (ap (λ (k : Object). k .owner) object-made);
+          raised = ap (λ (k : Object). notLowered (k .label) (Present l)) object-made ∙ first-label-free (Present l);
           simple = simple-in (made m .subjects) _ (λ t x w u. none-held x _ (nobody-holds t) w);
           star = star-all-in _ (λ t. star-free t (made m .objects) o _ (star-for (made m) (sound-made .secure .star) t) (nobody-holds t));
         })

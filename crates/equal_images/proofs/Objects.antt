@@ -11,6 +11,7 @@ use lib.Seq.{set-getD}
 use lib.Dec.{eqb}
 use borrow.Author.Tests.{eq-eqb, eqb-true, leb-true}
 use Rattle.model.specs.declared.Level.{Level}
+use Rattle.model.specs.declared.Label.{Label}
 use Rattle.model.specs.declared.Label.the-variants.{Present}
 use Rattle.model.specs.declared.Object.{Object}
 use Rattle.model.specs.declared.Monitor.{Monitor}
@@ -25,12 +26,13 @@ use Rattle.model.specs.Modes.{has}
 use Rattle.model.specs.State.{noObject, enrolled, object, rightsOf, heldBy, LabelFits}
 use Rattle.model.specs.Decisions.{number, refuses}
 use Rattle.model.specs.Requests.{InRange}
-use Rattle.model.specs.Rules.{checkList, target, changed, already, checks, owns, simpleAll, starAll, step}
+use Rattle.model.specs.Rules.{checkList, target, changed, already, checks, owns, notLowered, simpleAll, starAll, step}
 use Rattle.model.proofs.Tests.{split, apart, pass, stop, distinct}
 use Rattle.model.proofs.Equal.{with-label-same}
 use Rattle.model.proofs.Decisions.{number-inj}
 use Rattle.model.proofs.Modes.{has-none}
 use Rattle.model.proofs.Levels.{label-same}
+use Rattle.model.proofs.Lowering.{same-label-passes}
 use Rattle.model.proofs.Checks.{never-answers}
 use Rattle.invariants.proofs.Granted.{grants-release, grants-delete, grants-change}
 use Rattle.invariants.proofs.Secure.{object-secure, simple-in, star-all-in, star-for}
@@ -69,7 +71,7 @@ delete-granted m S o live =
 pub release-granted : (m : Monitor) (s o : ℕ) (x : Mode) → enrolled m s ≡ true → object m o .live ≡ true → checks (Release s o x) m ≡ Granted
 release-granted m s o x e g = grants-release m s o x (record { there = e; live = g })
 
--- the owner's change to the level that the object has
+-- the owner's change to the level that the object has: "the same label still replies 1"
 change-granted : (m : Monitor) → Sound m → (o : ℕ) (l : Level) → object m o .live ≡ true → object m o .label ≡ Present l
     → checks (ChangeLevel (object m o .owner) o l) m ≡ Granted
 unfolding changed
@@ -81,6 +83,7 @@ change-granted m S o l a e =
       there = S .formed .objects-formed o .owner-enrolled a;
       live = a;
       owned = eq-eqb (ob .owner) _ refl;
+      raised = subst (λ (k : Label). notLowered k (Present l) ≡ true) (sym e) (same-label-passes (Present l));
       simple = subst (λ (b : Object). simpleAll (m .subjects) b ≡ true) (sym is) (simple-in (m .subjects) ob (object-secure m (S .secure) o .simple));
       star = subst (λ (k : List Object). starAll k ≡ true) (sym (ap (set (m .objects) o) is ∙ set-getD (m .objects) o noObject))
           (star-all-in (m .objects) (star-for m (S .secure .star)));

@@ -4,6 +4,7 @@ use Prim.Native.Nat.{ℕ}
 use mathlib.Core.Path.{_≡_, refl}
 use mathlib.Core.Bool.{true, not, _&&_}
 use Rattle.model.specs.declared.Level.{Level}
+use Rattle.model.specs.declared.Label.the-variants.{Present}
 use Rattle.model.specs.declared.Monitor.{Monitor}
 use Rattle.model.specs.declared.Mode.{Mode}
 use Rattle.model.specs.declared.Creation.{Creation}
@@ -14,7 +15,7 @@ use Rattle.model.specs.Tests.{implies}
 use Rattle.model.specs.Levels.{dominates, present}
 use Rattle.model.specs.Modes.{has, observes, needsLabel}
 use Rattle.model.specs.State.{clearance, enrolled, object, rightsOf}
-use Rattle.model.specs.Rules.{owns, mayGive, simpleAll, starFor, starAll, changed, afterwards, checkList, checks}
+use Rattle.model.specs.Rules.{owns, mayGive, notLowered, simpleAll, starFor, starAll, changed, afterwards, checkList, checks}
 use Rattle.model.proofs.Checks.{refusals, all-passed, all-pass}
 
 -- every check of a request answers a refusal
@@ -102,6 +103,7 @@ pub record GrantedChange (m : Monitor) (s o : ℕ) (l : Level) : Type 0 where
   pub there : enrolled m s ≡ true
   pub live : object m o .live ≡ true
   pub owned : owns s (object m o) ≡ true
+  pub raised : notLowered (object m o .label) (Present l) ≡ true
   pub simple : simpleAll (m .subjects) (changed (ChangeLevel s o l) (object m o)) ≡ true
   pub star : starAll (afterwards (ChangeLevel s o l) m .objects) ≡ true
 
@@ -109,8 +111,8 @@ pub granted-change : (m : Monitor) (s o : ℕ) (l : Level) → checks (ChangeLev
 unfolding checks
 granted-change m s o l e =
     let p = all-passed (checkList (ChangeLevel s o l) m) refl e in
-    record { there = p .0; live = p .1 .0; owned = p .1 .1 .0; simple = p .1 .1 .1 .0; star = p .1 .1 .1 .1 .0 }
+    record { there = p .0; live = p .1 .0; owned = p .1 .1 .0; raised = p .1 .1 .1 .0; simple = p .1 .1 .1 .1 .0; star = p .1 .1 .1 .1 .1 .0 }
 
 pub grants-change : (m : Monitor) (s o : ℕ) (l : Level) → GrantedChange m s o l → checks (ChangeLevel s o l) m ≡ Granted
 unfolding checks
-grants-change m s o l g = all-pass (checkList (ChangeLevel s o l) m) (g .there, (g .live, (g .owned, (g .simple, (g .star, tt)))))
+grants-change m s o l g = all-pass (checkList (ChangeLevel s o l) m) (g .there, (g .live, (g .owned, (g .raised, (g .simple, (g .star, tt))))))

@@ -15,15 +15,15 @@ use Rattle.model.specs.declared.Monitor.{Monitor}
 use Rattle.model.specs.declared.Request.{Request}
 use Rattle.model.specs.declared.Request.the-variants.{Get, Delete, ChangeLevel}
 use Rattle.model.specs.declared.Decision.{Decision}
-use Rattle.model.specs.declared.Decision.the-variants.{Granted, Already, NotEnrolled, NotLive, NoRight, NoLabel, SimpleBroken, StarBroken}
+use Rattle.model.specs.declared.Decision.the-variants.{Granted, Already, NotEnrolled, NotLive, NoRight, NoLabel, SimpleBroken, StarBroken, LabelLowered}
 use Rattle.model.specs.declared.Response.{Response}
 use Rattle.model.specs.Tests.{implies, unless}
 use Rattle.model.specs.Modes.{needsLabel}
 use Rattle.model.specs.State.{noObject, object}
 use Rattle.model.specs.Decisions.{number, refuses}
 use Rattle.model.specs.Requests.{InRange}
-use Rattle.model.specs.Rules.{target, already, changed, checks, afterwards, simpleAll, starFor, starAll}
-use Rattle.model.proofs.Tests.{cond-true, cond-false, not-not}
+use Rattle.model.specs.Rules.{notLowered, target, already, changed, checks, afterwards, simpleAll, starFor, starAll}
+use Rattle.model.proofs.Tests.{cond-true, cond-false, not-not, pass, stop}
 use Rattle.star.specs.Between.{starBetween}
 use Rattle.star.proofs.Between.{between-one}
 use Rattle.unit.specs.Rows.{Rows, rowCount, objectIn, objectsIn, stateIn}
@@ -73,12 +73,17 @@ get-stages s o x m =
     before _ NotEnrolled _ _ _ refl (before _ NotLive _ _ _ refl (before _ NoRight _ _ _ refl
     (before _ NoLabel _ _ _ refl (before _ SimpleBroken _ _ _ refl refl))))
 
--- change of level: the checks of delete, then those of the state after it
+-- change of level: the checks of delete, then 14, then those of the state after it
 levelLast : ℕ → Level → Monitor → Object → Decision
 levelLast o l m ob = unless (simpleAll (m .subjects) ob) SimpleBroken (unless (starAll (afterwards (ChangeLevel 0 o l) m .objects)) StarBroken Granted)
 
-level-stages : (s o : ℕ) (l : Level) (m : Monitor) → first (checks (Delete s o) m) (levelLast o l m (changed (ChangeLevel s o l) (object m o))) ≡ checks (ChangeLevel s o l) m
-unfolding checks levelLast changed first
+-- what stands behind the checks of delete, where this is what comes after 14
+fromLowering : ℕ → Level → Monitor → Decision → Decision
+fromLowering o l m last = unless (notLowered (object m o .label) (Present l)) LabelLowered last
+
+level-stages : (s o : ℕ) (l : Level) (m : Monitor)
+    → first (checks (Delete s o) m) (fromLowering o l m (levelLast o l m (changed (ChangeLevel s o l) (object m o)))) ≡ checks (ChangeLevel s o l) m
+unfolding checks fromLowering levelLast changed first
 level-stages s o l m = before _ NotEnrolled _ _ _ refl (before _ NotLive _ _ _ refl (before _ NoRight _ _ _ refl refl))
 
 level-after : (o : ℕ) (l : Level) (m : Monitor) → o < length (m .objects) → levelLast o l m (changed (ChangeLevel 0 o l) (object m o)) ≡ afterChange o (afterwards (ChangeLevel 0 o l) m)
@@ -120,16 +125,22 @@ module _ (u : Rows) (n : length u ≡ rowCount) (s o : ℕ) (x : Mode) (R : InRa
     get-kept b = staged ∙ passed-first d _ t ∙ rw (e, kept, b)
 
 module _ (u : Rows) (n : length u ≡ rowCount) (s o : ℕ) (l : Level) (h : o < 64) (d : Decision) (d-is : d ≡ checks (Delete s o) (stateIn u)) where
-  level-staged : checks (ChangeLevel s o l) (stateIn u) ≡ first d (afterChange o (afterwards (ChangeLevel s o l) (stateIn u)))
+  level-staged : checks (ChangeLevel s o l) (stateIn u) ≡ first d (fromLowering o l (stateIn u) (afterChange o (afterwards (ChangeLevel s o l) (stateIn u))))
   unfolding changed
   level-staged =
       sym (level-stages s o l (stateIn u))
-      ∙ ap₂ first (sym d-is) (level-after o l (stateIn u) (omega (arith, tabulate-length 64 (objectIn u))))
+      ∙ ap₂ first (sym d-is) (ap (fromLowering o l (stateIn u)) (level-after o l (stateIn u) (omega (arith, tabulate-length 64 (objectIn u)))))
 
   pub level-refused : refuses d ≡ true → checks (ChangeLevel s o l) (stateIn u) ≡ d
   level-refused t = level-staged ∙ refused-first d _ t
 
-  pub level-last : refuses d ≡ false → (w : Rows) → w ≡ stores (ChangeLevel s o l) u → (last : Decision) → last ≡ afterChange o (stateIn w) → checks (ChangeLevel s o l) (stateIn u) ≡ last
-  unfolding stores changed
-  level-last t w w-is last e =
-      level-staged ∙ passed-first d _ t ∙ ap (afterChange o) (sym (ap stateIn w-is ∙ label-stored u n o h (Present l))) ∙ sym e
+  module _ (t : refuses d ≡ false) (raised : Bool) (raised-is : raised ≡ notLowered (object (stateIn u) o .label) (Present l)) where
+    pub level-lowered : raised ≡ false → checks (ChangeLevel s o l) (stateIn u) ≡ LabelLowered
+    unfolding fromLowering
+    level-lowered e = level-staged ∙ passed-first d _ t ∙ stop _ LabelLowered _ (sym raised-is ∙ e)
+
+    pub level-last : raised ≡ true → (w : Rows) → w ≡ stores (ChangeLevel s o l) u → (last : Decision) → last ≡ afterChange o (stateIn w) → checks (ChangeLevel s o l) (stateIn u) ≡ last
+    unfolding fromLowering stores changed
+    level-last e w w-is last last-is =
+        level-staged ∙ passed-first d _ t ∙ pass _ LabelLowered _ (sym raised-is ∙ e)
+        ∙ ap (afterChange o) (sym (ap stateIn w-is ∙ label-stored u n o h (Present l))) ∙ sym last-is

@@ -5,6 +5,7 @@ ghost use Rattle.model.specs.Tests.{implies, unless};
 ghost use Rattle.model.specs.Levels.{subset, atLeast, answered, compare, equalOrAbove, dominates, present, sameLabel};
 ghost use Rattle.model.specs.Modes.{weight, has, add, remove, observes, needsLabel, anyObserves, anyAlters, anyNeedsLabel};
 ghost use Rattle.model.specs.Decisions.{number, refuses};
+ghost use Rattle.model.specs.Rules.{notLowered};
 use model::Comparison;
 use model::Decision;
 use model::Label;
@@ -114,6 +115,13 @@ pub fn is_level(l: Label, v: Level) -> bool
     }
 }
 
+// Whether the level may follow the label of an object: it dominates the label, or there is none yet.
+pub fn not_lowered(old: Label, new: Level) -> bool
+    ensures { λ r. ⌜ r ≡ notLowered old (Label.Present new) ⌝ }
+{
+    implies(is_present(old), dominates(Label::Present(new), old))
+}
+
 // ---- modes
 
 fn weight(x: Mode) -> u8
@@ -218,6 +226,7 @@ pub fn number(d: Decision) -> u8
         Decision::StrayBits => 11,
         Decision::AbsentSubject => 12,
         Decision::ShortBuffer => 13,
+        Decision::LabelLowered => 14,
     }
 }
 

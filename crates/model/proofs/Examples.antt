@@ -17,7 +17,7 @@ use Rattle.model.specs.Levels.{dominates, levelDominates, compare}
 use Rattle.model.specs.Modes.{has, add, remove}
 use Rattle.model.specs.State.{noObject, nobody, object, rightsOf, heldBy, withOwner, withLabel, withRows, withObject, fresh}
 use Rattle.model.specs.Requests.{creation}
-use Rattle.model.specs.Rules.{created, changed, checks, simpleAll, starPair, starFrom, starFor}
+use Rattle.model.specs.Rules.{created, notLowered, changed, checks, simpleAll, starPair, starFrom, starFor}
 
 abbrev level : ℕ → ℕ → Label
 level class needs = Present (record { class = class; needs = needs })
@@ -75,7 +75,7 @@ delete-leaves-nothing = refl
 
 -- change of level looks at every subject's accesses: subject 0 reads object 0
 pub change-looks-at-all : checks (ChangeLevel 1 0 (record { class = 2; needs = 1 })) (state (level 1 1) 8 0) ≡ SimpleBroken
-unfolding checks changed has implies unless simpleAll dominates levelDominates compare
+unfolding checks changed notLowered has implies unless simpleAll dominates levelDominates compare
 change-looks-at-all = refl
 
 -- star: who reads class 1 may not append to class 0, and who appends only reads nothing

@@ -4,7 +4,7 @@ use Prim.Native.Nat.{ℕ, zero, suc, _/_, _%_, _^_, _<_, _≤_}
 use native.Mathlib.Numerals.{one-add}
 use native.Mathlib.Omega.{arith}
 use mathlib.Core.Path.{_≡_, refl, sym, ap, _∙_, subst}
-use mathlib.Core.Logic.{_↔_}
+use mathlib.Core.Logic.{_↔_, _≢_}
 use mathlib.Core.Bool.{Bool, true, false}
 use lib.Dec.{leb, eqb}
 use lib.Pow.{shr-shr}
@@ -100,6 +100,25 @@ at-least-refl a = and-both (le-leb (a .class) (a .class) (omega arith)) (subset-
 
 pub level-refl : (a : Level) → levelDominates a a ≡ true
 level-refl a = level-at-least a a ∙ at-least-refl a
+
+-- what dominates is there, and what is there dominates itself
+pub dominates-refl : (a : Label) → a ≢ Absent → Dominates a a
+unfolding Dominates
+dominates-refl Absent h = absurd (h refl)
+dominates-refl (Present a) h = record { class = omega arith; needs = λ k below n. n }
+
+pub dominates-there : (a b : Label) → Dominates a b → a ≢ Absent
+unfolding Dominates
+dominates-there Absent b d e = d
+dominates-there (Present a) b d e = clash (ap present e)
+
+pub dominates-trans : (a b c : Label) → Dominates a b → Dominates b c → Dominates a c
+unfolding Dominates
+dominates-trans Absent b c d e = d
+dominates-trans (Present x) Absent c d e = absurd d
+dominates-trans (Present x) (Present y) Absent d e = e
+dominates-trans (Present x) (Present y) (Present z) d e =
+    record { class = omega (arith, d .class, e .class); needs = λ k below n. d .needs k below (e .needs k below n) }
 
 subset-antisym : (k n j : ℕ) → n < 2 ^ k → j < 2 ^ k → subset k n j ≡ true → subset k j n ≡ true → n ≡ j
 subset-antisym zero n j p q e f = omega arith

@@ -13,6 +13,7 @@ pub mod Records
 pub mod After
 pub mod Examples
 pub mod RuleExamples
+pub mod Lowering
 pub mod ByteExamples
 pub mod StateExamples
 pub mod Arrays

@@ -4,7 +4,7 @@ use Prim.Native.Nat.{ℕ}
 use mathlib.Core.Bool.{Bool}
 use lib.Dec.{leb}
 use Rattle.model.specs.declared.Decision.{Decision}
-use Rattle.model.specs.declared.Decision.the-variants.{Granted, Already, MalformedRequest, NotEnrolled, NotLive, AlreadyLive, NoRight, NoLabel, SimpleBroken, StarBroken, WrongLength, StrayBits, AbsentSubject, ShortBuffer}
+use Rattle.model.specs.declared.Decision.the-variants.{Granted, Already, MalformedRequest, NotEnrolled, NotLive, AlreadyLive, NoRight, NoLabel, SimpleBroken, StarBroken, WrongLength, StrayBits, AbsentSubject, ShortBuffer, LabelLowered}
 
 abbrev pub number : Decision → ℕ
 -- "granted and the state changed"; "An accepted table or image returns 0", "a writing returns 0"
@@ -35,6 +35,8 @@ number StrayBits = 11
 number AbsentSubject = 12
 -- "buffer under the image's size"; of a page: "a buffer under the page's 258 bytes"
 number ShortBuffer = 13
+-- "a new label that does not dominate the old" (change request §3)
+number LabelLowered = 14
 
 -- every number from 2 on is a refusal
 abbrev pub refuses : Decision → Bool

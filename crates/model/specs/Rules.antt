@@ -4,6 +4,7 @@ use Prim.Native.Nat.{ℕ}
 use mathlib.Core.Bool.{Bool, false, cond, not, _&&_}
 use mathlib.Core.List.{List, [], _∷_}
 use lib.Dec.{eqb}
+use Rattle.model.specs.declared.Label.{Label}
 use Rattle.model.specs.declared.Label.the-variants.{Present}
 use Rattle.model.specs.declared.Subject.{Subject}
 use Rattle.model.specs.declared.Object.{Object}
@@ -13,7 +14,7 @@ use Rattle.model.specs.declared.Creation.{Creation}
 use Rattle.model.specs.declared.Request.{Request}
 use Rattle.model.specs.declared.Request.the-variants.{Get, Release, Give, Rescind, Create, Delete, ChangeLevel}
 use Rattle.model.specs.declared.Decision.{Decision}
-use Rattle.model.specs.declared.Decision.the-variants.{Granted, Already, NotEnrolled, NotLive, AlreadyLive, NoRight, NoLabel, SimpleBroken, StarBroken}
+use Rattle.model.specs.declared.Decision.the-variants.{Granted, Already, NotEnrolled, NotLive, AlreadyLive, NoRight, NoLabel, SimpleBroken, StarBroken, LabelLowered}
 use Rattle.model.specs.declared.Response.{Response}
 use Rattle.model.specs.Tests.{allBelow, allOf, implies, firstFailing}
 use Rattle.model.specs.Levels.{dominates, present, sameLabel}
@@ -89,7 +90,7 @@ already (Create s o c) ob = false
 already (Delete s o) ob = false
 already (ChangeLevel s o l) ob = sameLabel (ob .label) (Present l)
 
--- ---- the checks of each kind, "in the order 2, 3, then 4 or 5, then 6, 7, 8, 9"; 2 is in decoding
+-- ---- the checks of each kind, "in the order 2, 3, then 4 or 5, then 6, 7, 8, 9", with 14 between 6 and 8; 2 is in decoding
 
 abbrev pub owns : ℕ → Object → Bool
 owns s ob = eqb (ob .owner) s
@@ -97,6 +98,10 @@ owns s ob = eqb (ob .owner) s
 -- "the actor is owner and has that right itself"
 abbrev pub mayGive : ℕ → Mode → Object → Bool
 mayGive s x ob = owns s ob && has x (rightsOf ob s)
+
+-- "A change of level on a labelled object passes only if the new label dominates the old one; a first label is free" (change request §3)
+unfoldable pub notLowered : Label → Label → Bool
+notLowered old new = implies (present old) (dominates new old)
 
 -- each check with its answer
 abbrev pub checkList : Request → Monitor → List (Bool × Decision)
@@ -137,11 +142,12 @@ checkList (Delete s o) m =
     ∷ (object m o .live, NotLive)
     ∷ (owns s (object m o), NoRight)
     ∷ []
--- "checks 4, 6: owner; 8, 9 over all subjects in the state after the change"
+-- "checks 4, 6: owner; 8, 9 over all subjects in the state after the change"; "14, .. checked after 6 and before 8"
 checkList (ChangeLevel s o l) m =
     (enrolled m s, NotEnrolled)
     ∷ (object m o .live, NotLive)
     ∷ (owns s (object m o), NoRight)
+    ∷ (notLowered (object m o .label) (Present l), LabelLowered)
     ∷ (simpleAll (m .subjects) (changed (ChangeLevel s o l) (object m o)), SimpleBroken)
     ∷ (starAll (afterwards (ChangeLevel s o l) m .objects), StarBroken)
     ∷ []

@@ -144,6 +144,7 @@ pub enum Decision {
     StrayBits,
     AbsentSubject,
     ShortBuffer,
+    LabelLowered,
 }
 
 // The answer to a request or to a beginning, and the monitor after it.

@@ -1,6 +1,6 @@
 // The kinds of request about the object itself, on a unit: create, delete and change of level. The checks of a kind are in the scope's order,
-// then stands what it stores. Each returns the number of its answer; a refusal leaves every byte. Change of level stores first, and puts
-// the old row back where simple or star refuses.
+// then stands what it stores. Each returns the number of its answer; a refusal leaves every byte. Change of level stores before it asks for
+// simple and star, and puts the old row back where one of them refuses.
 ghost use mathlib.Core.Path.{_≡_};
 ghost use mathlib.Core.Bool.{cond};
 ghost use Prim.Native.Nat.{_<_};
@@ -11,6 +11,7 @@ ghost use Rattle.kinds.specs.Stages.{afterChange};
 ghost use Rattle.kinds.specs.Carried.{Does};
 use labels::check;
 use labels::is_level;
+use labels::not_lowered;
 use labels::number;
 use labels::refuses;
 use model::Creation;
@@ -84,7 +85,8 @@ fn by_owner(unit: &[[u8; 16]], s: u8, o: u8) -> Decision
     check(is_enrolled(unit, s), Decision::NotEnrolled, live)
 }
 
-// 7: the label becomes class and needs. Simple and star are asked of all subjects in the state after the change.
+// 7: the label becomes class and needs. A label that is there is only raised; simple and star are asked of all subjects in the state after
+// the change.
 pub fn change_level(unit: &mut [[u8; 16]], s: u8, o: u8, level: Level) -> u8
     requires { do ⌜ (← ⟦unit.len()⟧) ≡ rowCount ⌝ }
     requires { ⌜ (s < subjectCount) × (o < objectCount) ⌝ }
@@ -94,8 +96,11 @@ pub fn change_level(unit: &mut [[u8; 16]], s: u8, o: u8, level: Level) -> u8
     if refuses(d) {
         return number(d);
     }
-    let rest = rest_of(unit, o);
     let label = label_of(unit, o);
+    if !not_lowered(label, level) {
+        return number(Decision::LabelLowered);
+    }
+    let rest = rest_of(unit, o);
     set_label(unit, o, Label::Present(level));
     let last = label_fits(unit, o);
     if refuses(last) {

@@ -67,7 +67,7 @@ reply-2-exactly g m = (
   λ w. ap (λ (d : Decoded). number (carryOut d m .decision)) (malformed-exactly g .1 w),
 )
 
--- 3 to 9: the reply is k exactly when cause k holds and no earlier one does
+-- 3 to 9 and 14: the reply is k exactly when cause k holds and no earlier one does
 pub reply-first-cause : (m : Monitor) → Reached m → (g : List ℕ) (q : Request) → decode g ≡ Says q → (d : Decision) → refuses d ≡ true
     → (reply g m ≡ number d) ↔ FirstIn (requestCauses q m) d
 reply-first-cause m R g q e d r =

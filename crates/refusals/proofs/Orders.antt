@@ -11,7 +11,8 @@ use Rattle.model.specs.declared.Request.the-variants.{Get, Release, Give, Resci
 use Rattle.refusals.specs.First.{orderOf}
 use Rattle.refusals.specs.Causes.{requestCauses, tableCauses, imageCauses}
 
--- "Checks run in the order 2, 3, then 4 or 5, then 6, 7, 8, 9", each kind with those of its row in the table of kinds
+-- "Checks run in the order 2, 3, then 4 or 5, then 6, 7, 8, 9", each kind with those of its row in the table of kinds; 14 is "checked after
+-- 6 and before 8"
 pub orders-of-requests : (m : Monitor) (s t o : ℕ) (x : Mode) (c : Creation) (l : Level)
     → (orderOf (requestCauses (Get s o x) m) ≡ 3 ∷ 4 ∷ 6 ∷ 7 ∷ 8 ∷ 9 ∷ [])
     × (orderOf (requestCauses (Release s o x) m) ≡ 3 ∷ 4 ∷ [])
@@ -19,7 +20,7 @@ pub orders-of-requests : (m : Monitor) (s t o : ℕ) (x : Mode) (c : Creation) (
     × (orderOf (requestCauses (Rescind s t o x) m) ≡ 3 ∷ 4 ∷ 6 ∷ [])
     × (orderOf (requestCauses (Create s o c) m) ≡ 3 ∷ 5 ∷ [])
     × (orderOf (requestCauses (Delete s o) m) ≡ 3 ∷ 4 ∷ 6 ∷ [])
-    × (orderOf (requestCauses (ChangeLevel s o l) m) ≡ 3 ∷ 4 ∷ 6 ∷ 8 ∷ 9 ∷ [])
+    × (orderOf (requestCauses (ChangeLevel s o l) m) ≡ 3 ∷ 4 ∷ 6 ∷ 14 ∷ 8 ∷ 9 ∷ [])
 orders-of-requests m s t o x c l = (refl, refl, refl, refl, refl, refl, refl)
 
 -- "Tables are checked 10, 11; images 10, 11, 12, 6, 7, 8, 9"

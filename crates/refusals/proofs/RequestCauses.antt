@@ -15,15 +15,16 @@ use Rattle.model.specs.declared.Mode.{Mode}
 use Rattle.model.specs.declared.Mode.the-variants.{Read, Write, Append, Execute}
 use Rattle.model.specs.declared.Request.{Request}
 use Rattle.model.specs.declared.Request.the-variants.{Get, Release, Give, Rescind, Create, Delete, ChangeLevel}
-use Rattle.model.specs.declared.Decision.the-variants.{NotEnrolled, NotLive, AlreadyLive, NoRight, NoLabel, SimpleBroken, StarBroken}
+use Rattle.model.specs.declared.Decision.the-variants.{NotEnrolled, NotLive, AlreadyLive, NoRight, NoLabel, SimpleBroken, StarBroken, LabelLowered}
 use Rattle.model.specs.Tests.{implies}
 use Rattle.model.specs.Levels.{present, dominates, Dominates}
 use Rattle.model.specs.Modes.{has, observes, needsLabel}
 use Rattle.model.specs.State.{clearance, enrolled, object, rightsOf, heldBy, withLabel}
 use Rattle.model.specs.Properties.{Simple, Star, Permits}
 use Rattle.model.specs.Requests.{InRange}
-use Rattle.model.specs.Rules.{changed, afterwards, checks, owns, simpleAll, starAll}
+use Rattle.model.specs.Rules.{notLowered, changed, afterwards, checks, owns, simpleAll, starAll}
 use Rattle.model.proofs.Levels.{absent}
+use Rattle.model.proofs.Lowering.{not-lowered-decides}
 use Rattle.model.proofs.Tests.{apart, and-left, and-right, and-false, implies-out, implies-in, implies-false, not-on, not-off}
 use Rattle.model.proofs.After.{object-there, objects-after}
 use Rattle.invariants.proofs.Secure.{simple-in, simple-out, star-in, star-for, star-of, star-get, star-all-in, star-all-out}
@@ -47,6 +48,16 @@ is-owner s ob e w = w (eqb-true _ _ e)
 -- a fact that fails is not so
 fails : {b : Bool} → b ≡ false → b ≡ true → ⊥
 fails e w = apart w e
+
+-- the new label of a change of level: 14
+not-falling : (old new : Label) → notLowered old new ≡ true → ((old ≢ Absent) × (Dominates new old → ⊥)) → ⊥
+not-falling old new e w = w .1 (not-lowered-decides old new .0 e (w .0))
+
+falling : (old new : Label) → notLowered old new ≡ false → (old ≢ Absent) × (Dominates new old → ⊥)
+falling old new e = (
+  λ w. fails e (not-lowered-decides old new .1 (λ h. absurd (h w))),
+  λ d. fails e (not-lowered-decides old new .1 (λ h. d)),
+)
 
 -- every mode but e needs a label
 not-execute : (x : Mode) → x ≢ Execute → needsLabel x ≡ true
@@ -163,8 +174,9 @@ module _ (m : Monitor) (S : Sound m) where
       answers-check _ NotEnrolled _ _ _ refl (not-absent (clearance m s)) (absent (clearance m s))
       (answers-check _ NotLive _ _ _ refl (λ e w. w e) fails
       (answers-check _ NoRight _ _ _ refl (is-owner s (object m o)) (not-owner s (object m o))
+      (answers-check _ LabelLowered _ _ _ refl (not-falling (object m o .label) (Present l)) (falling (object m o .label) (Present l))
       (answers-check _ SimpleBroken _ _ _ refl
       (λ e w. w (simple-change-in s o l (r .1) e)) (λ e T. fails e (simple-change-out s o l (r .1) T))
       (answers-check _ StarBroken _ _ _ refl
       (λ e w. w (star-change-in s o l (r .1) e)) (λ e T. fails e (star-all-in _ (star-for (afterwards (ChangeLevel s o l) m) T)))
-      answers-end))))
+      answers-end)))))

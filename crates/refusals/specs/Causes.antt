@@ -7,14 +7,15 @@ use mathlib.Core.Bool.{Bool, true, false}
 use mathlib.Core.List.{List, []}
 use lib.ListN.{length, getD, take, drop}
 use Rattle.bits.specs.Bits.{first}
-use Rattle.model.specs.declared.Label.the-variants.{Absent}
+use Rattle.model.specs.declared.Label.the-variants.{Absent, Present}
 use Rattle.model.specs.declared.Monitor.{Monitor}
 use Rattle.model.specs.declared.Mode.{Mode}
 use Rattle.model.specs.declared.Mode.the-variants.{Execute}
 use Rattle.model.specs.declared.Fields.{Fields}
 use Rattle.model.specs.declared.Request.{Request}
 use Rattle.model.specs.declared.Request.the-variants.{Get, Release, Give, Rescind, Create, Delete, ChangeLevel}
-use Rattle.model.specs.declared.Decision.the-variants.{NotEnrolled, NotLive, AlreadyLive, NoRight, NoLabel, SimpleBroken, StarBroken, WrongLength, StrayBits, AbsentSubject}
+use Rattle.model.specs.declared.Decision.the-variants.{NotEnrolled, NotLive, AlreadyLive, NoRight, NoLabel, SimpleBroken, StarBroken, WrongLength, StrayBits, AbsentSubject, LabelLowered}
+use Rattle.model.specs.Levels.{Dominates}
 use Rattle.model.specs.State.{clearance, object, rightsOf, heldBy}
 use Rattle.model.specs.Properties.{Permits, Discretionary, Labelled, Simple, Star}
 use Rattle.model.specs.Requests.{fields}
@@ -50,7 +51,7 @@ pub data MalformedBytes (b : List ℕ) : Type 0 where
   mode-not-allowed : ModeNotAllowed (fields b .kind) (fields b .mode) → MalformedBytes b
   unused-set : UnusedSet (fields b) → MalformedBytes b
 
--- ---- 3 to 9, of requests
+-- ---- 3 to 9 and 14, of requests
 
 -- a subject that is absent
 abbrev pub NotIn : Monitor → ℕ → Type 0
@@ -61,7 +62,8 @@ abbrev pub Lacks : Monitor → ℕ → ℕ → Mode → Type 0
 Lacks m s o x = Permits m s o x → ⊥
 
 -- 3: "actor, or in kinds 3 and 4 the other subject, not enrolled"; 4: "object not live"; 5: "create on a live object"; 6: "right or
--- ownership missing"; 7: "no label"; 8: "simple property would break"; 9: "star property would break", both in the state after it.
+-- ownership missing"; 7: "no label"; 8: "simple property would break"; 9: "star property would break", both in the state after it;
+-- 14: "a new label that does not dominate the old" (change request §3).
 -- Each kind has the checks that its row of the table of kinds names
 abbrev pub requestCauses : Request → Monitor → Causes
 -- "checks 4, 6 (the actor's right); 7 (not e); 8 (r, w); 9 (r, w, a)"
@@ -101,14 +103,16 @@ requestCauses (Delete s o) m =
     (row NotLive (object m o .live ≢ true)
     (row NoRight (object m o .owner ≢ s)
     none))
--- "checks 4, 6: owner; 8, 9 over all subjects in the state after the change"
+-- "checks 4, 6: owner; 8, 9 over all subjects in the state after the change"; "a labelled object", whose "first label is free": 14 "after 6
+-- and before 8"
 requestCauses (ChangeLevel s o l) m =
     row NotEnrolled (NotIn m s)
     (row NotLive (object m o .live ≢ true)
     (row NoRight (object m o .owner ≢ s)
+    (row LabelLowered ((object m o .label ≢ Absent) × (Dominates (Present l) (object m o .label) → ⊥))
     (row SimpleBroken (Simple (afterwards (ChangeLevel s o l) m) → ⊥)
     (row StarBroken (Star (afterwards (ChangeLevel s o l) m) → ⊥)
-    none))))
+    none)))))
 
 -- ---- 10, 11, 12 and 6 to 9, of tables and images
 

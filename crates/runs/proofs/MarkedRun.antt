@@ -8,7 +8,7 @@ use Rattle.model.specs.Tests.{implies, unless}
 use Rattle.model.specs.Levels.{compare, levelDominates, dominates, sameLabel}
 use Rattle.model.specs.Modes.{has, add, remove}
 use Rattle.model.specs.Requests.{fields, modeAllowed, unusedZero, wellFormed, request, decodeFields, decode, pack, encode}
-use Rattle.model.specs.Rules.{simpleAll, starPair, starFrom, starFor, starAll, changed, already, checks, answer, step}
+use Rattle.model.specs.Rules.{simpleAll, starPair, starFrom, starFor, starAll, notLowered, changed, already, checks, answer, step}
 use Rattle.model.specs.Runs.{respond, after, replies}
 use Rattle.model.specs.Layout.{labelBits, setsBits, objectBits, imageBits, imageOf}
 use Rattle.model.specs.Reading.{labelFrom, labelForm, tableFrom, tableForm, tableChecks, begin, readTable}
@@ -21,7 +21,7 @@ pub marked-run : (tableOf subjectsW ≡ tableW)
     × Accepted (table tableW)
     × (map (λ (r : Row). encode (r .request)) rows ≡ map (λ (r : Row). r .bytes) rows)
     × (replies (map (λ (r : Row). r .bytes) rows) (left (table tableW) []) ≡ map (λ (r : Row). r .reply) rows)
-unfolding rows tableW subjectsW tableOf labelBits join bitsToBytes pack tableFrom tableForm labelForm labelFrom tableChecks begin readTable allZero bytesToBits toBits odd cut fromBits field decode decodeFields fields wellFormed modeAllowed unusedZero request respond step replies after checks already changed starAll starFor starFrom starPair implies unless answer simpleAll has add remove sameLabel dominates levelDominates compare
+unfolding rows tableW subjectsW tableOf labelBits join bitsToBytes pack tableFrom tableForm labelForm labelFrom tableChecks begin readTable allZero bytesToBits toBits odd cut fromBits field decode decodeFields fields wellFormed modeAllowed unusedZero request respond step replies after checks already changed starAll starFor starFrom starPair implies unless answer simpleAll has add remove notLowered sameLabel dominates levelDominates compare
 marked-run = (refl, refl, refl, refl)
 
 -- the image that the run leaves, by its bytes: W, then the two objects that are live, then 62 that are not.
@@ -31,5 +31,5 @@ pub marked-image : imageOf (left (table tableW) (map (λ (r : Row). r .bytes) ro
     ≡ tableW
     ++ (0x8C ∷ 0x00 ∷ 0x00 ∷ 0x00 ∷ 0x3A ∷ (replicate 14 0
     ++ (0x23 ∷ 0x20 ∷ 0x00 ∷ 0x18 ∷ 0x0F ∷ 0x80 ∷ replicate 1207 0)))
-unfolding rows tableW labelBits setsBits objectBits imageBits imageOf join bitsToBytes tableFrom tableForm labelForm labelFrom tableChecks begin readTable allZero bytesToBits toBits odd cut fromBits field decode decodeFields fields wellFormed modeAllowed unusedZero request respond step replies after checks already changed starAll starFor starFrom starPair implies unless answer simpleAll has add remove sameLabel dominates levelDominates compare
+unfolding rows tableW labelBits setsBits objectBits imageBits imageOf join bitsToBytes tableFrom tableForm labelForm labelFrom tableChecks begin readTable allZero bytesToBits toBits odd cut fromBits field decode decodeFields fields wellFormed modeAllowed unusedZero request respond step replies after checks already changed starAll starFor starFrom starPair implies unless answer simpleAll has add remove notLowered sameLabel dominates levelDominates compare
 marked-image = refl

@@ -20,7 +20,7 @@ use Rattle.model.specs.Modes.{has, add, remove}
 use Rattle.model.specs.State.{enrolled, object, heldBy}
 use Rattle.model.specs.Decisions.{number, refuses}
 use Rattle.model.specs.Requests.{fields, modeAllowed, unusedZero, wellFormed, request, creation, decodeFields, decode, pack, encode, InRange}
-use Rattle.model.specs.Rules.{target, simpleAll, starPair, starFrom, starFor, starAll, changed, already, checks, answer, step}
+use Rattle.model.specs.Rules.{target, simpleAll, starPair, starFrom, starFor, starAll, notLowered, changed, already, checks, answer, step}
 use Rattle.model.specs.Runs.{respond, reply, after}
 use Rattle.model.specs.Layout.{tableSize, tableBits, imageSize, imageBits, imageOf}
 use Rattle.model.specs.Reading.{labelFrom, labelForm, tableFrom, tableForm, tableChecks, imageChecks, begin, readTable, readImage}
@@ -91,7 +91,7 @@ pub record Shown : Type 0 where
   pub absent-there : enrolled (stateAt 5) 15 ≡ false
 
 pub shown : Shown
-unfolding markedBytes rows tableW tableFrom tableForm labelForm labelFrom tableChecks begin readTable allZero bytesToBits toBits odd cut fromBits field decode decodeFields fields wellFormed modeAllowed unusedZero request respond step after checks already changed starAll starFor starFrom starPair implies unless answer simpleAll has add remove sameLabel dominates levelDominates compare
+unfolding markedBytes rows tableW tableFrom tableForm labelForm labelFrom tableChecks begin readTable allZero bytesToBits toBits odd cut fromBits field decode decodeFields fields wellFormed modeAllowed unusedZero request respond step after checks already changed starAll starFor starFrom starPair implies unless answer simpleAll has add remove notLowered sameLabel dominates levelDominates compare
 shown =
     record {
       says = refl;
@@ -125,7 +125,7 @@ refusing-met = refl
 
 -- two different reached states: before and after the marked run
 pub different-met : stateAt 0 ≢ left (table tableW) markedBytes
-unfolding markedBytes rows tableW tableFrom tableForm labelForm labelFrom tableChecks begin readTable allZero bytesToBits toBits odd cut fromBits field decode decodeFields fields wellFormed modeAllowed unusedZero request respond step after checks already changed starAll starFor starFrom starPair implies unless answer simpleAll has add remove sameLabel dominates levelDominates compare
+unfolding markedBytes rows tableW tableFrom tableForm labelForm labelFrom tableChecks begin readTable allZero bytesToBits toBits odd cut fromBits field decode decodeFields fields wellFormed modeAllowed unusedZero request respond step after checks already changed starAll starFor starFrom starPair implies unless answer simpleAll has add remove notLowered sameLabel dominates levelDominates compare
 different-met e = clash (sym (ap (λ (m : Monitor). object m 0 .live) e))
 
 -- a table of bytes, whose clearances fit

@@ -1,0 +1,96 @@
+-- No lowering (change request §3): what the test of a change of level means, and what the rules answer by it.
+-- Assumes nothing.
+use Prim.Native.Nat.{ℕ}
+use mathlib.Core.Path.{_≡_, refl, ap}
+use mathlib.Core.Logic.{_↔_, _≢_}
+use mathlib.Core.Bool.{true}
+use mathlib.Core.List.{_∷_}
+use lib.ListN.{replicate}
+use Rattle.model.specs.declared.Level.{Level}
+use Rattle.model.specs.declared.Label.{Label}
+use Rattle.model.specs.declared.Label.the-variants.{Absent, Present}
+use Rattle.model.specs.declared.Object.{Object}
+use Rattle.model.specs.declared.Monitor.{Monitor}
+use Rattle.model.specs.declared.Request.the-variants.{ChangeLevel}
+use Rattle.model.specs.declared.Decision.{Decision}
+use Rattle.model.specs.declared.Decision.the-variants.{Granted, NotEnrolled, NotLive, NoRight, SimpleBroken, StarBroken, LabelLowered}
+use Rattle.model.specs.Tests.{implies, unless}
+use Rattle.model.specs.Levels.{Dominates, dominates, levelDominates, compare, present}
+use Rattle.model.specs.Modes.{has}
+use Rattle.model.specs.State.{noObject, nobody, withOwner, withLabel, withRows, withObject, fresh}
+use Rattle.model.specs.Rules.{notLowered, changed, checks, simpleAll, starPair, starFrom, starFor, starAll}
+use Rattle.model.proofs.Tests.{clash}
+use Rattle.model.proofs.Levels.{dominates-decides, dominates-refl}
+
+-- ---- what the test means
+
+-- "passes only if the new label dominates the old one": on a labelled object, and there exactly if
+pub not-lowered-decides : (old new : Label) → (notLowered old new ≡ true) ↔ (old ≢ Absent → Dominates new old)
+unfolding notLowered implies
+not-lowered-decides Absent new = (λ e h. absurd (h refl), λ d. refl)
+not-lowered-decides (Present a) new = (
+  λ e h. dominates-decides new (Present a) .0 e,
+  λ d. dominates-decides new (Present a) .1 (d (λ e. clash (ap present e))),
+)
+
+-- "a first label is free"
+pub first-label-free : (new : Label) → notLowered Absent new ≡ true
+unfolding notLowered implies
+first-label-free new = refl
+
+-- "the same label" passes
+pub same-label-passes : (a : Label) → notLowered a a ≡ true
+same-label-passes a = not-lowered-decides a a .1 (dominates-refl a)
+
+-- ---- what the rules answer
+
+abbrev level : ℕ → ℕ → Level
+level class needs = record { class = class; needs = needs }
+
+-- an object of subject 1 with this label, on which subjects 0 and 1 hold the sets
+abbrev trace : Label → ℕ → ℕ → Object
+trace label held0 held1 = withRows (withLabel (withOwner noObject 1) label) (15 ∷ 15 ∷ replicate 14 0) (held0 ∷ held1 ∷ replicate 14 0)
+
+-- subject 0 has (1, 0001), subject 1 (3, 0003); object 0 is such an object, object 1 another one with (1, 0001), on which subject 1 holds a set
+abbrev state : Label → ℕ → ℕ → ℕ → Monitor
+state label held0 held1 other =
+    withObject
+    (withObject (fresh (record { clearance = Present (level 1 1) } ∷ record { clearance = Present (level 3 3) } ∷ replicate 14 nobody)) 0 (trace label held0 held1))
+    1 (trace (Present (level 1 1)) 0 other)
+
+-- its owner asks for a new label of object 0 that nobody holds
+abbrev changes : Label → ℕ → ℕ → Decision
+changes label class needs = checks (ChangeLevel 1 0 (level class needs)) (state label 0 0 0)
+
+-- "An owner could take a heat trace from class 3 to class 0 and publish it. Operators no longer allow this."
+pub no-publishing : (changes (Present (level 3 0)) 0 0 ≡ LabelLowered) × (changes (Present (level 3 1)) 0 0 ≡ LabelLowered)
+unfolding checks changed notLowered unless implies has dominates levelDominates compare simpleAll starAll starFor starFrom starPair
+no-publishing = (refl, refl)
+
+-- one class less, one need less, and labels apart in both directions
+pub neither-part-falls : (changes (Present (level 2 1)) 1 1 ≡ LabelLowered) × (changes (Present (level 2 3)) 2 1 ≡ LabelLowered)
+    × (changes (Present (level 2 1)) 3 2 ≡ LabelLowered) × (changes (Present (level 2 1)) 1 3 ≡ LabelLowered)
+unfolding checks changed notLowered unless implies has dominates levelDominates compare simpleAll starAll starFor starFrom starPair
+neither-part-falls = (refl, refl, refl, refl)
+
+-- the same label, a class more, a need more; a first label, also of class 0
+pub raising-passes : (changes (Present (level 2 1)) 2 1 ≡ Granted) × (changes (Present (level 2 1)) 3 1 ≡ Granted) × (changes (Present (level 2 1)) 2 3 ≡ Granted)
+    × (changes Absent 0 0 ≡ Granted) × (changes Absent 3 3 ≡ Granted)
+unfolding checks changed notLowered unless implies has dominates levelDominates compare simpleAll starAll starFor starFrom starPair
+raising-passes = (refl, refl, refl, refl, refl)
+
+-- "checked after 6 and before 8": a lowering by who is not enrolled, of what is not live, by who is not the owner
+pub lowering-after-six : (checks (ChangeLevel 2 0 (level 0 0)) (state (Present (level 2 1)) 0 0 0) ≡ NotEnrolled)
+    × (checks (ChangeLevel 1 2 (level 0 0)) (state (Present (level 2 1)) 0 0 0) ≡ NotLive)
+    × (checks (ChangeLevel 0 0 (level 0 0)) (state (Present (level 2 1)) 0 0 0) ≡ NoRight)
+unfolding checks unless
+lowering-after-six = (refl, refl, refl)
+
+-- a label apart that the reader, subject 0, does not dominate is 14, one above that is 8; a label apart with which subject 1 would read
+-- what the other object, to which it appends, does not dominate is 14, one above that is 9
+pub lowering-before-eight : (checks (ChangeLevel 1 0 (level 0 2)) (state (Present (level 1 1)) 8 0 0) ≡ LabelLowered)
+    × (checks (ChangeLevel 1 0 (level 1 3)) (state (Present (level 1 1)) 8 0 0) ≡ SimpleBroken)
+    × (checks (ChangeLevel 1 0 (level 0 2)) (state (Present (level 1 1)) 0 8 2) ≡ LabelLowered)
+    × (checks (ChangeLevel 1 0 (level 1 3)) (state (Present (level 1 1)) 0 8 2) ≡ StarBroken)
+unfolding checks changed notLowered unless implies has dominates levelDominates compare simpleAll starAll starFor starFrom starPair
+lowering-before-eight = (refl, refl, refl, refl)
