@@ -15,4 +15,5 @@ fn main() {
     requests::lengths(fresh);
     let labelled = requests::kinds(one);
     requests::unused(labelled);
+    requests::levels(labelled);
 }

@@ -1,8 +1,8 @@
-// The edges of a request: subjects, objects, modes, lengths, kinds, and fields that are not used. The comment behind each request
+// The edges of a request: subjects, objects, modes, lengths, kinds, fields that are not used, and labels beside that of an object. The comment behind each request
 // has the reply that the scope gives it, and why.
 ghost use Prim.Native.Nat.{_≤_};
 ghost use mathlib.Core.Path.{_≡_};
-ghost use Rattle.edges.specs.Trials.{left};
+ghost use Rattle.edges.specs.Trials.{left, changeTo};
 use crate::trial::ask;
 use crate::trial::ask_plain;
 use crate::trial::create;
@@ -10,6 +10,7 @@ use crate::trial::get;
 use crate::trial::give;
 use crate::trial::release;
 use encoding::without_level;
+use model::Fields;
 use saying::end;
 use saying::say_bytes;
 use unit::ROWS;
@@ -92,4 +93,31 @@ pub fn unused(labelled: [[u8; 16]; ROWS]) {
     with_spare.spare = 1;
     ask(labelled, with_spare); // 2: spare
     get(labelled, 0, 0, 1); // 0: right and label are there, the clearance dominates, nothing else is held
+}
+
+// The fields of a change of level by subject 0, on object 0.
+fn level(class: u8, needs: u16) -> Fields
+    ensures { λ r. ⌜ r ≡ changeTo class needs ⌝ }
+{
+    Fields {
+        kind: 7,
+        actor: 0,
+        other: 0,
+        object: 0,
+        mode: 0,
+        class,
+        needs,
+        spare: 0,
+    }
+}
+
+// Labels beside class 1 with need 0, which object 0 gets first; nobody holds an access on it.
+pub fn levels(labelled: [[u8; 16]; ROWS]) {
+    let raised = ask(labelled, level(1, 1)); // 0: it dominates class 0 without needs
+    ask(raised, level(1, 1)); // 1: the same label
+    ask(raised, level(0, 1)); // 14: one class less
+    ask(raised, level(1, 0)); // 14: one need less
+    ask(raised, level(2, 2)); // 14: apart, a class more and another need
+    ask(raised, level(2, 1)); // 0: one class more
+    ask(raised, level(1, 3)); // 0: one need more
 }
