@@ -2,13 +2,14 @@
 -- Assumes nothing.
 use Prim.Native.Nat.{ℕ, zero, suc, _+_, _-_, _≤_}
 use native.Mathlib.Omega.{arith}
-use mathlib.Core.Path.{_≡_, refl, sym, ap, _∙_, subst}
+use mathlib.Core.Path.{_≡_, sym, ap, _∙_, subst}
 use mathlib.Core.Logic.{_≢_, _⊎_, inl, inr}
-use mathlib.Core.Bool.{true}
+use mathlib.Core.Bool.{Bool, true, false, cond}
 use mathlib.Core.List.{List, [], _∷_}
 use lib.ListN.{take}
+use Rattle.model.specs.declared.Level.{Level}
 use Rattle.model.specs.declared.Label.{Label}
-use Rattle.model.specs.declared.Label.the-variants.{Absent}
+use Rattle.model.specs.declared.Label.the-variants.{Absent, Present}
 use Rattle.model.specs.declared.Subject.{Subject}
 use Rattle.model.specs.declared.Object.{Object}
 use Rattle.model.specs.declared.Monitor.{Monitor}
@@ -16,22 +17,24 @@ use Rattle.model.specs.declared.Mode.{Mode}
 use Rattle.model.specs.declared.Request.{Request}
 use Rattle.model.specs.declared.Request.the-variants.{Get, Release, Give, Rescind, Create, Delete, ChangeLevel}
 use Rattle.model.specs.declared.Decoded.the-variants.{Says}
-use Rattle.model.specs.declared.Decision.the-variants.{Granted}
+use Rattle.model.specs.declared.Decision.the-variants.{Granted, Already}
 use Rattle.model.specs.declared.Response.{Response}
-use Rattle.model.specs.Levels.{Dominates}
+use Rattle.model.specs.Levels.{Dominates, sameLabel}
 use Rattle.model.specs.Modes.{observes}
 use Rattle.model.specs.State.{clearance, clearanceAt, object}
 use Rattle.model.specs.Properties.{Holds}
+use Rattle.model.specs.Decisions.{number}
 use Rattle.model.specs.Requests.{decode}
-use Rattle.model.specs.Rules.{target, changed, checks, step}
-use Rattle.model.specs.Runs.{respond, after}
+use Rattle.model.specs.Rules.{target, changed, already, checks, step}
+use Rattle.model.specs.Runs.{respond, reply, after}
 use Rattle.model.specs.Beginnings.{Reached}
 use Rattle.model.proofs.Tests.{apart, clash}
-use Rattle.model.proofs.Levels.{dominates-refl, dominates-there, dominates-trans}
+use Rattle.model.proofs.Levels.{dominates-refl, dominates-there, dominates-trans, label-same}
 use Rattle.model.proofs.Lowering.{not-lowered-decides}
 use Rattle.invariants.proofs.Granted.{granted-change}
-use Rattle.invariants.proofs.Steps.{respond-all}
-use Rattle.images.proofs.Reached.{reached-after, sound-reached}
+use Rattle.invariants.proofs.Relabelling.{same-label-granted, first-label-granted}
+use Rattle.invariants.proofs.Steps.{step-granted, respond-all}
+use Rattle.images.proofs.Reached.{reached-after, sound-reached, respond-says}
 use Rattle.effects.proofs.Frames.{frame, create-finds, live-kept, subjects-kept-after}
 
 -- a label, where there is one, is dominated by the later one
@@ -77,6 +80,26 @@ label-ends-by-delete m g o live there = kept (live-kept m g o live)
         → Dominates (object (respond g m .monitor) o .label) (object m o .label) ⊎ ((s : ℕ) × (decode g ≡ Says (Delete s o)))
     kept (inl stays) = inl (respond-rises g m o live stays there)
     kept (inr ended) = inr ended
+
+-- ---- what is never refused
+
+module _ (m : Monitor) (R : Reached m) (g : List ℕ) (o : ℕ) (l : Level) (says : decode g ≡ Says (ChangeLevel (object m o .owner) o l))
+    (live : object m o .live ≡ true) where
+  -- the reply to the owner's change of level, where it is granted
+  owner-reply : (was : Bool) → checks (ChangeLevel (object m o .owner) o l) m ≡ Granted → sameLabel (object m o .label) (Present l) ≡ was
+      → reply g m ≡ number (cond was Already Granted)
+  unfolding already
+  owner-reply was e is =
+      ap (λ (r : Response). number (r .decision)) (respond-says g _ m says ∙ step-granted _ m e) ∙ ap (λ (b : Bool). number (cond b Already Granted)) is
+
+  -- "the same label still replies 1"
+  pub same-label-replies-1 : object m o .label ≡ Present l → reply g m ≡ 1
+  same-label-replies-1 e = owner-reply true (same-label-granted m (sound-reached m R) o l live e) (label-same _ _ e)
+
+  -- "a first label is free"
+  pub first-label-replies-0 : object m o .label ≡ Absent → reply g m ≡ 0
+  unfolding sameLabel
+  first-label-replies-0 e = owner-reply false (first-label-granted m (sound-reached m R) o l live e) (ap (λ (k : Label). sameLabel k (Present l)) e)
 
 -- ---- lists of requests
 

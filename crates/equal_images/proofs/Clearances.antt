@@ -8,7 +8,6 @@ use mathlib.Core.List.{List, [], _∷_}
 use lib.ListN.{length}
 use lib.Seq.{getD-set-same}
 use lib.Dec.{lit≤}
-use borrow.Author.Tests.{eq-eqb}
 use Rattle.model.specs.declared.Level.{Level}
 use Rattle.model.specs.declared.Label.{Label}
 use Rattle.model.specs.declared.Label.the-variants.{Absent, Present}
@@ -23,21 +22,18 @@ use Rattle.model.specs.declared.Response.{Response}
 use Rattle.model.specs.Tests.{implies, unless}
 use Rattle.model.specs.Levels.{compare, equalOrAbove, dominates, levelDominates, present}
 use Rattle.model.specs.Modes.{has}
-use Rattle.model.specs.State.{noModes, clearance, enrolled, object, rightsOf, heldBy, withLabel, LevelFits, LabelFits}
+use Rattle.model.specs.State.{noModes, clearance, enrolled, object, rightsOf, withLabel, LevelFits, LabelFits}
 use Rattle.model.specs.Requests.{creation, InRange}
-use Rattle.model.specs.Rules.{notLowered, changed, afterwards, checks, created, starFor, step}
+use Rattle.model.specs.Rules.{changed, afterwards, checks, created, starFor, step}
 use Rattle.model.proofs.Tests.{pass, stop, not-stop, distinct, cond-all}
 use Rattle.model.proofs.Tests as tests
 use Rattle.model.proofs.Levels.{level-refl}
-use Rattle.model.proofs.Lowering.{first-label-free}
 use Rattle.model.proofs.Comparisons.{mirror, level-back, equal-exactly}
 use Rattle.model.proofs.After.{object-there}
 use Rattle.telling.specs.Distinguish.{freeBelow, readAt, toClearance, byClearance}
 use Rattle.equal_images.proofs.Answers.{comparison-all}
-use Rattle.invariants.proofs.Granted.{grants-create, grants-change}
-use Rattle.invariants.proofs.Form.{no-modes}
-use Rattle.invariants.proofs.Pairs.{none-held}
-use Rattle.invariants.proofs.Secure.{simple-in, star-all-in, star-free, star-for}
+use Rattle.invariants.proofs.Granted.{grants-create}
+use Rattle.invariants.proofs.Relabelling.{first-label-granted}
 use Rattle.invariants.specs.Sound.{Sound}
 use Rattle.invariants.proofs.Steps.{step-granted, sound-afterwards}
 use Rattle.equal_images.proofs.Objects.{tells-refusal, delete-granted}
@@ -74,25 +70,14 @@ module _ (s o : ℕ) (l : Level) (s-below : s < 16) (o-below : o < 64) (fits : L
     unfolding made changed
     object-made = object-there (Create s o (creation false)) m (S .formed) o-below
 
-    nobody-holds : (t : ℕ) → heldBy (object (made m) o) t ≡ 0
-    nobody-holds t = ap (λ (k : Object). heldBy k t) object-made ∙ no-modes t
-
     clearance-made : clearance (made m) s ≡ clearance m s
     unfolding made
     clearance-made = refl
 
     level-granted : checks (ChangeLevel s o l) (made m) ≡ Granted
-    unfolding changed
     level-granted =
-        grants-change (made m) s o l
-        (record {
-          there = ap present clearance-made ∙ there;
-          live = ap (λ (k : Object). k .live) object-made;
-          owned = eq-eqb (object (made m) o .owner) s (ap (λ (k : Object). k .owner) object-made);
-          raised = ap (λ (k : Object). notLowered (k .label) (Present l)) object-made ∙ first-label-free (Present l);
-          simple = simple-in (made m .subjects) _ (λ t x w u. none-held x _ (nobody-holds t) w);
-          star = star-all-in _ (λ t. star-free t (made m .objects) o _ (star-for (made m) (sound-made .secure .star) t) (nobody-holds t));
-        })
+        subst (λ (w : ℕ). checks (ChangeLevel w o l) (made m) ≡ Granted) (ap (λ (k : Object). k .owner) object-made)
+        (first-label-granted (made m) sound-made o l (ap (λ (k : Object). k .live) object-made) (ap (λ (k : Object). k .label) object-made))
 
     object-ready : object (ready m) o ≡ withLabel (created s (creation false)) (Present l)
     unfolding ready changed

@@ -5,15 +5,11 @@ use native.Mathlib.Omega.{arith}
 use mathlib.Core.Path.{_≡_, refl, sym, ap, _∙_, subst}
 use mathlib.Core.Logic.{_≢_}
 use mathlib.Core.Bool.{true, false, not}
-use mathlib.Core.List.{List}
-use lib.ListN.{drop, set}
-use lib.Seq.{set-getD}
+use lib.ListN.{drop}
 use lib.Dec.{eqb}
 use borrow.Author.Tests.{eq-eqb, eqb-true, leb-true}
 use Rattle.model.specs.declared.Level.{Level}
-use Rattle.model.specs.declared.Label.{Label}
 use Rattle.model.specs.declared.Label.the-variants.{Present}
-use Rattle.model.specs.declared.Object.{Object}
 use Rattle.model.specs.declared.Monitor.{Monitor}
 use Rattle.model.specs.declared.Mode.{Mode}
 use Rattle.model.specs.declared.Mode.the-variants.{Read}
@@ -23,19 +19,17 @@ use Rattle.model.specs.declared.Decision.{Decision}
 use Rattle.model.specs.declared.Decision.the-variants.{Granted, NotEnrolled, NotLive, NoRight}
 use Rattle.model.specs.Levels.{sameLabel}
 use Rattle.model.specs.Modes.{has}
-use Rattle.model.specs.State.{noObject, enrolled, object, rightsOf, heldBy, LabelFits}
+use Rattle.model.specs.State.{enrolled, object, rightsOf, heldBy, LabelFits}
 use Rattle.model.specs.Decisions.{number, refuses}
 use Rattle.model.specs.Requests.{InRange}
-use Rattle.model.specs.Rules.{checkList, target, changed, already, checks, owns, notLowered, simpleAll, starAll, step}
+use Rattle.model.specs.Rules.{checkList, target, already, checks, owns, step}
 use Rattle.model.proofs.Tests.{split, apart, pass, stop, distinct}
-use Rattle.model.proofs.Equal.{with-label-same}
 use Rattle.model.proofs.Decisions.{number-inj}
 use Rattle.model.proofs.Modes.{has-none}
 use Rattle.model.proofs.Levels.{label-same}
-use Rattle.model.proofs.Lowering.{same-label-passes}
 use Rattle.model.proofs.Checks.{never-answers}
-use Rattle.invariants.proofs.Granted.{grants-release, grants-delete, grants-change}
-use Rattle.invariants.proofs.Secure.{object-secure, simple-in, star-all-in, star-for}
+use Rattle.invariants.proofs.Granted.{grants-release, grants-delete}
+use Rattle.invariants.proofs.Relabelling.{same-label-granted}
 use Rattle.invariants.specs.Sound.{Sound}
 use Rattle.invariants.proofs.Steps.{step-refused}
 use Rattle.invariants.proofs.Outcomes.{step-cases}
@@ -70,24 +64,6 @@ delete-granted m S o live =
 
 pub release-granted : (m : Monitor) (s o : ℕ) (x : Mode) → enrolled m s ≡ true → object m o .live ≡ true → checks (Release s o x) m ≡ Granted
 release-granted m s o x e g = grants-release m s o x (record { there = e; live = g })
-
--- the owner's change to the level that the object has: "the same label still replies 1"
-change-granted : (m : Monitor) → Sound m → (o : ℕ) (l : Level) → object m o .live ≡ true → object m o .label ≡ Present l
-    → checks (ChangeLevel (object m o .owner) o l) m ≡ Granted
-unfolding changed
-change-granted m S o l a e =
-    let ob = object m o in
-    let is = with-label-same ob (Present l) (sym e) in
-    grants-change m (ob .owner) o l
-    (record {
-      there = S .formed .objects-formed o .owner-enrolled a;
-      live = a;
-      owned = eq-eqb (ob .owner) _ refl;
-      raised = subst (λ (k : Label). notLowered k (Present l) ≡ true) (sym e) (same-label-passes (Present l));
-      simple = subst (λ (b : Object). simpleAll (m .subjects) b ≡ true) (sym is) (simple-in (m .subjects) ob (object-secure m (S .secure) o .simple));
-      star = subst (λ (k : List Object). starAll k ≡ true) (sym (ap (set (m .objects) o) is ∙ set-getD (m .objects) o noObject))
-          (star-all-in (m .objects) (star-for m (S .secure .star)));
-    })
 
 -- ---- each difference of an object, from one state to the other
 
@@ -139,7 +115,7 @@ module _ (m n : Monitor) (S : Sound m) (N : Sound n) where
       tells-label l e h =
           let F = S .formed .objects-formed o in (
             (F .shape .owner-fits, o-below, subst LabelFits e (F .shape .label-fits)),
-            tells-already (ChangeLevel (object m o .owner) o l) m n (change-granted m S o l a e) (label-same _ _ e) h,
+            tells-already (ChangeLevel (object m o .owner) o l) m n (same-label-granted m S o l a e) (label-same _ _ e) h,
           )
 
       pub tells-right : (s : ℕ) (x : Mode) → s < 16 → has x (rightsOf (object m o) s) ≡ true → has x (rightsOf (object n o) s) ≡ false

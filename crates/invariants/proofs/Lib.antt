@@ -3,6 +3,7 @@ pub mod Granted
 pub mod Form
 pub mod Pairs
 pub mod Secure
+pub mod Relabelling
 pub mod Steps
 pub mod Outcomes
 pub mod Added

@@ -62,9 +62,10 @@ module _ {A : Type 0} (matters : Mode → Bool) (view : Object → A) (R : Mode 
       let g = go q .keeps y b w in
       seen x y _ _ _ _ (f .1) (g .1) (h p q x y (f .0) (g .0)))
 
-  -- an object on which s holds nothing, in the place of any other
-  pub pairs-free : (s : ℕ) (l : List Object) (o : ℕ) (ob : Object) → PairsFor R s l → heldBy ob s ≡ 0 → PairsFor R s (set l o ob)
-  pairs-free s l o ob h z = pairs-less s l o ob h (record { keeps = λ x n e. none-held x _ z e })
+  -- an object on which s holds nothing that matters, in the place of any other
+  pub pairs-free : (s : ℕ) (l : List Object) (o : ℕ) (ob : Object) → PairsFor R s l
+      → ((x : Mode) → matters x ≡ true → has x (heldBy ob s) ≡ true → ⊥) → PairsFor R s (set l o ob)
+  pairs-free s l o ob h z = pairs-less s l o ob h (record { keeps = λ x n e. absurd (z x n e) })
 
   -- the held set of s becomes n, which has no more modes that matter
   less-held : (ob : Object) (s n : ℕ) → ((x : Mode) → matters x ≡ true → has x n ≡ true → has x (heldBy ob s) ≡ true)
@@ -101,6 +102,6 @@ module _ {A : Type 0} (matters : Mode → Bool) (view : Object → A) (R : Mode 
       let less = less-held new t _ (λ y g r. held-remove x y _ (W .objects-formed o .shape .held-fit t) r) j in
       pairs-less j (m .objects) o _ (before j)
       (record { keeps = λ y g r. let p = less .keeps y g r in (p .0, p .1 ∙ rights-unseen (object m o) t _) })
-  pairs-fewer (Create s o c) m W before f j = pairs-free j (m .objects) o _ (before j) (no-modes j)
-  pairs-fewer (Delete s o) m W before f j = pairs-free j (m .objects) o _ (before j) (no-modes j)
+  pairs-fewer (Create s o c) m W before f j = pairs-free j (m .objects) o _ (before j) (λ x n e. none-held x _ (no-modes j) e)
+  pairs-fewer (Delete s o) m W before f j = pairs-free j (m .objects) o _ (before j) (λ x n e. none-held x _ (no-modes j) e)
   pairs-fewer (ChangeLevel s o l) m W before f j = absurd f

@@ -182,8 +182,9 @@ pub star-idle : (s : ℕ) (l : List Object) → ((o : ℕ) → heldBy (objectAt 
 unfolding StarFor
 star-idle s l z = pairs-idle Flows s l z
 
--- an object on which it holds nothing, in the place of any other
-pub star-free : (s : ℕ) (l : List Object) (o : ℕ) (ob : Object) → StarFor s l → heldBy ob s ≡ 0 → StarFor s (set l o ob)
+-- an object on which it holds neither r nor w nor a, in the place of any other
+pub star-free : (s : ℕ) (l : List Object) (o : ℕ) (ob : Object) → StarFor s l
+    → ((x : Mode) → needsLabel x ≡ true → has x (heldBy ob s) ≡ true → ⊥) → StarFor s (set l o ob)
 unfolding StarFor
 star-free s l o ob = pairs-free needsLabel labelOf Flows flows-only flows-seen (λ ob s n. refl) (λ ob s n. refl) s l o ob
 
