@@ -5,3 +5,4 @@ pub mod Calls
 pub mod UnitRuns
 pub mod Pages
 pub mod Comparing
+pub mod Labels

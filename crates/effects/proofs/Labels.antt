@@ -5,7 +5,7 @@ use native.Mathlib.Omega.{arith}
 use mathlib.Core.Path.{_≡_, sym, ap, _∙_, subst}
 use mathlib.Core.Logic.{_≢_, _⊎_, inl, inr}
 use mathlib.Core.Bool.{Bool, true, false, cond}
-use mathlib.Core.List.{List, [], _∷_}
+use mathlib.Core.List.{List}
 use lib.ListN.{take}
 use Rattle.model.specs.declared.Level.{Level}
 use Rattle.model.specs.declared.Label.{Label}
@@ -29,6 +29,7 @@ use Rattle.model.specs.Rules.{target, changed, already, checks, step}
 use Rattle.model.specs.Runs.{respond, reply, after}
 use Rattle.model.specs.Beginnings.{Reached}
 use Rattle.model.proofs.Tests.{apart, clash}
+use Rattle.model.proofs.Lists.{after-next}
 use Rattle.model.proofs.Levels.{dominates-refl, dominates-there, dominates-trans, label-same}
 use Rattle.model.proofs.Lowering.{not-lowered-decides}
 use Rattle.invariants.proofs.Granted.{granted-change}
@@ -102,15 +103,6 @@ module _ (m : Monitor) (R : Reached m) (g : List ℕ) (o : ℕ) (l : Level) (say
   first-label-replies-0 e = owner-reply false (first-label-granted m (sound-reached m R) o l live e) (ap (λ (k : Label). sameLabel k (Present l)) e)
 
 -- ---- lists of requests
-
--- the state after one request more is that of the next one on the state before it, or the list has ended
-after-next : (P : Monitor → Type 0) (gs : List (List ℕ)) (m : Monitor) (k : ℕ) → P (after (take k gs) m)
-    → ((g : List ℕ) → P (respond g (after (take k gs) m) .monitor)) → P (after (take (suc k) gs) m)
-unfolding after
-after-next P [] m zero p f = p
-after-next P [] m (suc k) p f = p
-after-next P (g ∷ gs) m zero p f = f g
-after-next P (g ∷ gs) m (suc k) p f = after-next P gs (respond g m .monitor) k p f
 
 module _ (m : Monitor) (gs : List (List ℕ)) (o i : ℕ) where
   -- the label after k requests

@@ -24,6 +24,15 @@ unfolding after
 after-append [] cs m = refl
 after-append (b ∷ bs) cs m = after-append bs cs (respond b m .monitor)
 
+-- the state after one request more is that of the next one on the state before it, or the list has ended
+pub after-next : (P : Monitor → Type 0) (gs : List (List ℕ)) (m : Monitor) (k : ℕ) → P (after (take k gs) m)
+    → ((g : List ℕ) → P (respond g (after (take k gs) m) .monitor)) → P (after (take (suc k) gs) m)
+unfolding after
+after-next P [] m zero p f = p
+after-next P [] m (suc k) p f = p
+after-next P (g ∷ gs) m zero p f = f g
+after-next P (g ∷ gs) m (suc k) p f = after-next P gs (respond g m .monitor) k p f
+
 pub replies-append : (bs cs : List (List ℕ)) (m : Monitor) → replies (bs ++ cs) m ≡ replies bs m ++ replies cs (after bs m)
 unfolding after replies
 replies-append [] cs m = refl

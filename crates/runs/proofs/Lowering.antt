@@ -2,20 +2,21 @@
 -- Assumes nothing.
 use Prim.Native.Nat.{ℕ, _≤_}
 use native.Mathlib.Omega.{arith}
-use mathlib.Core.Path.{_≡_, refl}
+use mathlib.Core.Path.{_≡_, refl, sym, ap, _∙_}
+use mathlib.Core.Logic.{_≢_}
 use mathlib.Core.Bool.{true, false}
 use mathlib.Core.List.{List, [], _∷_, _++_, map}
 use lib.ListN.{take}
 use lib.Dec.{leb}
 use borrow.Author.Tests.{le-leb}
 use Rattle.bits.specs.Bits.{odd, toBits, fromBits, bytesToBits, bitsToBytes, field, cut, join, allZero}
-use Rattle.model.specs.declared.Label.the-variants.{Present}
+use Rattle.model.specs.declared.Label.the-variants.{Absent, Present}
 use Rattle.model.specs.declared.Monitor.{Monitor}
 use Rattle.model.specs.declared.Mode.the-variants.{Read}
 use Rattle.model.specs.declared.Request.{Request}
 use Rattle.model.specs.declared.Request.the-variants.{Get, Give, Create, Delete, ChangeLevel}
 use Rattle.model.specs.Tests.{allBelow, implies, unless}
-use Rattle.model.specs.Levels.{compare, levelDominates, dominates, sameLabel}
+use Rattle.model.specs.Levels.{compare, levelDominates, dominates, present, sameLabel}
 use Rattle.model.specs.Modes.{has, add, remove}
 use Rattle.model.specs.State.{object, heldBy}
 use Rattle.model.specs.Requests.{fields, modeAllowed, unusedZero, wellFormed, request, creation, decodeFields, decode, pack, encode}
@@ -24,7 +25,7 @@ use Rattle.model.specs.Runs.{respond, after, replies}
 use Rattle.model.specs.Reading.{labelFrom, labelForm, tableFrom, tableForm, tableChecks, begin, readTable}
 use Rattle.model.specs.Beginnings.{table, left}
 use Rattle.model.specs.Program.{pieces, line, linesAfter, program}
-use Rattle.model.proofs.Tests.{below-out, implies-out}
+use Rattle.model.proofs.Tests.{below-out, implies-out, clash}
 use Rattle.runs.specs.MarkedRun.{level, tableW}
 
 -- a request of the run and its reply
@@ -88,3 +89,6 @@ pub raised-met : (object (stateAfter 2) 0 .label ≡ Present (level 3 0x0001)) �
     × (has Read (heldBy (object (stateAfter 13) 0) 1) ≡ true)
 unfolding steps bytes tableW join bitsToBytes pack tableFrom tableForm labelForm labelFrom tableChecks begin readTable allZero bytesToBits toBits odd cut fromBits field decode decodeFields fields wellFormed modeAllowed unusedZero request respond step after checks already changed starAll starFor starFrom starPair implies unless answer simpleAll has add remove notLowered sameLabel dominates levelDominates compare
 raised-met = (refl, refl, refl)
+
+pub labelled-met : object (stateAfter 2) 0 .label ≢ Absent
+labelled-met e = clash (ap present (sym (raised-met .0) ∙ e))

@@ -1,0 +1,65 @@
+-- No lowering (change request §3) of a unit that was started or opened and asked any list.
+-- Assumes nothing.
+use Prim.Native.Nat.{ℕ, _≤_}
+use native.Mathlib.Omega.{arith}
+use mathlib.Core.Path.{_≡_, refl, sym, ap, _∙_, subst, subst₂}
+use mathlib.Core.Logic.{_≢_}
+use mathlib.Core.Bool.{true}
+use mathlib.Core.List.{List, []}
+use lib.ListN.{take}
+use Rattle.model.specs.declared.Label.{Label}
+use Rattle.model.specs.declared.Label.the-variants.{Absent}
+use Rattle.model.specs.declared.Mode.{Mode}
+use Rattle.model.specs.declared.Mode.the-variants.{Read}
+use Rattle.model.specs.declared.Monitor.{Monitor}
+use Rattle.model.specs.Levels.{Dominates}
+use Rattle.model.specs.Modes.{observes}
+use Rattle.model.specs.State.{clearance, object}
+use Rattle.model.specs.Properties.{Holds}
+use Rattle.model.specs.Runs.{after}
+use Rattle.model.specs.Beginnings.{Beginning, table, begun, Accepted, left}
+use Rattle.images.proofs.Reached.{reached-left}
+use Rattle.effects.proofs.Labels.{label-never-falls, never-published}
+use Rattle.unit.specs.Rows.{stateIn}
+use Rattle.runs.specs.MarkedRun.{tableW}
+use Rattle.runs.proofs.Lowering.{bytes, stateAfter, lives-met, labelled-met, raised-met}
+use Rattle.runs.proofs.Witnesses.{table-met}
+use Rattle.capi.specs.UnitRuns.{unitAfter}
+use Rattle.capi.proofs.UnitRuns.{after-says}
+
+module _ (b : Beginning) (bs : List (List ℕ)) (o i j : ℕ) (h : i ≤ j)
+    (live : (k : ℕ) → i ≤ k → k ≤ j → object (stateIn (unitAfter b (take k bs))) o .live ≡ true)
+    (there : object (stateIn (unitAfter b (take i bs))) o .label ≢ Absent) where
+  labelSaid : ℕ → Label
+  labelSaid k = object (stateIn (unitAfter b (take k bs))) o .label
+
+  said : (k : ℕ) → labelSaid k ≡ object (left b (take k bs)) o .label
+  unfolding labelSaid
+  said k = ap (λ (m : Monitor). object m o .label) (after-says b (take k bs))
+
+  lived : (k : ℕ) → i ≤ k → k ≤ j → object (left b (take k bs)) o .live ≡ true
+  lived k p q = sym (ap (λ (m : Monitor). object m o .live) (after-says b (take k bs))) ∙ live k p q
+
+  -- while the object lives, the label that the unit says after j requests dominates that after i
+  pub unit-label-never-falls : Dominates (object (stateIn (unitAfter b (take j bs))) o .label) (object (stateIn (unitAfter b (take i bs))) o .label)
+  unfolding labelSaid
+  unit-label-never-falls =
+      subst₂ Dominates (sym (said j)) (sym (said i)) (label-never-falls (begun b .monitor) bs o i j h lived (λ e. there (said i ∙ e)))
+
+  -- and who reads the object then, by r or w, has a clearance that dominates the earlier label
+  pub unit-never-published : Accepted b → (s : ℕ) (x : Mode) → Holds (stateIn (unitAfter b (take j bs))) s o x → observes x ≡ true
+      → Dominates (clearance (begun b .monitor) s) (object (stateIn (unitAfter b (take i bs))) o .label)
+  unfolding labelSaid after
+  unit-never-published e s x held reads =
+      subst (Dominates (clearance (begun b .monitor) s)) (sym (said i))
+      (never-published (begun b .monitor) (reached-left b e []) bs o i j h lived (λ w. there (said i ∙ w)) s x
+      (subst (λ (m : Monitor). Holds m s o x) (after-says b (take j bs)) held) reads)
+
+-- the hypotheses are met by the run without lowering: object 0 is live after 2 to 13 requests, and its label rises from (3, 0001) to (3, 0003)
+pub raised-there : Dominates (object (stateAfter 13) 0 .label) (object (stateAfter 2) 0 .label)
+raised-there = label-never-falls (begun (table tableW) .monitor) bytes 0 2 13 (omega arith) lives-met labelled-met
+
+pub read-there : Dominates (clearance (stateAfter 0) 1) (object (stateAfter 2) 0 .label)
+unfolding after
+read-there =
+    never-published (begun (table tableW) .monitor) (reached-left (table tableW) table-met []) bytes 0 2 13 (omega arith) lives-met labelled-met 1 Read (raised-met .2) refl
