@@ -11,7 +11,8 @@
  * above 63; 3 not enrolled; 4 object not live; 5 create on a live object; 6 right or ownership missing, of an image: an
  * access is held without the right; 7 no label, of an image: r, w or a is held on an object without one; 8 the simple
  * property would break, of an image: is broken; 9 the star property would break, of an image: is broken; 10 another length;
- * 11 a stray bit in what is absent; 12 an absent subject owns, has a right or holds; 13 the buffer is too short.
+ * 11 a stray bit in what is absent; 12 an absent subject owns, has a right or holds; 13 the buffer is too short; 14 the new
+ * label of an object that has one does not dominate it.
  * circmon_compare has four numbers of its own. docs/FORMATS.md has the bytes. */
 #ifndef CIRCMON_H
 #define CIRCMON_H
@@ -61,8 +62,8 @@ uint8_t circmon_open(circmon_unit *unit, const uint8_t *image, circmon_size imag
 uint8_t circmon_start(circmon_unit *unit, const uint8_t *table, circmon_size table_len);
 
 /* Carries out a request: bytes of any length and content; what is no request gets 2.
- * Returns the reply. Below 2 it is granted: 0 and the state changed, 1 and it was so already. 2 to 9 is the first check that
- * refuses, and every byte of the unit is left. */
+ * Returns the reply. Below 2 it is granted: 0 and the state changed, 1 and it was so already. 2 to 9 or 14 is the first check
+ * that refuses, and every byte of the unit is left. */
 uint8_t circmon_ask(circmon_unit *unit, const uint8_t *request, circmon_size request_len);
 
 /* Writes the image of the state into the first 1,274 bytes of the buffer and leaves any later byte.
@@ -88,7 +89,7 @@ uint8_t circmon_read(const uint8_t *image, circmon_size image_len);
 
 /* Carries out a request on the state in the buffer, which is exactly an image.
  * Where the image is refused with n, returns 128 + n and leaves every byte.
- * Else returns the reply, 0 to 9, and writes the image of the state after the request in place. */
+ * Else returns the reply, 0 to 9 or 14, and writes the image of the state after the request in place. */
 uint8_t circmon_request(uint8_t *image, circmon_size image_len, const uint8_t *request, circmon_size request_len);
 
 /* Runs requests of six bytes in a row, from a monitor begun from a table; a short last piece counts and gets 2.

@@ -2,9 +2,9 @@
 -- Assumes nothing.
 use Prim.Native.Nat.{ℕ}
 use mathlib.Core.Path.{_≡_, refl, ap}
-use mathlib.Core.Logic.{_↔_, _≢_}
-use mathlib.Core.Bool.{true}
-use mathlib.Core.List.{_∷_}
+use mathlib.Core.Logic.{_↔_, _≢_, _⊎_, inl, inr}
+use mathlib.Core.Bool.{Bool, true, false}
+use mathlib.Core.List.{List, [], _∷_}
 use lib.ListN.{replicate}
 use Rattle.model.specs.declared.Level.{Level}
 use Rattle.model.specs.declared.Label.{Label}
@@ -14,11 +14,11 @@ use Rattle.model.specs.declared.Monitor.{Monitor}
 use Rattle.model.specs.declared.Request.the-variants.{ChangeLevel}
 use Rattle.model.specs.declared.Decision.{Decision}
 use Rattle.model.specs.declared.Decision.the-variants.{Granted, NotEnrolled, NotLive, NoRight, SimpleBroken, StarBroken, LabelLowered}
-use Rattle.model.specs.Tests.{implies, unless}
+use Rattle.model.specs.Tests.{implies, unless, firstFailing}
 use Rattle.model.specs.Levels.{Dominates, dominates, levelDominates, compare, present}
 use Rattle.model.specs.Modes.{has}
-use Rattle.model.specs.State.{noObject, nobody, withOwner, withLabel, withRows, withObject, fresh}
-use Rattle.model.specs.Rules.{notLowered, changed, checks, simpleAll, starPair, starFrom, starFor, starAll}
+use Rattle.model.specs.State.{noObject, nobody, enrolled, object, withOwner, withLabel, withRows, withObject, fresh}
+use Rattle.model.specs.Rules.{owns, notLowered, changed, afterwards, checks, simpleAll, starPair, starFrom, starFor, starAll}
 use Rattle.model.proofs.Tests.{clash}
 use Rattle.model.proofs.Levels.{dominates-decides, dominates-refl}
 
@@ -41,6 +41,36 @@ first-label-free new = refl
 -- "the same label" passes
 pub same-label-passes : (a : Label) → notLowered a a ≡ true
 same-label-passes a = not-lowered-decides a a .1 (dominates-refl a)
+
+-- ---- what came to the checks of before
+
+-- the checks of a change of level as they were
+abbrev changeBefore : ℕ → ℕ → Level → Monitor → List (Bool × Decision)
+changeBefore s o l m =
+    (enrolled m s, NotEnrolled)
+    ∷ (object m o .live, NotLive)
+    ∷ (owns s (object m o), NoRight)
+    ∷ (simpleAll (m .subjects) (changed (ChangeLevel s o l) (object m o)), SimpleBroken)
+    ∷ (starAll (afterwards (ChangeLevel s o l) m .objects), StarBroken)
+    ∷ []
+
+-- one check more, behind three: its answer, or what was answered without it
+one-more : (a b c n : Bool) (i j k d later : Decision)
+    → (unless a i (unless b j (unless c k (unless n d later))) ≡ d)
+    ⊎ (unless a i (unless b j (unless c k (unless n d later))) ≡ unless a i (unless b j (unless c k later)))
+unfolding unless
+one-more false b c n i j k d later = inr refl
+one-more true false c n i j k d later = inr refl
+one-more true true false n i j k d later = inr refl
+one-more true true true true i j k d later = inr refl
+one-more true true true false i j k d later = inl refl
+
+-- on every monitor a change of level is answered 14, or as it was
+pub fourteen-or-as-before : (s o : ℕ) (l : Level) (m : Monitor)
+    → (checks (ChangeLevel s o l) m ≡ LabelLowered) ⊎ (checks (ChangeLevel s o l) m ≡ firstFailing (changeBefore s o l m))
+unfolding checks
+fourteen-or-as-before s o l m =
+    one-more (enrolled m s) (object m o .live) (owns s (object m o)) (notLowered (object m o .label) (Present l)) NotEnrolled NotLive NoRight LabelLowered _
 
 -- ---- what the rules answer
 
