@@ -40,6 +40,8 @@ pub mod reply {
     pub const STRAY_BITS: u8 = 11;
     pub const ABSENT_SUBJECT: u8 = 12;
     pub const SHORT_BUFFER: u8 = 13;
+    /// a new label that does not dominate the old
+    pub const LOWERED: u8 = 14;
 }
 
 #[cfg(test)]

@@ -156,6 +156,10 @@ impl Monitor {
         if it.owner != actor {
             return reply::NO_RIGHT;
         }
+        // a first label is free
+        if it.label.is_some_and(|old| !level.dominates(&old)) {
+            return reply::LOWERED;
+        }
         for s in 0..SUBJECTS {
             if it.reads(s) && !self.subjects[s].is_some_and(|c| c.dominates(&level)) {
                 return reply::SIMPLE;

@@ -1,4 +1,5 @@
-//! The marked run, an access page, comparisons and the sizes, from the text of the requirements. The edges are in `sidebyside`, for both implementations.
+//! The marked run, an access page, comparisons, changes of level and the sizes, from the text of the requirements. The edges are
+//! in `sidebyside`, for both implementations.
 
 use crate::marked::{marked_run, table_w};
 use crate::*;
@@ -112,6 +113,56 @@ fn a_comparison_as_the_text_has_it() {
         assert_eq!(a.dominates(&b), at_least(a, b), "{a:?} over {b:?}");
         assert_eq!(expected == Comparison::Equal, a == b, "{a:?} with {b:?}");
     }
+}
+
+/// The reply of table W's monitor to a request about object 0 or 1.
+fn asked(monitor: &mut Monitor, actor: usize, object: usize, kind: Kind) -> u8 {
+    monitor.step(Request { actor, object, kind })
+}
+
+fn to(class: u8, needs: u16) -> Kind {
+    Kind::ChangeLevel(Level { class, needs })
+}
+
+#[test]
+fn a_new_label_that_does_not_dominate_the_old_is_refused_with_14() {
+    let monitor = &mut Monitor::from_table(&table_w()).unwrap();
+    assert_eq!(asked(monitor, 1, 0, Kind::Create { execute: false }), 0);
+    for (class, needs, reply) in [
+        (3, 1, 0), // a first label is free
+        (0, 0, 14),
+        (3, 1, 1),
+        (3, 0, 14),
+        (3, 2, 14),
+        (15, 2, 14), // apart: a need is gone, though the class is higher
+        (2, 3, 14),  // apart: the class is lower, though there is one more need
+        (3, 3, 0),
+        (3, 1, 14), // not even back
+        (15, 0xFFFF, 0),
+    ] {
+        assert_eq!(asked(monitor, 1, 0, to(class, needs)), reply, "class {class} needs {needs}");
+    }
+    assert_eq!(asked(monitor, 1, 0, Kind::Delete), 0);
+    assert_eq!(asked(monitor, 1, 0, Kind::Create { execute: false }), 0);
+    assert_eq!(asked(monitor, 1, 0, to(0, 0)), 0, "a first label again");
+}
+
+#[test]
+fn check_14_is_after_6_and_before_8() {
+    let monitor = &mut Monitor::from_table(&table_w()).unwrap();
+    assert_eq!(asked(monitor, 1, 0, to(0, 0)), reply::NOT_LIVE);
+    for (object, level, mode) in [(0, to(1, 1), Mode::Read), (1, to(2, 1), Mode::Append)] {
+        for kind in [Kind::Create { execute: false }, level, Kind::Get(mode)] {
+            assert_eq!(asked(monitor, 1, object, kind), 0, "{kind:?} of o{object}");
+        }
+    }
+    assert_eq!(asked(monitor, 0, 0, to(0, 0)), reply::NO_RIGHT);
+    // s1, who has (3, 0003), reads o0 and appends to o1
+    assert_eq!(asked(monitor, 1, 0, to(0, 5)), reply::LOWERED, "simple would break too");
+    assert_eq!(asked(monitor, 1, 0, to(1, 5)), reply::SIMPLE);
+    assert_eq!(asked(monitor, 1, 1, to(0, 1)), reply::LOWERED, "star would break too");
+    assert_eq!(asked(monitor, 1, 0, to(3, 1)), reply::STAR);
+    assert_eq!(asked(monitor, 1, 0, to(2, 1)), reply::CHANGED);
 }
 
 #[test]
