@@ -13,7 +13,7 @@ pub struct Load {
 }
 
 pub fn shape(objects: usize) -> Shape {
-    Shape { objects, classes: 4, needs: 2, damaged: 1_000_000 }
+    Shape { objects, subjects: SUBJECTS, classes: 4, needs: 2, damaged: 1_000_000 }
 }
 
 /// Requests that leave `objects` live objects, labelled, with many rights; dense: with many accesses too.

@@ -42,8 +42,9 @@ impl Random {
 /// How a run is drawn.
 #[derive(Clone, Copy)]
 pub struct Shape {
-    /// objects that requests name, 1 to 64: few make conflicts frequent
+    /// objects that requests name, 1 to 64, and subjects, 1 to 16: few make conflicts frequent
     pub objects: usize,
+    pub subjects: usize,
     /// classes and needs that levels take
     pub classes: usize,
     pub needs: usize,
@@ -55,48 +56,92 @@ pub fn level(random: &mut Random, shape: Shape) -> Level {
     Level { class: random.below(shape.classes) as u8, needs: random.below(1 << shape.needs) as u16 }
 }
 
-/// A table with most subjects enrolled.
+/// The lowest level that dominates both.
+fn upper(a: Level, b: Level) -> Level {
+    Level { class: a.class.max(b.class), needs: a.needs | b.needs }
+}
+
+/// The highest level that both dominate.
+fn lower(a: Level, b: Level) -> Level {
+    Level { class: a.class.min(b.class), needs: a.needs & b.needs }
+}
+
+/// A table with most subjects enrolled. Clearances are drawn high and first labels low, so that labels rise between them.
 pub fn table(random: &mut Random, shape: Shape) -> [u8; reference::TABLE_BYTES] {
     let mut monitor = Monitor::empty();
     for subject in &mut monitor.subjects {
         if !random.once_in(6) {
-            *subject = Some(level(random, shape));
+            *subject = Some(upper(level(random, shape), level(random, shape)));
         }
     }
     monitor.table()
 }
 
-/// The next request for a state: half of the draws name the owner of the object, so that ownership is met often.
+/// The next request for a state: most draws name the owner of the object, so that ownership is met often.
 pub fn request(random: &mut Random, shape: Shape, monitor: &Monitor) -> Request {
     let object = random.below(shape.objects);
-    let owner = monitor.objects[object].as_ref().map(|it| it.owner);
-    let anyone = random.below(SUBJECTS);
-    let actor = match owner {
-        Some(owner) if random.once_in(2) => owner,
+    let live = monitor.objects[object].as_ref();
+    let anyone = random.below(shape.subjects);
+    let actor = match live {
+        Some(it) if !random.once_in(3) => it.owner,
         _ => anyone,
     };
-    let mode = random.mode();
-    let other = random.below(SUBJECTS);
-    let kind = if owner.is_none() && !random.once_in(8) { create } else { drawn(random) };
-    Request { actor, object, kind: kind(random, shape, other, mode) }
+    let kind = if live.is_none() && !random.once_in(8) { create } else { drawn(random) };
+    let fields = Fields {
+        mode: random.mode(),
+        other: random.below(shape.subjects),
+        execute: random.once_in(2),
+        level: new_level(random, shape, live.and_then(|it| it.label)),
+    };
+    Request { actor, object, kind: kind(fields) }
 }
 
-/// Makes a request of one kind, with another subject and a mode where it has them.
-type Make = fn(&mut Random, Shape, usize, Mode) -> Kind;
+/// The level that a change of level asks for. A label only rises until its object is deleted, and at the top every change is
+/// refused or changes nothing. So a first label is low, and most changes ask for one step up.
+pub fn new_level(random: &mut Random, shape: Shape, label: Option<Level>) -> Level {
+    let Some(label) = label else {
+        return lower(level(random, shape), level(random, shape));
+    };
+    match random.below(6) {
+        0 => label,
+        1 => level(random, shape),
+        _ => step_up(random, shape, label),
+    }
+}
 
-fn create(random: &mut Random, _: Shape, _: usize, _: Mode) -> Kind {
-    Kind::Create { execute: random.once_in(2) }
+/// One class higher or one need more; the same level where the shape has no higher class, or the label that need.
+fn step_up(random: &mut Random, shape: Shape, label: Level) -> Level {
+    if random.once_in(2) {
+        Level { class: (usize::from(label.class) + 1).min(shape.classes - 1) as u8, ..label }
+    } else {
+        Level { needs: label.needs | 1 << random.below(shape.needs), ..label }
+    }
+}
+
+/// What a request of any kind may use.
+struct Fields {
+    mode: Mode,
+    other: usize,
+    execute: bool,
+    level: Level,
+}
+
+/// Makes a request of one kind.
+type Make = fn(Fields) -> Kind;
+
+fn create(it: Fields) -> Kind {
+    Kind::Create { execute: it.execute }
 }
 
 /// How often each kind is drawn.
 const WEIGHTS: [(Make, usize); 7] = [
-    (|_, _, _, mode| Kind::Get(mode), 8),
-    (|_, _, _, mode| Kind::Release(mode), 2),
-    (|_, _, other, mode| Kind::Give(other, mode), 3),
-    (|_, _, other, mode| Kind::Rescind(other, mode), 1),
+    (|it| Kind::Get(it.mode), 16),
+    (|it| Kind::Release(it.mode), 3),
+    (|it| Kind::Give(it.other, it.mode), 5),
+    (|it| Kind::Rescind(it.other, it.mode), 1),
     (create, 1),
-    (|_, _, _, _| Kind::Delete, 1),
-    (|random, shape, _, _| Kind::ChangeLevel(level(random, shape)), 4),
+    (|_| Kind::Delete, 1),
+    (|it| Kind::ChangeLevel(it.level), 5),
 ];
 
 fn drawn(random: &mut Random) -> Make {
@@ -132,7 +177,7 @@ pub fn bytes(random: &mut Random, shape: Shape, monitor: &Monitor) -> Vec<u8> {
 /// A state with n live, labelled objects and many rights and accesses.
 pub fn rich(seed: u64, objects: usize, requests: usize) -> Monitor {
     let random = &mut Random::new(seed);
-    let shape = Shape { objects: objects.min(OBJECTS), classes: 4, needs: 2, damaged: 50 };
+    let shape = Shape { objects: objects.min(OBJECTS), subjects: SUBJECTS, classes: 4, needs: 2, damaged: 50 };
     let mut monitor = Monitor::from_table(&table(random, shape)).expect("a table that was written");
     for _ in 0..requests {
         let bytes = bytes(random, shape, &monitor);

@@ -22,13 +22,13 @@ pub fn image(monitor: &Monitor) -> Vec<u8> {
     image
 }
 
-/// Shapes of runs: few objects and many conflicts, many objects, few levels, many levels.
+/// Shapes of runs: few objects and subjects and many conflicts, many objects, few levels, many levels.
 pub const SHAPES: [Shape; 5] = [
-    Shape { objects: 2, classes: 3, needs: 2, damaged: 9 },
-    Shape { objects: 5, classes: 2, needs: 3, damaged: 20 },
-    Shape { objects: 16, classes: 4, needs: 2, damaged: 30 },
-    Shape { objects: 64, classes: 3, needs: 1, damaged: 50 },
-    Shape { objects: 64, classes: 16, needs: 16, damaged: 40 },
+    Shape { objects: 2, subjects: 3, classes: 3, needs: 2, damaged: 9 },
+    Shape { objects: 5, subjects: 4, classes: 2, needs: 3, damaged: 20 },
+    Shape { objects: 16, subjects: 6, classes: 4, needs: 2, damaged: 30 },
+    Shape { objects: 64, subjects: 16, classes: 3, needs: 1, damaged: 50 },
+    Shape { objects: 64, subjects: 16, classes: 16, needs: 16, damaged: 40 },
 ];
 
 /// The long runs: so many seeds from 0 on, each with a shape and so many requests.
@@ -52,6 +52,9 @@ pub fn drawn(seed: u64, shape: Shape, requests: usize) -> ([u8; TABLE_BYTES], Ve
     };
     (table, (0..requests).map(draw).collect())
 }
+
+/// Every number that a request can get.
+pub const REPLIES: [u8; 11] = [0, 1, 2, 3, 4, 5, 6, 7, 8, 9, 14];
 
 /// The second implementation's state with the access or the label that the request asks for put in, unchecked.
 pub fn with_effect(monitor: &Monitor, request: &Request) -> Monitor {
@@ -88,20 +91,62 @@ impl Count {
     }
 }
 
+/// The replies of runs: to all requests, and to changes of level alone.
+#[derive(Default, Debug)]
+pub struct Replies {
+    pub all: Count,
+    pub levels: Count,
+}
+
+impl Replies {
+    fn note(&mut self, request: &[u8], reply: u8) {
+        self.all.note(reply);
+        if Request::decode(request).is_some_and(|it| matches!(it.kind, Kind::ChangeLevel(_))) {
+            self.levels.note(reply);
+        }
+    }
+}
+
 /// Runs both on one load, comparing every reply, and the image at every `every` requests and at the end.
-pub fn compare_run(seed: u64, shape: Shape, requests: usize, every: usize, count: &mut Count) {
+pub fn compare_run(seed: u64, shape: Shape, requests: usize, every: usize, replies: &mut Replies) {
     let (table, list) = drawn(seed, shape, requests);
     let mut monitor = Monitor::from_table(&table).expect("a table that was written");
     let mut unit = Unit::from_table(&table).unwrap_or_else(|n| panic!("seed {seed}: table refused with {n}"));
     for (at, bytes) in list.iter().enumerate() {
         let reply = monitor.request(bytes);
         assert_eq!(unit.ask(bytes), reply, "seed {seed}, request {at}: {bytes:02x?}");
-        count.note(reply);
+        replies.note(bytes, reply);
         if at % every == 0 || at + 1 == requests {
             assert_eq!(unit.image()[..], image(&monitor)[..], "seed {seed}: images after request {at}");
         }
     }
     round_trip(seed, &monitor, &unit);
+}
+
+/// A state in both implementations.
+pub struct Both {
+    pub monitor: Monitor,
+    pub unit: Unit,
+}
+
+impl Both {
+    pub fn new(monitor: Monitor) -> Both {
+        let unit = Unit::from_image(&image(&monitor)).expect("an image that is accepted");
+        Both { monitor, unit }
+    }
+
+    /// The reply of both, which leave the same state; where the state did not change, every byte of the unit is left.
+    pub fn request(&mut self, bytes: &[u8]) -> u8 {
+        let before = self.unit.clone();
+        let reply = self.monitor.request(bytes);
+        assert_eq!(self.unit.ask(bytes), reply, "{bytes:02x?}");
+        if reply == 0 {
+            assert_eq!(self.unit.image()[..], image(&self.monitor)[..], "{bytes:02x?}");
+        } else {
+            assert!(self.unit == before, "{bytes:02x?} gets {reply}, and a byte of the unit is changed");
+        }
+        reply
+    }
 }
 
 /// Any content of a unit. Bytes that stand for true, and the numbers at the borders of a range, are frequent.

@@ -2,9 +2,9 @@
 //! subject 15 and 16, object 63 and 64, mode 4 and 5, requests of 5, 6 and 7 bytes, tables of 41, 42 and 43, and buffers of
 //! 1,273 and 1,274, for a page of 257 and 258.
 
-use circmon::{Unit, REQUEST_BYTES};
+use circmon::REQUEST_BYTES;
 use reference::{reply, Level, Monitor, IMAGE_BYTES, OBJECTS, SUBJECTS, TABLE_BYTES};
-use sidebyside::image;
+use sidebyside::Both;
 
 const CREATE: u64 = 5;
 const GET: u64 = 1;
@@ -13,27 +13,9 @@ const GIVE: u64 = 3;
 /// What a byte must still have where nothing is written.
 const LEFT: u8 = 0xEE;
 
-/// A state in both implementations.
-struct Both {
-    monitor: Monitor,
-    unit: Unit,
-}
-
-impl Both {
-    /// Everyone is enrolled.
-    fn new() -> Both {
-        let monitor = Monitor::begin([Some(Level { class: 1, needs: 1 }); SUBJECTS]);
-        let unit = Unit::from_table(&monitor.table()).unwrap();
-        Both { monitor, unit }
-    }
-
-    /// The reply of both, which leave the same state.
-    fn request(&mut self, bytes: &[u8]) -> u8 {
-        let reply = self.monitor.request(bytes);
-        assert_eq!(self.unit.ask(bytes), reply, "{bytes:02x?}");
-        assert_eq!(self.unit.image()[..], image(&self.monitor)[..], "{bytes:02x?}");
-        reply
-    }
+/// Everyone is enrolled.
+fn everyone() -> Both {
+    Both::new(Monitor::begin([Some(Level { class: 1, needs: 1 }); SUBJECTS]))
 }
 
 /// Six bytes with these fields; class, needs and spare are 0.
@@ -44,7 +26,7 @@ fn fields(kind: u64, actor: u64, other: u64, object: u64, mode: u64) -> [u8; REQ
 
 #[test]
 fn subject_15_and_16() {
-    let mut both = Both::new();
+    let mut both = everyone();
     assert_eq!(both.request(&fields(CREATE, 15, 0, 0, 0)), reply::CHANGED);
     assert_eq!(both.request(&fields(CREATE, 16, 0, 1, 0)), reply::MALFORMED);
     assert_eq!(both.request(&fields(GIVE, 15, 15, 0, 1)), reply::ALREADY);
@@ -55,7 +37,7 @@ fn subject_15_and_16() {
 
 #[test]
 fn object_63_and_64() {
-    let mut both = Both::new();
+    let mut both = everyone();
     assert_eq!(both.request(&fields(CREATE, 0, 0, 63, 0)), reply::CHANGED);
     assert_eq!(both.request(&fields(CREATE, 0, 0, 64, 0)), reply::MALFORMED);
     assert_eq!(both.request(&fields(CREATE, 0, 0, 127, 0)), reply::MALFORMED);
@@ -64,7 +46,7 @@ fn object_63_and_64() {
 
 #[test]
 fn mode_4_and_5() {
-    let mut both = Both::new();
+    let mut both = everyone();
     assert_eq!(both.request(&fields(CREATE, 0, 0, 0, 5)), reply::MALFORMED);
     assert_eq!(both.request(&fields(CREATE, 0, 0, 0, 4)), reply::CHANGED);
     assert_eq!(both.request(&fields(GET, 0, 0, 0, 4)), reply::CHANGED);
@@ -75,7 +57,7 @@ fn mode_4_and_5() {
 
 #[test]
 fn requests_of_5_6_and_7_bytes() {
-    let mut both = Both::new();
+    let mut both = everyone();
     let long = [&fields(CREATE, 0, 0, 0, 0)[..], &[0]].concat();
     assert_eq!(both.request(&long[..5]), reply::MALFORMED);
     assert_eq!(both.request(&long[..7]), reply::MALFORMED);
@@ -84,7 +66,7 @@ fn requests_of_5_6_and_7_bytes() {
 
 #[test]
 fn tables_of_41_42_and_43_bytes() {
-    let bytes = [&Both::new().monitor.table()[..], &[0]].concat();
+    let bytes = [&everyone().monitor.table()[..], &[0]].concat();
     for (length, number) in [(41, reply::LENGTH), (42, 0), (43, reply::LENGTH)] {
         assert_eq!(Monitor::from_table(&bytes[..length]).err().unwrap_or(0), number, "{length} bytes");
         let mut buffer = [LEFT; IMAGE_BYTES];
@@ -96,7 +78,7 @@ fn tables_of_41_42_and_43_bytes() {
 
 #[test]
 fn buffers_of_1273_and_1274_bytes() {
-    let both = Both::new();
+    let both = everyone();
     let table = both.monitor.table();
     for (length, number) in [(1273, reply::SHORT_BUFFER), (1274, 0), (1275, 0)] {
         let (mut proved, mut second) = (vec![LEFT; length], vec![LEFT; length]);
@@ -113,7 +95,7 @@ fn buffers_of_1273_and_1274_bytes() {
 
 #[test]
 fn pages_of_objects_63_and_64_in_257_and_258_bytes() {
-    let mut both = Both::new();
+    let mut both = everyone();
     assert_eq!(both.request(&fields(CREATE, 0, 0, 63, 0)), reply::CHANGED);
     for (object, length, number) in [
         (63, 257, reply::SHORT_BUFFER),

@@ -3,7 +3,7 @@
 use circmon::{Unit, REQUEST_BYTES, TABLE_BYTES};
 use load::Random;
 use reference::{marked_run, table_w, Monitor, MOST_REQUESTS};
-use sidebyside::{drawn, fed, image, program, shape, Count};
+use sidebyside::{drawn, fed, image, program, shape, Count, REPLIES};
 use std::process::Command;
 
 /// What is replied to the pieces from a table, and the image after them where the form has one.
@@ -92,5 +92,5 @@ fn a_hundred_thousand_requests_in_every_form() {
         replies(&table, &pieces, &format!("seed {seed}")).into_iter().for_each(|reply| count.note(reply));
     }
     assert!(count.all() >= 100_000, "{count:?}");
-    assert!((0..=9).all(|reply| count.of(reply) > 100), "{count:?}");
+    assert!(REPLIES.iter().all(|&reply| count.of(reply) > 100), "{count:?}");
 }

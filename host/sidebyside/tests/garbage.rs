@@ -4,7 +4,7 @@
 use circmon::{Rows, Unit, IMAGE_BYTES, OBJECTS, SUBJECTS};
 use load::Random;
 use reference::{reply, Level, Monitor, Object};
-use sidebyside::{image, random_rows, shape, Count};
+use sidebyside::{image, random_rows, shape, Count, REPLIES};
 
 const LEFT: u8 = 0xEE;
 const HELD: usize = OBJECTS;
@@ -69,9 +69,18 @@ fn monitor_said(rows: &Rows) -> Monitor {
     monitor
 }
 
-/// Any bytes but where an object is not live: there they say no owner, label, right or access.
-fn rows_of_a_monitor(random: &mut Random) -> Rows {
+/// Any bytes, but most subjects are enrolled: where few are, nearly every request gets 3.
+fn rows_with_subjects(random: &mut Random) -> Rows {
     let mut rows = random_rows(random);
+    for row in &mut rows[CLEARANCES..] {
+        row[2] = if random.once_in(4) { row[2] } else { 1 };
+    }
+    rows
+}
+
+/// The same, but where an object is not live the bytes say no owner, label, right or access.
+fn rows_of_a_monitor(random: &mut Random) -> Rows {
+    let mut rows = rows_with_subjects(random);
     for object in 0..OBJECTS {
         let rest = &mut rows[REST + object];
         if rest[0] != 1 {
@@ -107,9 +116,9 @@ fn saving_writes_what_the_rows_say_and_nothing_behind_it() {
 #[test]
 fn a_refusal_leaves_every_byte_and_a_1_the_state() {
     let mut count = Count::default();
-    for seed in 0..600 {
+    for seed in 0..1500 {
         let random = &mut Random::new(seed);
-        let mut unit = Unit::from_rows(random_rows(random));
+        let mut unit = Unit::from_rows(rows_with_subjects(random));
         for at in 0..300 {
             let request = load::bytes(random, shape(seed), &monitor_said(unit.rows()));
             let before = unit.clone();
@@ -120,13 +129,13 @@ fn a_refusal_leaves_every_byte_and_a_1_the_state() {
             assert!(reply != 1 || unit.image() == before.image(), "{what}, and the state is changed");
         }
     }
-    assert!(count.numbers() == 10 && (0..=9).all(|reply| count.of(reply) > 100), "{count:?}");
+    assert!(count.numbers() == REPLIES.len() && REPLIES.iter().all(|&reply| count.of(reply) > 100), "{count:?}");
 }
 
 #[test]
 fn replies_and_images_are_those_of_the_state_that_the_rows_say() {
     let mut count = Count::default();
-    for seed in 10_000..10_600 {
+    for seed in 10_000..11_500 {
         let random = &mut Random::new(seed);
         let mut unit = Unit::from_rows(rows_of_a_monitor(random));
         let mut monitor = monitor_said(unit.rows());
@@ -139,7 +148,7 @@ fn replies_and_images_are_those_of_the_state_that_the_rows_say() {
         assert!(monitor_said(unit.rows()) == monitor, "seed {seed}: the state after the requests");
         assert_eq!(unit.image()[..], image(&monitor)[..], "seed {seed}");
     }
-    assert!((0..=9).all(|reply| count.of(reply) > 100), "{count:?}");
+    assert!(REPLIES.iter().all(|&reply| count.of(reply) > 100), "{count:?}");
 }
 
 #[test]

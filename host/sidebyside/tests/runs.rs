@@ -3,18 +3,23 @@
 use circmon::Unit;
 use load::{Random, Shape};
 use reference::{Monitor, Star};
-use sidebyside::{compare_run, image, shape, Count, RUNS, RUN_REQUESTS};
+use sidebyside::{compare_run, image, shape, Replies, REPLIES, RUNS, RUN_REQUESTS};
 
 #[test]
 fn a_million_requests_draw_the_same_replies_and_images() {
-    let mut count = Count::default();
+    let mut replies = Replies::default();
     for seed in 0..RUNS {
-        compare_run(seed, shape(seed), RUN_REQUESTS, 40, &mut count);
+        compare_run(seed, shape(seed), RUN_REQUESTS, 40, &mut replies);
     }
-    assert!(count.all() >= 1_000_000);
+    let Replies { all, levels } = replies;
+    assert!(all.all() >= 1_000_000);
     // the loads reach every reply that a request can get
-    for reply in 0..=9 {
-        assert!(count.of(reply) > 1000, "reply {reply}: {count:?}");
+    for reply in REPLIES {
+        assert!(all.of(reply) > 1000, "reply {reply}: {all:?}");
+    }
+    // they do not come to rest at the top labels: each of these is more than one percent of the replies to changes of level
+    for reply in [0, 1, 8, 9, 14] {
+        assert!(100 * levels.of(reply) > levels.all(), "reply {reply} to a change of level: {levels:?}");
     }
 }
 
@@ -57,11 +62,12 @@ fn replay_gives_the_replies_of_the_requests_one_by_one() {
 
 #[test]
 fn a_deleted_object_leaves_nothing_for_the_next_in_its_slot() {
-    let shape = Shape { objects: 1, classes: 2, needs: 1, damaged: 1000 };
-    let mut count = Count::default();
+    let shape = Shape { objects: 1, subjects: 16, classes: 2, needs: 1, damaged: 1000 };
+    let mut replies = Replies::default();
     for seed in 5000..5050 {
-        compare_run(seed, shape, 2000, 1, &mut count);
+        compare_run(seed, shape, 2000, 1, &mut replies);
     }
+    let count = replies.all;
     assert!(count.of(4) > 0 && count.of(5) > 0 && count.of(0) > 0, "{count:?}");
 }
 
