@@ -1,5 +1,5 @@
-//! Comparisons of two levels: the library beside the second implementation and beside the words of dominance, and checks 8
-//! and 9 of the long runs beside the library's comparison.
+//! Comparisons of two levels: the library beside the second implementation and beside the words of dominance, and checks 14,
+//! 8 and 9 of the long runs beside the library's comparison.
 
 use circmon::{Comparison, Level, Unit};
 use load::Random;
@@ -121,8 +121,10 @@ fn a_million_pairs_at_random() {
     each_met(&count, &ALL, 50_000);
 }
 
-/// The comparisons that checks 8 and 9 of a request are about.
+/// The comparisons that checks 14, 8 and 9 of a request are about.
 struct Asked {
+    /// the new label with the old, where there is one
+    raising: Vec<Comparison>,
     simple: Vec<Comparison>,
     star: Vec<Comparison>,
 }
@@ -150,7 +152,15 @@ fn star(after: &Monitor, subjects: impl Iterator<Item = usize>) -> Vec<Compariso
     answers
 }
 
-/// What a request asks for that no check before 8 refuses; nothing where one does, or where no levels are compared.
+/// The label that a change of level asks for with the one that the object has.
+fn raising(object: &Object, kind: Kind) -> Vec<Comparison> {
+    match kind {
+        Kind::ChangeLevel(level) => object.label.iter().map(|old| answer(Some(level), Some(*old))).collect(),
+        _ => Vec::new(),
+    }
+}
+
+/// What a request asks for that no check before 14 and 8 refuses; nothing where one does, or where no levels are compared.
 fn asked(before: &Monitor, request: &Request) -> Option<Asked> {
     let Request { actor, object, kind } = *request;
     before.subjects[actor]?;
@@ -163,10 +173,14 @@ fn asked(before: &Monitor, request: &Request) -> Option<Asked> {
     let after = with_effect(before, request);
     let changed = after.objects[object].as_ref()?;
     changed.label?;
-    Some(Asked { simple: simple(&after, changed, subjects.clone()), star: star(&after, subjects) })
+    Some(Asked {
+        raising: raising(it, kind),
+        simple: simple(&after, changed, subjects.clone()),
+        star: star(&after, subjects),
+    })
 }
 
-/// Below or apart: what the two checks refuse.
+/// Below or apart: what the three checks refuse.
 fn failing(answers: &[Comparison]) -> impl Iterator<Item = &Comparison> {
     answers.iter().filter(|it| matches!(it, Comparison::Below | Comparison::Apart))
 }
@@ -174,32 +188,37 @@ fn failing(answers: &[Comparison]) -> impl Iterator<Item = &Comparison> {
 /// How often each answer was met, in all comparisons and in those that fail where the request is refused.
 #[derive(Default, Debug)]
 struct Met {
+    raising: Count,
     simple: Count,
     star: Count,
+    refused_14: Count,
     refused_8: Count,
     refused_9: Count,
 }
 
 impl Met {
-    /// The reply to a request that gets as far as these comparisons is what they say.
+    /// The reply to a request that gets as far as these comparisons is the first check of 14, 8 and 9 that fails.
     fn note(&mut self, asked: &Asked, reply: u8, place: &str) {
-        let (simple, star) = (failing(&asked.simple).count() > 0, failing(&asked.star).count() > 0);
-        match reply {
-            8 => assert!(simple, "{place}: {:?}", asked.simple),
-            9 => assert!(!simple && star, "{place}: {:?} {:?}", asked.simple, asked.star),
-            _ => assert!(reply < 2 && !simple && !star, "{place}: {:?} {:?}", asked.simple, asked.star),
+        let mut first = None;
+        for (number, answers, all, refused) in [
+            (14, &asked.raising, &mut self.raising, &mut self.refused_14),
+            (8, &asked.simple, &mut self.simple, &mut self.refused_8),
+            (9, &asked.star, &mut self.star, &mut self.refused_9),
+        ] {
+            answers.iter().for_each(|it| all.note(*it as u8));
+            if first.is_none() && failing(answers).count() > 0 {
+                first = Some(number);
+                failing(answers).for_each(|it| refused.note(*it as u8));
+            }
         }
-        asked.simple.iter().for_each(|it| self.simple.note(*it as u8));
-        asked.star.iter().for_each(|it| self.star.note(*it as u8));
-        match reply {
-            8 => failing(&asked.simple).for_each(|it| self.refused_8.note(*it as u8)),
-            9 => failing(&asked.star).for_each(|it| self.refused_9.note(*it as u8)),
-            _ => {}
+        match first {
+            Some(number) => assert_eq!(reply, number, "{place}"),
+            None => assert!(reply < 2, "{place}: {reply}"),
         }
     }
 }
 
-/// One of the long runs; how many requests got as far as check 8.
+/// One of the long runs; how many requests got as far as check 14 or 8.
 fn follow(seed: u64, met: &mut Met) -> usize {
     let (table, requests) = drawn(seed, shape(seed), RUN_REQUESTS);
     let (mut monitor, mut unit) = (Monitor::from_table(&table).unwrap(), Unit::from_table(&table).unwrap());
@@ -211,7 +230,7 @@ fn follow(seed: u64, met: &mut Met) -> usize {
         assert_eq!(monitor.request(bytes), reply, "{place}");
         match &asked {
             Some(asked) => met.note(asked, reply, &place),
-            None => assert!(reply != 8 && reply != 9, "{place}: {reply}"),
+            None => assert!(![14, 8, 9].contains(&reply), "{place}: {reply}"),
         }
         reached += usize::from(asked.is_some());
     }
@@ -219,13 +238,14 @@ fn follow(seed: u64, met: &mut Met) -> usize {
 }
 
 #[test]
-fn checks_8_and_9_of_a_million_requests_are_what_the_comparison_says() {
+fn checks_14_8_and_9_of_a_million_requests_are_what_the_comparison_says() {
     let mut met = Met::default();
     let reached: usize = (0..RUNS).map(|seed| follow(seed, &mut met)).sum();
     assert!(RUNS as usize * RUN_REQUESTS >= 1_000_000 && reached > 100_000, "{reached}: {met:?}");
-    each_met(&met.simple, &ALL, 1000);
-    each_met(&met.star, &ALL, 1000);
-    let refusing = [Comparison::Below, Comparison::Apart];
-    each_met(&met.refused_8, &refusing, 1000);
-    each_met(&met.refused_9, &refusing, 1000);
+    for count in [&met.raising, &met.simple, &met.star] {
+        each_met(count, &ALL, 1000);
+    }
+    for count in [&met.refused_14, &met.refused_8, &met.refused_9] {
+        each_met(count, &[Comparison::Below, Comparison::Apart], 1000);
+    }
 }
