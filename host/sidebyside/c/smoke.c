@@ -6,6 +6,8 @@
 static const uint8_t table[CIRCMON_TABLE_BYTES] = {0x88, 0x00, 0x0C, 0xC0, 0x00, 0xE0};
 static const uint8_t requests[3][CIRCMON_REQUEST_BYTES] = {
     {0x50, 0x80, 0, 0, 0, 0}, {0x10, 0x80, 0x01, 0, 0, 0}, {0x70, 0x80, 0, 0, 0, 0}};
+/* Subject 1 changes the level of object 0 to class 1. */
+static const uint8_t raise[CIRCMON_REQUEST_BYTES] = {0x70, 0x80, 0, 0x10, 0, 0};
 
 /* The numbers 2, 4, 13 and 0, the line of subject 1, the last line, and a byte that is left. */
 static void page_of(const circmon_unit *unit) {
@@ -40,12 +42,25 @@ static void on_an_image(uint8_t *image, circmon_size length) {
     printf("short %d\n", circmon_begin(table, sizeof table, image, length - 1));
 }
 
+/* The label is raised to class 1, and is then not lowered to class 0: on a unit, and on an image. */
+static void raised(const uint8_t *image, circmon_size length) {
+    circmon_unit unit;
+    uint8_t copy[CIRCMON_IMAGE_BYTES];
+    circmon_open(&unit, image, length);
+    memcpy(copy, image, sizeof copy);
+    printf("raised %d", circmon_ask(&unit, raise, sizeof raise));
+    printf(" %d\n", circmon_request(copy, sizeof copy, raise, sizeof raise));
+    printf("lowered %d", circmon_ask(&unit, requests[2], sizeof requests[2]));
+    printf(" %d\n", circmon_request(copy, sizeof copy, requests[2], sizeof requests[2]));
+}
+
 int main(void) {
     uint8_t saved[CIRCMON_IMAGE_BYTES], image[CIRCMON_IMAGE_BYTES], fresh[CIRCMON_IMAGE_BYTES];
     uint8_t replies[4] = {0xEE, 0xEE, 0xEE, 0xEE}, telling[CIRCMON_DISTINGUISH_BYTES];
     on_a_unit(saved, sizeof saved);
     on_an_image(image, sizeof image);
     printf("the same image %d\n", memcmp(saved, image, sizeof image) == 0);
+    raised(image, sizeof image);
     printf("replay %d\n", circmon_replay(table, sizeof table, requests[0], sizeof requests, replies, sizeof replies));
     printf("replies %d %d %d %d\n", replies[0], replies[1], replies[2], replies[3]);
     memset(telling, 0xEE, sizeof telling);

@@ -12,7 +12,7 @@ const FOLDER: &str = env!("CARGO_TARGET_TMPDIR");
 /// byte that is left.
 const SMOKE: &str = "start 0\nask 0\nask 7\nask 0\nshort 13\nsave 0\nopen 0\nask 1\n\
     page 2 4 13 0\n01 rwa- ---- 0\nto 00 00 00 00 00\nee\n\
-    begin 0\nrequest 0\nrequest 7\nrequest 0\nread 0\nshort 13\nthe same image 1\n\
+    begin 0\nrequest 0\nrequest 7\nrequest 0\nread 0\nshort 13\nthe same image 1\nraised 0 0\nlowered 14 14\n\
     replay 0\nreplies 0 7 0 238\nbegin 0\ndistinguish 1\ntelling 20 80 01 00 00 00 ee\n\
     compare 0 1 2 3\n";
 
@@ -107,6 +107,27 @@ fn circmon_refuses_tables() {
     assert_eq!(program(&stray), "11\n");
 }
 
+/// Table W and requests.
+fn from_w(requests: &[[u8; 6]]) -> Vec<u8> {
+    [&reference::table_w()[..], &requests.concat()].concat()
+}
+
+/// s1 changes the level of o0 to this class, with no needs.
+fn to_class(class: u8) -> [u8; 6] {
+    [0x70, 0x80, 0, class << 4, 0, 0]
+}
+
+const CREATE: [u8; 6] = [0x50, 0x80, 0, 0, 0, 0];
+
+#[test]
+fn as_many_requests_as_are_read_with_the_longest_reply_that_a_request_gets() {
+    let mut requests = vec![to_class(0); MOST_REQUESTS];
+    (requests[0], requests[1]) = (CREATE, to_class(1));
+    let expected = format!("0\n0\n{}", "14\n".repeat(MOST_REQUESTS - 2));
+    assert_eq!(circmon(&from_w(&requests)), expected);
+    assert_eq!(program(&from_w(&requests)), expected);
+}
+
 #[test]
 fn w_with_steps_1_3_and_4_prints_0_0_1() {
     let mut input = vec![0x88, 0x00, 0x0C, 0xC0, 0x00, 0xE0];
@@ -114,5 +135,6 @@ fn w_with_steps_1_3_and_4_prints_0_0_1() {
     for request in [[0x50, 0x80, 0, 0, 0, 0], [0x70, 0x80, 0, 0, 0, 0], [0x70, 0x80, 0, 0, 0, 0]] {
         input.extend(request);
     }
+    assert_eq!(input, from_w(&[CREATE, to_class(0), to_class(0)]));
     assert_eq!(circmon(&input), "0\n0\n1\n");
 }
