@@ -1,11 +1,13 @@
 //! Why a request is refused, found from the state before it. The reply itself is the library's; this finds the cause
 //! without knowing the number, and the tests compare the two.
 
+use crate::level::{level_words, shortfall, Level};
 use crate::mode::{Mode, Modes};
 use crate::properties::{self, Holding, Pair};
 use crate::request::{Kind, Malformed, Request};
 use crate::view::{Object, View};
 use crate::words::malformed_words;
+use circmon::compare;
 use std::fmt;
 
 #[derive(Clone, Debug, PartialEq, Eq)]
@@ -15,6 +17,7 @@ pub enum Cause {
     NotLive { object: usize },
     Live { object: usize, owner: usize },
     Missing(Missing),
+    Lowered { object: usize, old: Level, new: Level },
     NoLabel { object: usize },
     Simple { place: Holding, by: By },
     Star { pair: Pair, by: By },
@@ -66,6 +69,7 @@ impl Cause {
             Cause::NoLabel { .. } => 7,
             Cause::Simple { .. } => 8,
             Cause::Star { .. } => 9,
+            Cause::Lowered { .. } => 14,
         }
     }
 }
@@ -84,11 +88,12 @@ pub fn judge(view: &View, bytes: &[u8]) -> Verdict {
     }
 }
 
-/// The first cause in the order 3, then 4 or 5, then 6, 7, 8, 9.
+/// The first cause in the order 3, then 4 or 5, then 6, 14, 7, 8, 9; no kind has both 14 and 7.
 fn refusal(view: &View, after: &View, request: &Request) -> Option<Cause> {
     enrolment(view, request)
         .or_else(|| life(view, request))
         .or_else(|| missing(view, request))
+        .or_else(|| lowered(view, request))
         .or_else(|| label(after, request))
         .or_else(|| simple(after, request))
         .or_else(|| star(after, request))
@@ -131,6 +136,13 @@ fn missing(view: &View, request: &Request) -> Option<Cause> {
         needs_right: right.filter(|&mode| !rights.has(mode)),
     };
     (missing.needs_ownership || missing.needs_right.is_some()).then_some(Cause::Missing(missing))
+}
+
+/// A first label is free.
+fn lowered(view: &View, request: &Request) -> Option<Cause> {
+    let Kind::ChangeLevel(new) = request.kind else { return None };
+    let old = view.objects[request.object].as_ref()?.label?;
+    (!compare(new, old).dominates()).then_some(Cause::Lowered { object: request.object, old, new })
 }
 
 fn label(after: &View, request: &Request) -> Option<Cause> {
@@ -207,6 +219,12 @@ impl fmt::Display for Cause {
             Cause::NotLive { object } => write!(out, "o{object} is not live"),
             Cause::Live { object, owner } => write!(out, "o{object} is live, and s{owner} owns it"),
             Cause::Missing(missing) => missing.fmt(out),
+            Cause::Lowered { object, old, new } => {
+                let name = format!("the label of o{object} ({})", level_words(*old));
+                let why = shortfall(*new, *old, &name).unwrap_or_default();
+                write!(out, "the new label ({}) {why}; ", level_words(*new))?;
+                write!(out, "a label only rises, and of all requests only a delete ends it")
+            }
             Cause::NoLabel { object } => write!(
                 out,
                 "o{object} has no label; that is not class 0: nobody reads, writes or appends to it before it has one"

@@ -64,10 +64,11 @@ pub const EXPLAIN: &str = "\
 Usage: circtool explain [--script | --bytes] [FILE]
 
 Runs the requests and prints each with its reply in words and, for a refusal, its cause in the state before the request:
-the right or ownership that is missing, the absent label, the clearance that does not dominate a label, or the two
-objects that stand in the way of the star property. Of the last two it says how the one level compares with the
-other, 'below' (only the other one dominates) or 'apart' (neither does), and what is missing: the class, needs, or both.
-A level that is equal to the other or above it dominates it, and that is not refused.
+the right or ownership that is missing, the absent label, the new label that does not dominate the old one, the
+clearance that does not dominate a label, or the two objects that stand in the way of the star property. Of the last
+three it says how the one level compares with the other, 'below' (only the other one dominates) or 'apart' (neither
+does), and what is missing: the class, needs, or both. A level that is equal to the other or above it dominates it, and
+that is not refused.
 
 The input is a script or bytes as circmon reads them. Without a flag the first byte decides: 00, 80 to FF, or no byte at
 all is bytes, any other a script, and so is what begins with a byte-order mark. An accepted table is never taken for a

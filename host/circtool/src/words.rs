@@ -20,7 +20,7 @@ pub fn hex(bytes: &[u8]) -> String {
 }
 
 /// Each number, its words as the reply to a request, and as that of a refused table or image; nothing where it is none.
-const NUMBERS: [(u8, &str, &str); 14] = [
+const NUMBERS: [(u8, &str, &str); 15] = [
     (0, "granted, the state changed", ""),
     (1, "granted, it was so already", ""),
     (2, "refused: malformed", ""),
@@ -35,6 +35,7 @@ const NUMBERS: [(u8, &str, &str); 14] = [
     (11, "", "a bit is set in what is absent"),
     (12, "", "an absent subject owns, has a right or holds"),
     (13, "", "the buffer is too short"),
+    (14, "refused: the new label does not dominate the old", ""),
 ];
 
 /// The words of a number in one column of the table.
@@ -92,7 +93,7 @@ mod tests {
         let numbers = |words: fn(u8) -> String| -> Vec<u8> {
             (0..=255).filter(|&number| !words(number).contains("a number that")).collect()
         };
-        assert_eq!(numbers(reply_words), (0..=9).collect::<Vec<u8>>());
+        assert_eq!(numbers(reply_words), (0..=9).chain([14]).collect::<Vec<u8>>());
         assert_eq!(numbers(refusal_words), (6..=13).collect::<Vec<u8>>());
     }
 }

@@ -1,5 +1,5 @@
-//! Of each refusal with 8 or 9 the answer of the comparison is said and exactly what is missing, of requests and of images:
-//! beside the second implementation's comparison, and need by need.
+//! Of each refusal with 8 or 9, of requests and of images, and of each with 14 the answer of the comparison is said and exactly
+//! what is missing: beside the second implementation's comparison, and need by need.
 
 mod shared;
 
@@ -7,7 +7,7 @@ use circmon::Unit;
 use circtool::explain::step;
 use circtool::fault;
 use load::Random;
-use reference::{Comparison, Level, Monitor, Request};
+use reference::{Comparison, Kind, Level, Monitor, Request};
 use sidebyside::{image, with_effect, SHAPES};
 use std::collections::BTreeMap;
 
@@ -80,6 +80,17 @@ fn star(reason: &str, state: &Monitor, said: &mut Said) {
     *said.entry((9, answer, missing)).or_default() += 1;
 }
 
+/// The reason of a refusal with 14 is what the new label lacks of the old one, and what ends a label.
+fn lowered(reason: &str, before: &Monitor, request: &Request, said: &mut Said) {
+    let Kind::ChangeLevel(new) = request.kind else { panic!("{request:?}: {reason}") };
+    let old = label(before, request.object);
+    let name = format!("the label of o{} ({})", request.object, words(old));
+    let (tail, answer, missing) = expected(new, old, &name);
+    let end = "a label only rises, and of all requests only a delete ends it";
+    assert_eq!(reason, format!("the new label ({}) {tail}; {end}", words(new)));
+    *said.entry((14, answer, missing)).or_default() += 1;
+}
+
 fn check(number: u8, reason: &str, state: &Monitor, said: &mut Said) {
     match number {
         8 => simple(reason, state, said),
@@ -89,7 +100,7 @@ fn check(number: u8, reason: &str, state: &Monitor, said: &mut Said) {
 }
 
 #[test]
-fn requests_refused_with_8_or_9() {
+fn requests_refused_with_14_8_or_9() {
     let mut said = Said::new();
     for seed in 0..300 {
         let run = shared::run(seed, SHAPES[seed as usize % SHAPES.len()], 1000);
@@ -97,14 +108,17 @@ fn requests_refused_with_8_or_9() {
         let mut monitor = Monitor::from_table(&run.table).unwrap();
         for bytes in &run.requests {
             let step = step(&mut unit, bytes);
-            if step.reply == 8 || step.reply == 9 {
-                let state = with_effect(&monitor, &Request::decode(bytes).unwrap());
-                check(step.reply, &step.reason.unwrap(), &state, &mut said);
+            if let 14 | 8 | 9 = step.reply {
+                let (request, reason) = (Request::decode(bytes).unwrap(), step.reason.unwrap());
+                match step.reply {
+                    14 => lowered(&reason, &monitor, &request, &mut said),
+                    number => check(number, &reason, &with_effect(&monitor, &request), &mut said),
+                }
             }
             monitor.request(bytes);
         }
     }
-    for it in [all(8), all(9)].concat() {
+    for it in [all(14), all(8), all(9)].concat() {
         assert!(said.get(&it).is_some_and(|times| *times > 30), "{it:?} was not met often: {said:?}");
     }
 }

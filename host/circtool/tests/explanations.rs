@@ -12,7 +12,7 @@ use circtool::properties::{Holding, Pair};
 use circtool::view::View;
 use reference::{Kind, Monitor, Request};
 use shared::second;
-use sidebyside::{with_effect, Count, SHAPES};
+use sidebyside::{with_effect, Count, REPLIES, SHAPES};
 
 /// That both levels are there and the first does not dominate the second, by the second implementation.
 fn not_dominated(level: Option<Level>, other: Option<Level>) {
@@ -35,6 +35,13 @@ fn missing_is_so(it: &Missing, before: &Monitor, request: &Request) {
     assert!(!it.needs_ownership || object.owner != it.actor);
     assert!(it.needs_right.is_none_or(|mode| !it.rights.has(mode)));
     assert!(it.needs_ownership || it.needs_right.is_some(), "nothing is missing");
+}
+
+fn lowered_is_so(object: usize, old: Level, new: Level, before: &Monitor, request: &Request) {
+    let it = before.objects[object].as_ref().expect("a live object");
+    assert_eq!((object, it.owner), (request.object, request.actor));
+    assert_eq!((it.label, request.kind), (Some(second(old)), Kind::ChangeLevel(second(new))));
+    not_dominated(Some(new), Some(old));
 }
 
 fn simple_is_so(place: &Holding, by: By, before: &Monitor, request: &Request) {
@@ -79,6 +86,7 @@ fn cause_is_so(cause: &Cause, before: &Monitor, bytes: &[u8]) {
             assert_eq!(before.objects[*object].as_ref().map(|it| it.owner), Some(*owner));
         }
         Cause::Missing(it) => missing_is_so(it, before, &request),
+        Cause::Lowered { object, old, new } => lowered_is_so(*object, *old, *new, before, &request),
         Cause::NoLabel { object } => {
             assert_eq!(*object, request.object);
             assert!(before.objects[*object].as_ref().is_some_and(|it| it.label.is_none()));
@@ -126,7 +134,7 @@ fn causes_found_along_runs_are_the_library_s_and_are_so() {
         explain_run(seed, 1000, &mut count);
     }
     assert!(count.all() >= 20_000);
-    assert!((2..=9).all(|reply| count.of(reply) > 200), "each refusal is met often: {count:?}");
+    assert!(REPLIES.iter().all(|&reply| count.of(reply) > 200), "each reply is met often: {count:?}");
 }
 
 /// The steps of a script with their replies and reasons.
@@ -191,16 +199,17 @@ fn levels_and_what_fails_in_them_are_named() {
 
 #[test]
 fn star_names_the_subject_and_both_objects() {
-    let two = "s1 create o4\ns1 level o4 class 2 needs {0}\ns1 create o5\ns1 level o5 class 1 needs {0,1}\n\
-               s1 give s2 r o4\ns1 give s2 a o5\n";
-    let (reply, reason) = last(&format!("{two}s1 get r o4\ns1 get a o5"));
+    let two = "s1 create o4\ns1 create o5\ns1 give s2 r o4\ns1 give s2 a o5\n";
+    let (reply, reason) = last(&format!(
+        "{two}s1 level o4 class 2 needs {{0}}\ns1 level o5 class 1 needs {{0,1}}\ns1 get r o4\ns1 get a o5"
+    ));
     let expected =
         "s1 would hold r on o4 (class 2 needs {0}) and a on o5 (class 1 needs {0,1}), and the label of o5 is \
                     apart from that of o4, neither dominates the other; missing: the class (1 is under 2)";
     assert_eq!((reply, reason.as_str()), (9, expected));
     // the pair is another subject's, and the label is that after the change
     let (reply, reason) = last(&format!(
-        "{two}s1 level o4 class 0 needs {{}}\ns2 get r o4\ns2 get a o5\ns1 level o5 class 0 needs {{3}}\n\
+        "{two}s1 level o4 class 0 needs {{}}\ns1 level o5 class 0 needs {{3}}\ns2 get r o4\ns2 get a o5\n\
          s1 level o4 class 1 needs {{}}"
     ));
     let expected = "with the new level s2 holds r on o4 (class 1 needs {}) and a on o5 (class 0 needs {3}), and the \
@@ -209,19 +218,41 @@ fn star_names_the_subject_and_both_objects() {
     assert_eq!((reply, reason.as_str()), (9, expected));
 }
 
+#[test]
+fn a_lowered_label_is_named_with_the_old_one() {
+    let labelled = "s1 create o0\ns1 level o0 class 2 needs {0}\ns1 get r o0\n";
+    let old = "the label of o0 (class 2 needs {0})";
+    let end = "a label only rises, and of all requests only a delete ends it";
+    for (level, why) in [
+        (
+            "class 0 needs {}",
+            format!("is below {old} and does not dominate it; missing: the class (0 is under 2) and needs {{0}}"),
+        ),
+        ("class 1 needs {0}", format!("is below {old} and does not dominate it; missing: the class (1 is under 2)")),
+        ("class 3 needs {}", format!("is apart from {old}, neither dominates the other; missing: needs {{0}}")),
+        // s1, who reads o0, is not cleared for need 9: that is check 8, and comes later
+        ("class 2 needs {9}", format!("is apart from {old}, neither dominates the other; missing: needs {{0}}")),
+    ] {
+        let expected = format!("the new label ({level}) {why}; {end}");
+        assert_eq!(last(&format!("{labelled}s1 level o0 {level}")), (14, expected), "{level}");
+    }
+    assert_eq!(last(&format!("{labelled}s0 level o0 class 0 needs {{}}")).0, 6);
+    assert_eq!(last(&format!("{labelled}s1 delete o0\ns1 create o0\ns1 level o0 class 0 needs {{}}")).0, 0);
+}
+
 /// The replies that each example is written to show.
 const EXAMPLES: [(&str, &[u8]); 5] = [
     ("four-answers", &[0, 0, 0, 0, 0, 0, 0, 0, 0, 0, 0, 8, 8, 8, 8, 8, 8, 0, 0, 9, 0, 9, 0, 0]),
-    ("lobby-display", &[0, 0, 0, 0, 7, 7, 7, 0, 8, 8, 0, 0, 0]),
+    ("lobby-display", &[0, 0, 0, 0, 7, 7, 7, 0, 8, 8, 0, 14, 8]),
     ("marked-run", &[0, 7, 0, 1, 0, 0, 0, 0, 9, 0, 8, 0, 9, 6, 0, 1]),
     ("slot-again", &[0, 0, 0, 0, 0, 4, 0, 7, 0, 6, 6, 6, 0]),
-    ("star-conflict", &[0, 0, 0, 0, 0, 9, 0, 0, 9, 0, 0, 0, 9]),
+    ("star-conflict", &[0, 0, 0, 0, 0, 9, 0, 0, 9, 0, 0, 0, 9, 14]),
 ];
 
 /// The replies in the rows of what explain prints: a row begins with its step.
 fn replies_in_rows(text: &str) -> Vec<u8> {
     let rows = text.lines().filter(|line| line.len() > 6 && line[..4].trim().parse::<usize>().is_ok());
-    rows.map(|row| row.rsplit("  ").next().unwrap()[..1].parse().unwrap()).collect()
+    rows.map(|row| row.rsplit("  ").next().unwrap().split(' ').next().unwrap().parse().unwrap()).collect()
 }
 
 #[test]

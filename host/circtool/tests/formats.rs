@@ -4,11 +4,11 @@
 mod shared;
 
 use circmon::{Level, Unit, PAGE_BYTES};
-use circtool::words::hex;
+use circtool::words::{hex, reply_words};
 use load::Random;
 use reference::{Kind, Monitor, Request};
 use shared::formats::{document, fields, table, Fields};
-use sidebyside::{compiled, image, root, SHAPES};
+use sidebyside::{compiled, image, root, REPLIES, SHAPES};
 use std::collections::BTreeMap;
 use std::process::Command;
 
@@ -113,6 +113,14 @@ fn each_kind_gets_exactly_the_replies_of_its_checks() {
         replies.dedup();
         assert_eq!(*replies, expected, "{}", row[1]);
     }
+}
+
+#[test]
+fn the_numbers_of_requests_are_those_of_the_page_and_have_words() {
+    let rows = table("number | request");
+    let numbers: Vec<u8> = rows.iter().filter(|row| !row[1].is_empty()).map(|row| row[0].parse().unwrap()).collect();
+    assert_eq!(numbers, REPLIES);
+    assert!(REPLIES.iter().all(|&number| !reply_words(number).contains("a number that")));
 }
 
 /// As the page says it of a level over another, need by need.

@@ -34,7 +34,7 @@ fn told_apart(a: &Monitor, b: &Monitor, what: &str) -> (usize, Vec<String>) {
     for (letter, replies) in [("A", &in_a), ("B", &in_b)] {
         let start = format!("        {letter}: ");
         let printed: Vec<u8> =
-            text.lines().filter_map(|line| line.strip_prefix(&start)?.get(..1)?.parse().ok()).collect();
+            text.lines().filter_map(|line| line.strip_prefix(&start)?.split(' ').next()?.parse().ok()).collect();
         assert_eq!(printed, *replies, "{what}\n{text}");
     }
     let marks = in_a.iter().zip(&in_b).filter(|(a, b)| a != b).count();
