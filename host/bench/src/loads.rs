@@ -1,7 +1,7 @@
 //! The loads: each a table and requests, of one kind or mixed, on few or many objects.
 
 use load::{Random, Shape};
-use reference::{Kind, Monitor, Request, SUBJECTS};
+use reference::{Kind, Level, Monitor, Request, SUBJECTS};
 
 const REQUESTS: usize = 20_000;
 
@@ -16,7 +16,8 @@ pub fn shape(objects: usize) -> Shape {
     Shape { objects, subjects: SUBJECTS, classes: 4, needs: 2, damaged: 1_000_000 }
 }
 
-/// Requests that leave `objects` live objects, labelled, with many rights; dense: with many accesses too.
+/// Requests that leave `objects` live objects, most of them labelled, with many rights; dense: all labelled, with many
+/// accesses too. Of changes of level only first labels are among them: labels that rise are all the same in the end.
 pub fn prepare(random: &mut Random, objects: usize, dense: bool) -> (Monitor, Vec<u8>) {
     let shape = shape(objects);
     let table = load::table(random, shape);
@@ -29,7 +30,14 @@ pub fn prepare(random: &mut Random, objects: usize, dense: bool) -> (Monitor, Ve
             request.object = step;
             request.kind = Kind::Create { execute: true };
         }
-        if matches!(request.kind, Kind::Delete) || (!dense && matches!(request.kind, Kind::Get(_))) {
+        let labelled = monitor.objects[request.object].as_ref().is_some_and(|it| it.label.is_some());
+        let left_out = match request.kind {
+            Kind::Delete => true,
+            Kind::ChangeLevel(_) => labelled,
+            Kind::Get(_) => !dense,
+            _ => false,
+        };
+        if left_out {
             continue;
         }
         let bytes = request.encode();
@@ -45,6 +53,29 @@ fn by_someone(random: &mut Random, monitor: &Monitor, objects: usize) -> (usize,
     let object = random.below(objects);
     let owner = monitor.objects[object].as_ref().map_or(0, |it| it.owner);
     (if random.once_in(2) { owner } else { random.below(SUBJECTS) }, object)
+}
+
+/// A change of level: mostly one step up, sometimes the same label, sometimes any. Labels only rise. An object that nobody
+/// holds is deleted by its owner when its label has come to the top, and created again: so the sparse loads are granted new
+/// labels. One that is held stays, with a label that its holders allow: in the dense loads the same label passes checks 8
+/// and 9, and a step up fails one of them.
+fn change_level(random: &mut Random, monitor: &Monitor, objects: usize) -> Request {
+    let (actor, object) = by_someone(random, monitor, objects);
+    match &monitor.objects[object] {
+        None => Request { actor, object, kind: Kind::Create { execute: true } },
+        Some(it) if it.label == Some(top(objects)) && it.held == [0; SUBJECTS] => {
+            Request { actor: it.owner, object, kind: Kind::Delete }
+        }
+        Some(it) => {
+            Request { actor, object, kind: Kind::ChangeLevel(load::new_level(random, shape(objects), it.label)) }
+        }
+    }
+}
+
+/// The highest level of the shape.
+fn top(objects: usize) -> Level {
+    let Shape { classes, needs, .. } = shape(objects);
+    Level { class: classes as u8 - 1, needs: (1 << needs) - 1 }
 }
 
 /// The kinds of load, and how each draws its next request.
@@ -71,10 +102,7 @@ const KINDS: [(&str, Draw); 8] = [
         let kind = if m.objects[object].is_some() { Kind::Delete } else { Kind::Create { execute: true } };
         Request { actor, object, kind }
     }),
-    ("change level", |r, m, n| {
-        let (actor, object) = by_someone(r, m, n);
-        Request { actor, object, kind: Kind::ChangeLevel(load::level(r, shape(n))) }
-    }),
+    ("change level", change_level),
     ("refused", |r, _, n| Request { actor: r.below(SUBJECTS), object: (n + 7) % 64, kind: Kind::Delete }),
 ];
 
@@ -82,19 +110,73 @@ pub fn loads() -> Vec<Load> {
     let mut loads = Vec::new();
     for objects in [4, 16, 64] {
         for dense in [false, true] {
-            for (kind, draw) in KINDS {
-                let random = &mut Random::new(objects as u64 * 2 + u64::from(dense));
-                let (mut monitor, mut requests) = prepare(random, objects, dense);
-                let table = monitor.table();
-                for _ in 0..REQUESTS {
-                    let bytes = draw(random, &monitor, objects).encode();
-                    monitor.request(&bytes);
-                    requests.extend(bytes);
-                }
-                let name = format!("{kind}, {objects} objects, {}", if dense { "dense" } else { "sparse" });
-                loads.push(Load { name, table, requests });
-            }
+            loads.extend(KINDS.map(|(kind, draw)| drawn(kind, draw, objects, dense)));
         }
     }
     loads
+}
+
+fn seed(objects: usize, dense: bool) -> u64 {
+    objects as u64 * 2 + u64::from(dense)
+}
+
+/// The load of one kind.
+fn drawn(kind: &str, draw: Draw, objects: usize, dense: bool) -> Load {
+    let random = &mut Random::new(seed(objects, dense));
+    let (mut monitor, mut requests) = prepare(random, objects, dense);
+    let table = monitor.table();
+    for _ in 0..REQUESTS {
+        let bytes = draw(random, &monitor, objects).encode();
+        monitor.request(&bytes);
+        requests.extend(bytes);
+    }
+    let name = format!("{kind}, {objects} objects, {}", if dense { "dense" } else { "sparse" });
+    Load { name, table, requests }
+}
+
+#[cfg(test)]
+mod tests {
+    use super::*;
+    use reference::REQUEST_BYTES;
+
+    const PREPARED: [(usize, bool); 6] = [(4, false), (4, true), (16, false), (16, true), (64, false), (64, true)];
+
+    /// How many accesses are held.
+    fn held(monitor: &Monitor) -> usize {
+        monitor.objects.iter().flatten().flat_map(|it| it.held).map(|set| set.count_ones() as usize).sum()
+    }
+
+    #[test]
+    fn most_objects_are_labelled_and_dense_ones_are_held() {
+        for (objects, dense) in PREPARED {
+            // 7 is the seed of the images
+            for seed in [seed(objects, dense), 7] {
+                let (monitor, _) = prepare(&mut Random::new(seed), objects, dense);
+                let live: Vec<_> = monitor.objects.iter().flatten().collect();
+                let labelled = live.iter().filter(|it| it.label.is_some()).count();
+                let held = held(&monitor);
+                let what = format!("{objects} objects, dense: {dense}: {labelled} labelled, {held} accesses");
+                assert_eq!(live.len(), objects, "{what}");
+                assert!(if dense { labelled == objects } else { 2 * labelled >= objects }, "{what}");
+                assert_eq!(held >= 2 * objects, dense, "{what}");
+            }
+        }
+    }
+
+    #[test]
+    fn changes_of_level_get_as_far_as_their_last_checks() {
+        for (objects, dense) in PREPARED {
+            let load = drawn("change level", change_level, objects, dense);
+            let mut monitor = Monitor::from_table(&load.table).expect("a table that was written");
+            let all: Vec<u8> = load.requests.chunks(REQUEST_BYTES).map(|it| monitor.request(it)).collect();
+            let replies = &all[all.len() - REQUESTS..];
+            let of = |numbers: &[u8]| replies.iter().filter(|reply| numbers.contains(reply)).count();
+            let what = format!("{}: {:?}", load.name, [0, 1, 8, 9, 14].map(|number| (number, of(&[number]))));
+            // granted, or refused by the last two checks; 14 comes before them
+            assert!(3 * of(&[0, 1, 8, 9]) > REQUESTS && 10 * of(&[14]) < REQUESTS, "{what}");
+            let often = if dense { of(&[8, 9]) } else { of(&[0]) };
+            assert!(20 * often > REQUESTS, "{what}");
+            assert_eq!(held(&monitor) >= 2 * objects, dense, "{what}: {} accesses are left", held(&monitor));
+        }
+    }
 }
