@@ -12,7 +12,7 @@
  * access is held without the right; 7 no label, of an image: r, w or a is held on an object without one; 8 the simple
  * property would break, of an image: is broken; 9 the star property would break, of an image: is broken; 10 another length;
  * 11 a stray bit in what is absent; 12 an absent subject owns, has a right or holds; 13 the buffer is too short; 14 the new
- * label of an object that has one does not dominate it.
+ * label does not dominate the one that the object has.
  * circmon_compare has four numbers of its own. docs/FORMATS.md has the bytes. */
 #ifndef CIRCMON_H
 #define CIRCMON_H

@@ -22,7 +22,7 @@ use Rattle.images.proofs.Reached.{reached-left}
 use Rattle.effects.proofs.Labels.{label-never-falls, never-published}
 use Rattle.unit.specs.Rows.{stateIn}
 use Rattle.runs.specs.MarkedRun.{tableW}
-use Rattle.runs.proofs.Lowering.{bytes, stateAfter, lives-met, labelled-met, raised-met}
+use Rattle.runs.proofs.Lowering.{bytes, lives-met, labelled-met, raised-met}
 use Rattle.runs.proofs.Witnesses.{table-met}
 use Rattle.capi.specs.UnitRuns.{unitAfter}
 use Rattle.capi.proofs.UnitRuns.{after-says}
@@ -56,10 +56,16 @@ module _ (b : Beginning) (bs : List (List ℕ)) (o i j : ℕ) (h : i ≤ j)
       (subst (λ (m : Monitor). Holds m s o x) (after-says b (take j bs)) held) reads)
 
 -- the hypotheses are met by the run without lowering: object 0 is live after 2 to 13 requests, and its label rises from (3, 0001) to (3, 0003)
-pub raised-there : Dominates (object (stateAfter 13) 0 .label) (object (stateAfter 2) 0 .label)
-raised-there = label-never-falls (begun (table tableW) .monitor) bytes 0 2 13 (omega arith) lives-met labelled-met
+lives-there : (k : ℕ) → 2 ≤ k → k ≤ 13 → object (stateIn (unitAfter (table tableW) (take k bytes))) 0 .live ≡ true
+lives-there k p q = ap (λ (m : Monitor). object m 0 .live) (after-says (table tableW) (take k bytes)) ∙ lives-met k p q
 
-pub read-there : Dominates (clearance (stateAfter 0) 1) (object (stateAfter 2) 0 .label)
-unfolding after
+labelled-there : object (stateIn (unitAfter (table tableW) (take 2 bytes))) 0 .label ≢ Absent
+labelled-there e = labelled-met (sym (ap (λ (m : Monitor). object m 0 .label) (after-says (table tableW) (take 2 bytes))) ∙ e)
+
+pub raised-there : Dominates (object (stateIn (unitAfter (table tableW) (take 13 bytes))) 0 .label) (object (stateIn (unitAfter (table tableW) (take 2 bytes))) 0 .label)
+raised-there = unit-label-never-falls (table tableW) bytes 0 2 13 (omega arith) lives-there labelled-there
+
+pub read-there : Dominates (clearance (begun (table tableW) .monitor) 1) (object (stateIn (unitAfter (table tableW) (take 2 bytes))) 0 .label)
 read-there =
-    never-published (begun (table tableW) .monitor) (reached-left (table tableW) table-met []) bytes 0 2 13 (omega arith) lives-met labelled-met 1 Read (raised-met .2) refl
+    unit-never-published (table tableW) bytes 0 2 13 (omega arith) lives-there labelled-there table-met 1 Read
+    (subst (λ (m : Monitor). Holds m 1 0 Read) (sym (after-says (table tableW) (take 13 bytes))) (raised-met .2)) refl

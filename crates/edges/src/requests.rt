@@ -1,5 +1,5 @@
-// The edges of a request: subjects, objects, modes, lengths, kinds, fields that are not used, and labels beside that of an object. The comment behind each request
-// has the reply that the scope gives it, and why.
+// The edges of a request: subjects, objects, modes, lengths, kinds, fields that are not used, and labels beside that of an
+// object. The comment behind each request has the reply that the scope gives it, and why.
 ghost use Prim.Native.Nat.{_≤_};
 ghost use mathlib.Core.Path.{_≡_};
 ghost use Rattle.edges.specs.Trials.{left, changeTo};

@@ -71,7 +71,7 @@ respond-rises g m o live =
     respond-all (λ (r : Response). object (r .monitor) o .live ≡ true → Rises (object m o .label) (object (r .monitor) o .label)) g m
     (λ e h. dominates-refl (object m o .label)) (λ q e. step-rises q m o live)
 
--- whatever the bytes and the monitor: the label of a live object is dominated by the next one, or a delete of the object ends it
+-- whatever the bytes and the monitor: the label of a live object is dominated by the next one, or the bytes say a delete of the object
 pub label-ends-by-delete : (m : Monitor) (g : List ℕ) (o : ℕ) → object m o .live ≡ true → object m o .label ≢ Absent
     → Dominates (object (respond g m .monitor) o .label) (object m o .label) ⊎ ((s : ℕ) × (decode g ≡ Says (Delete s o)))
 unfolding Rises

@@ -24,7 +24,7 @@ use Rattle.model.proofs.Levels.{dominates-decides, dominates-refl}
 
 -- ---- what the test means
 
--- "passes only if the new label dominates the old one": on a labelled object, and there exactly if
+-- "A change of level on a labelled object passes only if the new label dominates the old one", and where it does
 pub not-lowered-decides : (old new : Label) → (notLowered old new ≡ true) ↔ (old ≢ Absent → Dominates new old)
 unfolding notLowered implies
 not-lowered-decides Absent new = (λ e h. absurd (h refl), λ d. refl)
@@ -42,7 +42,7 @@ first-label-free new = refl
 pub same-label-passes : (a : Label) → notLowered a a ≡ true
 same-label-passes a = not-lowered-decides a a .1 (dominates-refl a)
 
--- ---- what came to the checks of before
+-- ---- the check beside those that there were
 
 -- the checks of a change of level as they were
 abbrev changeBefore : ℕ → ℕ → Level → Monitor → List (Bool × Decision)
@@ -103,15 +103,21 @@ pub neither-part-falls : (changes (Present (level 2 1)) 1 1 ≡ LabelLowered) ×
 unfolding checks changed notLowered unless implies has dominates levelDominates compare simpleAll starAll starFor starFrom starPair
 neither-part-falls = (refl, refl, refl, refl)
 
+-- the highest class less one, and the last need of class 0; from the lowest label to the highest at once
+pub whole-range : (changes (Present (level 15 0)) 14 0 ≡ LabelLowered) × (changes (Present (level 0 0x8000)) 0 0 ≡ LabelLowered)
+    × (changes (Present (level 0 0)) 15 0xFFFF ≡ Granted)
+unfolding checks changed notLowered unless implies has dominates levelDominates compare simpleAll starAll starFor starFrom starPair
+whole-range = (refl, refl, refl)
+
 -- the same label, a class more, a need more; a first label, also of class 0
 pub raising-passes : (changes (Present (level 2 1)) 2 1 ≡ Granted) × (changes (Present (level 2 1)) 3 1 ≡ Granted) × (changes (Present (level 2 1)) 2 3 ≡ Granted)
     × (changes Absent 0 0 ≡ Granted) × (changes Absent 3 3 ≡ Granted)
 unfolding checks changed notLowered unless implies has dominates levelDominates compare simpleAll starAll starFor starFrom starPair
 raising-passes = (refl, refl, refl, refl, refl)
 
--- "checked after 6 and before 8": a lowering by who is not enrolled, of what is not live, by who is not the owner
+-- "checked after 6 and before 8": a lowering by who is not enrolled, of a record that has a label and is not live, by who is not the owner
 pub lowering-after-six : (checks (ChangeLevel 2 0 (level 0 0)) (state (Present (level 2 1)) 0 0 0) ≡ NotEnrolled)
-    × (checks (ChangeLevel 1 2 (level 0 0)) (state (Present (level 2 1)) 0 0 0) ≡ NotLive)
+    × (checks (ChangeLevel 1 2 (level 0 0)) (withObject (state (Present (level 2 1)) 0 0 0) 2 (withLabel noObject (Present (level 2 1)))) ≡ NotLive)
     × (checks (ChangeLevel 0 0 (level 0 0)) (state (Present (level 2 1)) 0 0 0) ≡ NoRight)
 unfolding checks unless
 lowering-after-six = (refl, refl, refl)

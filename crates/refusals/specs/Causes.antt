@@ -103,8 +103,7 @@ requestCauses (Delete s o) m =
     (row NotLive (object m o .live ≢ true)
     (row NoRight (object m o .owner ≢ s)
     none))
--- "checks 4, 6: owner; 8, 9 over all subjects in the state after the change"; "a labelled object", whose "first label is free": 14 "after 6
--- and before 8"
+-- "checks 4, 6: owner; 8, 9 over all subjects in the state after the change"; 14 "on a labelled object", "after 6 and before 8"
 requestCauses (ChangeLevel s o l) m =
     row NotEnrolled (NotIn m s)
     (row NotLive (object m o .live ≢ true)

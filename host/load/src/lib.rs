@@ -97,7 +97,7 @@ pub fn request(random: &mut Random, shape: Shape, monitor: &Monitor) -> Request 
 }
 
 /// The level that a change of level asks for. A label only rises until its object is deleted, and at the top every change is
-/// refused or changes nothing. So a first label is low, and most changes ask for one step up.
+/// refused or changes nothing. So a first label is low, and most changes ask for a step up.
 pub fn new_level(random: &mut Random, shape: Shape, label: Option<Level>) -> Level {
     let Some(label) = label else {
         return lower(level(random, shape), level(random, shape));
@@ -109,12 +109,15 @@ pub fn new_level(random: &mut Random, shape: Shape, label: Option<Level>) -> Lev
     }
 }
 
-/// One class higher or one need more; the same level where the shape has no higher class, or the label that need.
+/// A higher class or more needs, by up to a quarter of those of the shape; the same level where there is no higher class, or
+/// the label has these needs.
 fn step_up(random: &mut Random, shape: Shape, label: Level) -> Level {
     if random.once_in(2) {
-        Level { class: (usize::from(label.class) + 1).min(shape.classes - 1) as u8, ..label }
+        let class = usize::from(label.class) + 1 + random.below(shape.classes.div_ceil(4));
+        Level { class: class.min(shape.classes - 1) as u8, ..label }
     } else {
-        Level { needs: label.needs | 1 << random.below(shape.needs), ..label }
+        let more = (0..shape.needs.div_ceil(4)).fold(0, |needs, _| needs | 1 << random.below(shape.needs));
+        Level { needs: label.needs | more, ..label }
     }
 }
 

@@ -59,11 +59,11 @@ pub const REPLIES: [u8; 11] = [0, 1, 2, 3, 4, 5, 6, 7, 8, 9, 14];
 /// The second implementation's state with the access or the label that the request asks for put in, unchecked.
 pub fn with_effect(monitor: &Monitor, request: &Request) -> Monitor {
     let mut after = monitor.clone();
-    let object = after.objects[request.object].as_mut().expect("checks 8 and 9 come after 4");
+    let object = after.objects[request.object].as_mut().expect("an object that is live");
     match request.kind {
         Kind::Get(mode) => object.held[request.actor] |= mode.bit(),
         Kind::ChangeLevel(level) => object.label = Some(level),
-        _ => panic!("checks 8 and 9 are for get and change of level"),
+        _ => panic!("neither get nor change of level"),
     }
     after
 }
@@ -140,11 +140,8 @@ impl Both {
         let before = self.unit.clone();
         let reply = self.monitor.request(bytes);
         assert_eq!(self.unit.ask(bytes), reply, "{bytes:02x?}");
-        if reply == 0 {
-            assert_eq!(self.unit.image()[..], image(&self.monitor)[..], "{bytes:02x?}");
-        } else {
-            assert!(self.unit == before, "{bytes:02x?} gets {reply}, and a byte of the unit is changed");
-        }
+        assert_eq!(self.unit.image()[..], image(&self.monitor)[..], "{bytes:02x?}");
+        assert!(reply == 0 || self.unit == before, "{bytes:02x?} gets {reply}, and a byte of the unit is changed");
         reply
     }
 }

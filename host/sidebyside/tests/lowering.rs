@@ -171,8 +171,8 @@ impl Labels {
         Labels { earlier: std::array::from_fn(|_| Vec::new()), of_the_last: [None; OBJECTS] }
     }
 
-    /// While an object stays live, its label dominates each that it had. How many first labels are below the last one of the
-    /// object before, which was deleted.
+    /// While an object stays live, its label dominates each that it had. Returns how many first labels are below the last one of
+    /// the object that was in the slot before and was deleted.
     fn follow(&mut self, after: &Monitor, place: &str) -> usize {
         let mut lower_again = 0;
         for (slot, object) in after.objects.iter().enumerate() {

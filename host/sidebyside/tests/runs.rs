@@ -17,7 +17,8 @@ fn a_million_requests_draw_the_same_replies_and_images() {
     for reply in REPLIES {
         assert!(all.of(reply) > 1000, "reply {reply}: {all:?}");
     }
-    // they do not come to rest at the top labels: each of these is more than one percent of the replies to changes of level
+    // they do not come to rest at the top labels: over all shapes each of these is more than one percent of the replies to changes
+    // of level; where there are many classes and needs, 8 and 9 are rarer
     for reply in [0, 1, 8, 9, 14] {
         assert!(100 * levels.of(reply) > levels.all(), "reply {reply} to a change of level: {levels:?}");
     }
