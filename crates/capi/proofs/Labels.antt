@@ -6,7 +6,7 @@ use mathlib.Core.Path.{_≡_, refl, sym, ap, _∙_, subst, subst₂}
 use mathlib.Core.Logic.{_≢_}
 use mathlib.Core.Bool.{true}
 use mathlib.Core.List.{List, []}
-use lib.ListN.{take}
+use lib.ListN.{getD, take}
 use Rattle.model.specs.declared.Label.{Label}
 use Rattle.model.specs.declared.Label.the-variants.{Absent}
 use Rattle.model.specs.declared.Mode.{Mode}
@@ -16,13 +16,13 @@ use Rattle.model.specs.Levels.{Dominates}
 use Rattle.model.specs.Modes.{observes}
 use Rattle.model.specs.State.{clearance, object}
 use Rattle.model.specs.Properties.{Holds}
-use Rattle.model.specs.Runs.{after}
+use Rattle.model.specs.Runs.{reply, after}
 use Rattle.model.specs.Beginnings.{Beginning, table, begun, Accepted, left}
 use Rattle.images.proofs.Reached.{reached-left}
-use Rattle.effects.proofs.Labels.{label-never-falls, never-published}
+use Rattle.effects.proofs.Labels.{label-never-falls, never-published, same-label-replies-1, first-label-replies-0}
 use Rattle.unit.specs.Rows.{stateIn}
-use Rattle.runs.specs.MarkedRun.{tableW}
-use Rattle.runs.proofs.Lowering.{bytes, lives-met, labelled-met, raised-met}
+use Rattle.runs.specs.MarkedRun.{level, tableW}
+use Rattle.runs.proofs.Lowering.{bytes, stateAfter, lives-met, labelled-met, raised-met, owner-asks-met}
 use Rattle.runs.proofs.Witnesses.{table-met}
 use Rattle.capi.specs.UnitRuns.{unitAfter}
 use Rattle.capi.proofs.UnitRuns.{after-says}
@@ -69,3 +69,14 @@ pub read-there : Dominates (clearance (begun (table tableW) .monitor) 1) (object
 read-there =
     unit-never-published (table tableW) bytes 0 2 13 (omega arith) lives-there labelled-there table-met 1 Read
     (subst (λ (m : Monitor). Holds m 1 0 Read) (sym (after-says (table tableW) (take 13 bytes))) (raised-met .2)) refl
+
+-- the owner's first label and the same label again, the second and the third request of that run
+pub first-there : reply (getD bytes 1 []) (stateAfter 1) ≡ 0
+first-there =
+    first-label-replies-0 (stateAfter 1) (reached-left (table tableW) table-met (take 1 bytes)) (getD bytes 1 []) 0 (level 3 0x0001)
+    (owner-asks-met .0) (owner-asks-met .2) (owner-asks-met .3)
+
+pub same-there : reply (getD bytes 2 []) (stateAfter 2) ≡ 1
+same-there =
+    same-label-replies-1 (stateAfter 2) (reached-left (table tableW) table-met (take 2 bytes)) (getD bytes 2 []) 0 (level 3 0x0001)
+    (owner-asks-met .1) (lives-met 2 (omega arith) (omega arith)) (raised-met .0)

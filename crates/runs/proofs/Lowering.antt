@@ -6,7 +6,7 @@ use mathlib.Core.Path.{_≡_, refl, sym, ap, _∙_}
 use mathlib.Core.Logic.{_≢_}
 use mathlib.Core.Bool.{true, false}
 use mathlib.Core.List.{List, [], _∷_, _++_, map}
-use lib.ListN.{take}
+use lib.ListN.{getD, take}
 use lib.Dec.{leb}
 use borrow.Author.Tests.{le-leb}
 use Rattle.bits.specs.Bits.{odd, toBits, fromBits, bytesToBits, bitsToBytes, field, cut, join, allZero}
@@ -15,6 +15,7 @@ use Rattle.model.specs.declared.Monitor.{Monitor}
 use Rattle.model.specs.declared.Mode.the-variants.{Read}
 use Rattle.model.specs.declared.Request.{Request}
 use Rattle.model.specs.declared.Request.the-variants.{Get, Give, Create, Delete, ChangeLevel}
+use Rattle.model.specs.declared.Decoded.the-variants.{Says}
 use Rattle.model.specs.Tests.{allBelow, implies, unless}
 use Rattle.model.specs.Levels.{compare, levelDominates, dominates, present, sameLabel}
 use Rattle.model.specs.Modes.{has, add, remove}
@@ -92,3 +93,10 @@ raised-met = (refl, refl, refl)
 
 pub labelled-met : object (stateAfter 2) 0 .label ≢ Absent
 labelled-met e = clash (ap present (sym (raised-met .0) ∙ e))
+
+-- and of the owner's changes of level: the second request asks for a first label, the third for the same one
+pub owner-asks-met : (decode (getD bytes 1 []) ≡ Says (ChangeLevel (object (stateAfter 1) 0 .owner) 0 (level 3 0x0001)))
+    × (decode (getD bytes 2 []) ≡ Says (ChangeLevel (object (stateAfter 2) 0 .owner) 0 (level 3 0x0001)))
+    × (object (stateAfter 1) 0 .live ≡ true) × (object (stateAfter 1) 0 .label ≡ Absent)
+unfolding steps bytes tableW join bitsToBytes pack tableFrom tableForm labelForm labelFrom tableChecks begin readTable allZero bytesToBits toBits odd cut fromBits field decode decodeFields fields wellFormed modeAllowed unusedZero request respond step after checks already changed starAll starFor starFrom starPair implies unless answer simpleAll has add remove notLowered sameLabel dominates levelDominates compare
+owner-asks-met = (refl, refl, refl, refl)
