@@ -2,26 +2,20 @@
 -- Assumes nothing.
 use Prim.Native.Nat.{ℕ}
 use mathlib.Core.Bool.{cond}
+use lib.ListN.{take}
 use Rattle.model.specs.declared.Monitor.{Monitor}
 use Rattle.model.specs.declared.Mode.{Mode}
+use Rattle.model.specs.declared.Request.the-variants.{Get}
 use Rattle.model.specs.declared.Decision.{Decision}
-use Rattle.model.specs.declared.Decision.the-variants.{Granted, NotEnrolled, NotLive, NoRight, NoLabel, SimpleBroken, StarBroken}
-use Rattle.model.specs.Tests.{implies, unless}
-use Rattle.model.specs.Levels.{dominates, present}
-use Rattle.model.specs.Modes.{has, observes, needsLabel}
-use Rattle.model.specs.State.{clearance, enrolled, object, rightsOf}
+use Rattle.model.specs.declared.Decision.the-variants.{Granted, SimpleBroken, StarBroken}
+use Rattle.model.specs.Tests.{unless, firstFailing}
+use Rattle.model.specs.State.{object}
 use Rattle.model.specs.Decisions.{refuses}
-use Rattle.model.specs.Rules.{simpleAll, starAll}
+use Rattle.model.specs.Rules.{simpleAll, starAll, checkList}
 
--- get: "checks 4, 6 (the actor's right); 7 (not e); 8 (r, w)"
+-- get: its checks but the last one, 9: "checks 4, 6 (the actor's right); 7 (not e); 8 (r, w)"
 unfoldable pub beforeStar : ℕ → ℕ → Mode → Monitor → Decision
-beforeStar s o x m =
-    unless (enrolled m s) NotEnrolled
-    (unless (object m o .live) NotLive
-    (unless (has x (rightsOf (object m o) s)) NoRight
-    (unless (implies (needsLabel x) (present (object m o .label))) NoLabel
-    (unless (implies (observes x) (dominates (clearance m s) (object m o .label))) SimpleBroken
-    Granted))))
+beforeStar s o x m = firstFailing (take 5 (checkList (Get s o x) m))
 
 -- change of level: "8, 9 over all subjects in the state after the change"
 unfoldable pub afterChange : ℕ → Monitor → Decision

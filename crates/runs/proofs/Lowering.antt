@@ -37,6 +37,7 @@ Step = Request × ℕ
 abbrev to : ℕ → ℕ → Request
 to class needs = ChangeLevel 1 0 (level class needs)
 
+-- the sixteen requests with their replies
 pub steps : List Step
 steps =
     (Create 1 0 (creation false), 0)
@@ -62,6 +63,7 @@ steps =
     ∷ (to 0 0x0000, 0)
     ∷ []
 
+-- the byte strings of the run
 pub bytes : List (List ℕ)
 bytes = map (λ (s : Step). encode (s .0)) steps
 
