@@ -1,18 +1,75 @@
-//! The marked run, an access page, comparisons, changes of level and the sizes, from the text of the requirements. The edges are
-//! in `sidebyside`, for both implementations.
+//! The marked run, the table of two modes, an access page, comparisons, changes of level and the sizes, from the text of the
+//! requirements. The edges are in `sidebyside`, for both implementations.
 
 use crate::marked::{marked_run, table_w};
+use crate::star::{entry, kept, Asked};
 use crate::*;
 
+const WAYS: [Star; 3] = [Star::Plain, Star::Listed, Star::Tabled];
+
 #[test]
-fn the_marked_run_in_both_ways_of_the_star_check() {
-    for star in [Star::Plain, Star::Listed] {
+fn the_marked_run_in_each_way_of_the_star_check() {
+    for star in WAYS {
         let mut monitor = Monitor::from_table(&table_w()).unwrap();
         monitor.star = star;
         for (row, (request, reply)) in marked_run().into_iter().enumerate() {
-            assert_eq!(monitor.request(&request.encode()), reply, "row {}", row + 1);
+            assert_eq!(monitor.request(&request.encode()), reply, "{star:?}, row {}", row + 1);
         }
     }
+}
+
+/// "where one subject holds r or w on P and a or w on Q, the label of Q dominates the label of P", of a mode on P and one on Q
+fn said_of(on_p: Mode, on_q: Mode) -> bool {
+    let letter = |mode: Mode| ['r', 'w', 'a', 'e'][mode as usize];
+    "rw".contains(letter(on_p)) && "aw".contains(letter(on_q))
+}
+
+/// Every two modes.
+fn pairs() -> impl Iterator<Item = (Mode, Mode)> {
+    Mode::ALL.into_iter().flat_map(|held| Mode::ALL.map(|wanted| (held, wanted)))
+}
+
+#[test]
+fn each_entry_of_the_table_is_what_the_sentence_says_of_the_two_modes() {
+    for (held, wanted) in pairs() {
+        // what is held is P and what is wanted Q, then the other way round
+        let expected = match (said_of(held, wanted), said_of(wanted, held)) {
+            (false, false) => Asked::Neither,
+            (true, false) => Asked::Wanted,
+            (false, true) => Asked::Held,
+            (true, true) => Asked::Both,
+        };
+        assert_eq!(entry(held, wanted), expected, "{held:?} held, {wanted:?} wanted");
+    }
+    assert_eq!(pairs().count(), 16);
+}
+
+/// Two objects with these labels, on which subject 3 holds these sets of modes.
+fn held_by_3(labels: [Option<Level>; 2], sets: [u8; 2]) -> [Option<Object>; OBJECTS] {
+    let mut objects = std::array::from_fn(|_| None);
+    for (slot, label, set) in [(9, labels[0], sets[0]), (40, labels[1], sets[1])] {
+        let mut object = Object { label, ..Object::new(3) };
+        object.held[3] = set;
+        objects[slot] = Some(object);
+    }
+    objects
+}
+
+#[test]
+fn the_ways_of_the_star_check_answer_alike_on_every_two_sets_of_modes() {
+    let level = |class, needs| Some(Level { class, needs });
+    // none, one, and three above it that are apart from one another
+    let labels = [None, level(1, 1), level(2, 1), level(1, 3), level(1, 5)];
+    let mut kept_in = 0;
+    for (p, q) in labels.iter().flat_map(|p| labels.map(|q| (*p, q))) {
+        for (on_p, on_q) in (0..16).flat_map(|on_p| (0..16).map(move |on_q| (on_p, on_q))) {
+            let objects = held_by_3([p, q], [on_p, on_q]);
+            let answers = WAYS.map(|star| kept(star, &objects, 3));
+            assert_eq!(answers, [answers[0]; 3], "{on_p:04b} on {p:?}, {on_q:04b} on {q:?}");
+            kept_in += usize::from(answers[0]);
+        }
+    }
+    assert!((2000..4000).contains(&kept_in), "both answers are met often: kept in {kept_in}");
 }
 
 #[test]
