@@ -1,5 +1,7 @@
-//! What the tests share: both monitors on one run, the program `circmon`, C programs over the header, and a program with
-//! bytes on its standard input.
+//! What the tests share: both monitors on one run, pairs of modes, the program `circmon`, C programs over the header, and a
+//! program with bytes on its standard input.
+
+pub mod pair;
 
 use circmon::{Rows, Unit, ROWS, ROW_BYTES};
 use load::{Random, Shape};
