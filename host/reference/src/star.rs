@@ -99,9 +99,9 @@ fn kept_listed(objects: &[Option<Object>; OBJECTS], subject: usize) -> bool {
     true
 }
 
-/// Each two accesses are looked at once, the one on the earlier object or in the earlier mode as the one that is held: looked at
-/// both ways round, an entry that asks too little would not be noticed, since another one asks the same of the two. An access
-/// stands beside itself too, as P and Q may be one object.
+/// Each two accesses are looked at once, the one on the earlier object or in the earlier mode as the one that is held: looked
+/// at both ways round, an entry that asks too little would not be noticed, since another one asks the same of the two. An
+/// access stands beside itself too, as P and Q may be one object.
 fn kept_tabled(objects: &[Option<Object>; OBJECTS], subject: usize) -> bool {
     let mut accesses: Vec<(Mode, &Object)> = Vec::new();
     for object in objects.iter().flatten() {

@@ -153,8 +153,8 @@ const RAISES: [[Level; 3]; 4] = [
     [level(14, 0x7FFF), level(15, 0x7FFF), level(14, 0xFFFF)],
 ];
 
-/// The holder gets both modes while the labels are equal; then the owner raises P (0) and Q (1) in the order of the list. Where a
-/// new label is refused, the old one stays for the next change.
+/// The holder gets both modes while the labels are equal; then the owner raises P (0) and Q (1) in the order of the list. Where
+/// a new label is refused, the old one stays for the next change.
 fn raised(pair: Pair, slots: [usize; 2], holder: usize, equal: Level, raises: [(usize, Level); 2], met: &mut Met) {
     let mut labels = [equal; 2];
     let mut both = Both::new(labelled(slots, labels));
@@ -193,7 +193,7 @@ fn a_change_of_level_in_every_pair_of_modes_held() {
     met.check_not_kept(60);
 }
 
-/// The number of the first check that refuses an image in which a subject with this clearance holds these modes on these labels.
+/// The number that an image gets in which a subject with this clearance holds these modes on these labels.
 fn expected(clearance: Level, pair: Pair, labels: [Level; 2]) -> u8 {
     let [p, q] = labels.map(Some);
     let is_cleared = |mode: Mode, label| !observes(mode) || dominates(Some(clearance), label);

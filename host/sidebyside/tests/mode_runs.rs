@@ -52,7 +52,7 @@ fn asked_again(both: &mut Both, actor: usize, beside: &mut Met) {
 struct Asked {
     /// whether the access is held already
     already: bool,
-    /// the mode of each access that the subject holds on another object with the mode wanted, where the labels are as the two ask
+    /// the mode of each access that the subject holds on another object with the mode wanted, where the labels are as these ask
     kept: Vec<Pair>,
     /// the same of accesses on any object, where the labels are not
     not_kept: Vec<Pair>,
