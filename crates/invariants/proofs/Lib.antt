@@ -7,3 +7,4 @@ pub mod Relabelling
 pub mod Steps
 pub mod Outcomes
 pub mod Added
+pub mod ModePairs

@@ -157,7 +157,7 @@ abbrev labelOf : Object → Label
 labelOf ob = ob .label
 
 -- the star property of one subject
-pub StarFor : ℕ → List Object → Type 0
+unfoldable pub StarFor : ℕ → List Object → Type 0
 StarFor s l = PairsFor Flows s l
 
 -- the test decides it

@@ -13,7 +13,7 @@ use borrow.Author.Tests.{eqb-true, eqb-false, eq-eqb, ne-eqb}
 use Rattle.model.specs.declared.Mode.{Mode}
 use Rattle.model.specs.Tests.{allBelow}
 use Rattle.model.specs.Levels.{subset}
-use Rattle.model.specs.Modes.{weight, has, add, remove, anyObserves, anyAlters, anyNeedsLabel}
+use Rattle.model.specs.Modes.{weight, has, add, remove, anyObserves, anyNeedsLabel}
 use Rattle.model.proofs.Tests.{split, below-out, same-bool}
 use Rattle.model.proofs.Modes.{allModes, modes-out}
 
@@ -36,17 +36,13 @@ unfolding has remove
 remove-and x n h = eqb-true _ _ (bytes (λ x n. eqb (n - bitAnd n (weight x)) (remove x n)) refl x n h)
 
 -- a test at each byte that some modes are in the set
-some-and : (k : ℕ) (f : ℕ → Bool) → allBelow 256 (λ n. Bool·beq (not (eqb (bitAnd n k) 0)) (f n)) ≡ true
+pub some-and : (k : ℕ) (f : ℕ → Bool) → allBelow 256 (λ n. Bool·beq (not (eqb (bitAnd n k) 0)) (f n)) ≡ true
     → (n : ℕ) → n < 256 → not (eqb (bitAnd n k) 0) ≡ f n
 some-and k f e n h = same-bool _ _ (below-out 256 (λ n. Bool·beq (not (eqb (bitAnd n k) 0)) (f n)) e n h)
 
 pub observes-and : (n : ℕ) → n < 256 → not (eqb (bitAnd n 12) 0) ≡ anyObserves n
 unfolding has
 observes-and = some-and 12 anyObserves refl
-
-pub alters-and : (n : ℕ) → n < 256 → not (eqb (bitAnd n 6) 0) ≡ anyAlters n
-unfolding has
-alters-and = some-and 6 anyAlters refl
 
 pub needs-label-and : (n : ℕ) → n < 256 → not (eqb (bitAnd n 14) 0) ≡ anyNeedsLabel n
 unfolding has

@@ -3,7 +3,7 @@ ghost use mathlib.Core.Path.{_≡_};
 ghost use mathlib.Core.Bool.{_&&_};
 ghost use Rattle.model.specs.Tests.{implies, unless};
 ghost use Rattle.model.specs.Levels.{subset, atLeast, answered, compare, equalOrAbove, dominates, present, sameLabel};
-ghost use Rattle.model.specs.Modes.{weight, has, add, remove, observes, needsLabel, anyObserves, anyAlters, anyNeedsLabel};
+ghost use Rattle.model.specs.Modes.{weight, has, add, remove, observes, needsLabel, anyObserves, anyNeedsLabel};
 ghost use Rattle.model.specs.Decisions.{number, refuses};
 ghost use Rattle.model.specs.Rules.{notLowered};
 use model::Comparison;
@@ -182,13 +182,6 @@ pub fn any_observes(n: u8) -> bool
     ensures { λ r. ⌜ r ≡ anyObserves n ⌝ }
 {
     n & 12 != 0
-}
-
-// a or w
-pub fn any_alters(n: u8) -> bool
-    ensures { λ r. ⌜ r ≡ anyAlters n ⌝ }
-{
-    n & 6 != 0
 }
 
 // r, w or a

@@ -5,6 +5,8 @@ pub mod Checks
 pub mod Modes
 pub mod Levels
 pub mod Comparisons
+pub mod ModePairs
+pub mod TwoAccesses
 pub mod Packing
 pub mod Requests
 pub mod Lists

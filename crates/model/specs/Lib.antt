@@ -4,6 +4,7 @@ pub mod Levels
 pub mod Modes
 pub mod State
 pub mod Properties
+pub mod ModePairs
 pub mod Decisions
 pub mod Requests
 pub mod Rules

@@ -5,3 +5,4 @@ pub mod RequestCauses
 pub mod Malformed
 pub mod ImageCauses
 pub mod FirstRefusal
+pub mod ModePairs

@@ -4,7 +4,7 @@ use Prim.Native.Nat.{ℕ, zero, suc, _+_, _<_, _≤_, min}
 use native.Mathlib.Omega.{arith}
 use native.Mathlib.Nat.{eq-or-lt-of-le}
 use mathlib.Core.Path.{_≡_, refl, sym, ap, ap₂, _∙_}
-use mathlib.Core.Logic.{⊎-elim}
+use mathlib.Core.Logic.{_↔_, ⊎-elim}
 use mathlib.Core.Bool.{Bool, true, false, not}
 use mathlib.Core.List.{List, [], _∷_}
 use lib.ListN.{length, getD, set, length-set}
@@ -14,12 +14,17 @@ use lib.Seq.{getD-set-same, getD-set-other}
 use Rattle.bits.specs.Bits.{bit}
 use Rattle.model.specs.declared.Object.{Object}
 use Rattle.model.specs.Tests.{allBelow, allOf}
-use Rattle.model.specs.Levels.{dominates}
-use Rattle.model.specs.Modes.{anyObserves, anyAlters, anyNeedsLabel}
+use Rattle.model.specs.Levels.{Dominates, dominates}
+use Rattle.model.specs.declared.Mode.{Mode}
+use Rattle.model.specs.Modes.{has, observes, alters, anyObserves, anyAlters, anyNeedsLabel}
 use Rattle.model.specs.State.{heldBy}
 use Rattle.model.specs.Rules.{starFor, starFrom, starPair}
-use Rattle.model.proofs.Tests.{split, apart, and-both, or-left, or-right, not-on, cond-all, implies-in, implies-out, below-out, below-false, all-at}
+use Rattle.model.proofs.Tests.{split, apart, and-both, or-left, or-right, not-on, cond-all, implies-in, implies-out, below-out, below-in, below-false, all-at}
+use Rattle.model.proofs.Modes.{any-observes, any-alters, observes-some, alters-some}
+use Rattle.model.proofs.Levels.{dominates-decides}
+use Rattle.model.proofs.ModePairs.{entry-star}
 use Rattle.star.specs.Idle.{free, nothingHeld, idle}
+use Rattle.star.specs.ModePairs.{TabledFor}
 use Rattle.star.specs.Lists.{readBy, alteredBy, busyFor, Listed, itself, out-of, Numbers, Covers, labelAt, pairsKept}
 
 pub listed-none : (f : ℕ → Bool) (from : ℕ → ℕ) (a : List ℕ) → length a ≡ 64 → Listed f from a 0 0
@@ -168,3 +173,24 @@ module _ (s : ℕ) (l : List Object) (n : length l ≡ 64) (d : Object) (at : �
       split (pairsKept at read r altered a)
       (λ t. star-listed (λ i hi. below-out a _ (below-out r _ t i hi)) ∙ sym t)
       (λ f. below-false r _ f (λ i hi g. below-false a _ g (λ j hj e. star-unlisted i hi j hj e)) ∙ sym f)
+
+-- going over the two lists is going over the table for every pair of accesses of the subject
+module _ (s : ℕ) (at : ℕ → Object) (read altered : List ℕ) (r a : ℕ) (R : Listed (readBy s at) itself read r 64) (A : Listed (alteredBy s at) itself altered a 64) where
+  pair-kept : pairsKept at read r altered a ≡ true → (p q : ℕ) → p < 64 → q < 64 → (x y : Mode) → has x (heldBy (at p) s) ≡ true → observes x ≡ true
+      → has y (heldBy (at q) s) ≡ true → alters y ≡ true → Dominates (at q .label) (at p .label)
+  unfolding pairsKept
+  pair-kept t p q hp hq x y h o k w =
+      let i = R .complete p hp (any-observes x _ h o) in
+      let j = A .complete q hq (any-alters y _ k w) in
+      dominates-decides _ _ .0
+      (sym (ap₂ (λ (u v : ℕ). dominates (at v .label) (at u .label)) (i .1 .1) (j .1 .1)) ∙ below-out a _ (below-out r _ t (i .0) (i .1 .0)) (j .0) (j .1 .0))
+
+  pub lists-table : (pairsKept at read r altered a ≡ true) ↔ TabledFor s at
+  unfolding pairsKept
+  lists-table = (
+    λ t p q hp hq x y h k. entry-star x y _ _ .1 (λ o w. pair-kept t p q hp hq x y h o k w, λ o w. pair-kept t q p hq hp y x k o h w),
+    λ T. below-in r _ (λ i hi. below-in a _ (λ j hj.
+        let u = R .sound i hi in
+        let v = A .sound j hj in
+        observes-some _ (u .1) (λ x h o. alters-some _ (v .1) (λ y k w. dominates-decides _ _ .1 (entry-star x y _ _ .0 (T _ _ (u .0) (v .0) x y h k) .0 o w))))),
+  )

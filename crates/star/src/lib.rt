@@ -1,5 +1,6 @@
 // The star property over all objects, and the simple property over all subjects.
 mod lists;
+mod pairs;
 
 ghost use mathlib.Core.Path.{_≡_};
 ghost use mathlib.Core.Bool.{not};
@@ -15,8 +16,8 @@ ghost use Rattle.star.specs.Lists.{Covers};
 use crate::lists::list_busy;
 use crate::lists::list_held;
 use crate::lists::pair_offends;
+use crate::pairs::table_asks;
 use bits::smaller;
-use labels::any_needs_label;
 use labels::any_observes;
 use labels::dominates;
 use labels::implies;
@@ -39,7 +40,7 @@ fn nothing_held(row: [u8; 16]) -> bool
     let mut free = true;
     let mut s = 0usize;
     while s < 16 {
-        free = free & !any_needs_label(row[s]);
+        free = free & !table_asks(row[s]);
         s += 1;
     }
     free
@@ -53,7 +54,7 @@ fn idle(unit: &[[u8; 16]], o: u8, low: usize, end: usize) -> bool
 {
     let first = smaller(low, 15);
     if first + 1 == end {
-        !any_needs_label(held_by(unit, o, first as u8))
+        !table_asks(held_by(unit, o, first as u8))
     } else {
         nothing_held(held_row(unit, o))
     }

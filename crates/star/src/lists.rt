@@ -7,8 +7,8 @@ ghost use Rattle.unit.specs.Rows.{rowCount, objectsIn};
 ghost use Rattle.star.specs.Lists.{readBy, alteredBy, busyFor, Listed, itself, out-of, Numbers, pairsKept};
 use crate::idle;
 use crate::one_if;
-use labels::any_alters;
-use labels::any_observes;
+use crate::pairs::table_alters;
+use crate::pairs::table_observes;
 use labels::dominates;
 use model::Monitor;
 use unit::held_by;
@@ -61,9 +61,9 @@ pub fn list_held(
         let at = busy[k];
         let modes = held_by(unit, at, s);
         read[r] = at;
-        r += one_if(any_observes(modes));
+        r += one_if(table_observes(modes));
         altered[a] = at;
-        a += one_if(any_alters(modes));
+        a += one_if(table_alters(modes));
         k += 1;
     }
     Counts {

@@ -26,8 +26,8 @@ cast-held-by c = search needs
 held-by-requires : tie.Need-held-by-requires
 held-by-requires c κs = search needs
 
-any-needs-label-requires : tie.Need-any-needs-label-requires
-any-needs-label-requires c κs = search needs
+table-asks-requires : tie.Need-table-asks-requires
+table-asks-requires c κs = search needs
 
 held-row-requires : tie.Need-held-row-requires
 held-row-requires c κs = search needs
@@ -41,7 +41,7 @@ returns c =
     let a = c .before .before .before .before .args in
     let row = object (stateIn (a .unit .now)) (a .o) .held in
     let first = c .before .before .before .smaller .ensures in
-    ap not (c .any-needs-label .ensures ∙ ap anyNeedsLabel (c .before .held-by .ensures)) ∙ ap (free row) first
+    ap not (c .table-asks .ensures ∙ ap anyNeedsLabel (c .before .held-by .ensures)) ∙ ap (free row) first
     ∙ sym (cond-true (eqb (min (a .low) 15 + 1) (a .end)) _ _ (eq-eqb _ _ (ap (λ k. k + 1) (sym first) ∙ c .before .before .if1 .taken)))
 
 returns-2 : tie.Need-returns-2
@@ -60,7 +60,7 @@ idle-spec =
     add-if1
     cast-held-by
     held-by-requires
-    any-needs-label-requires
+    table-asks-requires
     held-row-requires
     nothing-held-requires
     returns

@@ -20,11 +20,11 @@ abbrev μ-loop : tie.MeasureT-loop
 loop-holds : tie.Need-loop-holds Inv-loop μ-loop
 loop-holds c = (omega arith, refl)
 
-array-read-any-needs-label : tie.Need-array-read-any-needs-label Inv-loop μ-loop
-array-read-any-needs-label c = search needs
+array-read-table-asks : tie.Need-array-read-table-asks Inv-loop μ-loop
+array-read-table-asks c = search needs
 
-any-needs-label-requires : tie.Need-any-needs-label-requires Inv-loop μ-loop
-any-needs-label-requires c κs = tt
+table-asks-requires : tie.Need-table-asks-requires Inv-loop μ-loop
+table-asks-requires c κs = tt
 
 add-s : tie.Need-add-s Inv-loop μ-loop
 add-s c = search needs
@@ -37,7 +37,7 @@ loop-again c =
     let inv = c .before .before .loop .inv in
     let s = c .before .before .loop .s in (
       omega (arith, c .before .loop-test .taken),
-      ap₂ _&&_ (inv .1) (ap not (c .any-needs-label .ensures)) ∙ ap (λ k. allBelow k (free (c .before .before .before .args .t1))) (sym (add-one s)),
+      ap₂ _&&_ (inv .1) (ap not (c .table-asks .ensures)) ∙ ap (λ k. allBelow k (free (c .before .before .before .args .t1))) (sym (add-one s)),
     )
 
 returns : tie.Need-returns Inv-loop μ-loop
@@ -54,8 +54,8 @@ nothing-held-spec =
     Inv-loop
     μ-loop
     loop-holds
-    array-read-any-needs-label
-    any-needs-label-requires
+    array-read-table-asks
+    table-asks-requires
     add-s
     loop-less
     loop-again

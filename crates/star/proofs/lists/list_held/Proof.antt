@@ -39,26 +39,26 @@ held-by-requires c κs = (c .before .before .before .before .before .before .pre
 slice-write-read : tie.Need-slice-write-read Inv-loop μ-loop
 slice-write-read c = let inv = c .before .before .before .loop .inv in omega (arith, listed-few (c .before .before), inv .1 .few, inv .1 .whole)
 
-any-observes-requires : tie.Need-any-observes-requires Inv-loop μ-loop
-any-observes-requires c κs = tt
+table-observes-requires : tie.Need-table-observes-requires Inv-loop μ-loop
+table-observes-requires c κs = tt
 
 one-if-requires : tie.Need-one-if-requires Inv-loop μ-loop
 one-if-requires c κs = tt
 
 add-r : tie.Need-add-r Inv-loop μ-loop
-add-r c = omega (arith, c .one-if .ensures, bit-small (c .before .any-observes .result), c .before .before .before .before .before .loop .inv .1 .few, listed-few (c .before .before .before .before))
+add-r c = omega (arith, c .one-if .ensures, bit-small (c .before .table-observes .result), c .before .before .before .before .before .loop .inv .1 .few, listed-few (c .before .before .before .before))
 
 slice-write-altered : tie.Need-slice-write-altered Inv-loop μ-loop
 slice-write-altered c = let inv = c .before .before .before .before .before .loop .inv in omega (arith, listed-few (c .before .before .before .before), inv .2 .few, inv .2 .whole)
 
-any-alters-requires : tie.Need-any-alters-requires Inv-loop μ-loop
-any-alters-requires c κs = tt
+table-alters-requires : tie.Need-table-alters-requires Inv-loop μ-loop
+table-alters-requires c κs = tt
 
 one-if-requires-2 : tie.Need-one-if-requires-2 Inv-loop μ-loop
 one-if-requires-2 c κs = tt
 
 add-a : tie.Need-add-a Inv-loop μ-loop
-add-a c = omega (arith, c .one-if2 .ensures, bit-small (c .before .any-alters .result), c .before .before .before .before .before .before .before .loop .inv .2 .few, listed-few (c .before .before .before .before .before .before))
+add-a c = omega (arith, c .one-if2 .ensures, bit-small (c .before .table-alters .result), c .before .before .before .before .before .before .before .loop .inv .2 .few, listed-few (c .before .before .before .before .before .before))
 
 add-k : tie.Need-add-k Inv-loop μ-loop
 add-k c = omega (arith, listed-few (c .before .before .before .before .before .before))
@@ -71,8 +71,8 @@ loop-again c =
     let inv = c .before .before .before .before .before .before .before .loop .inv in
     let t = c .before .before .before .before .before .before in (
       omega (arith, t .loop-test .taken),
-      listed-more _ _ _ _ _ (listed-few t) (at-below t) (inv .1) _ (c .before .before .one-if .ensures ∙ ap bit (c .before .before .before .any-observes .ensures ∙ ap anyObserves (c .before .before .before .before .held-by .ensures))),
-      listed-more _ _ _ _ _ (listed-few t) (at-below t) (inv .2) _ (c .one-if2 .ensures ∙ ap bit (c .before .any-alters .ensures ∙ ap anyAlters (c .before .before .before .before .held-by .ensures))),
+      listed-more _ _ _ _ _ (listed-few t) (at-below t) (inv .1) _ (c .before .before .one-if .ensures ∙ ap bit (c .before .before .before .table-observes .ensures ∙ ap anyObserves (c .before .before .before .before .held-by .ensures))),
+      listed-more _ _ _ _ _ (listed-few t) (at-below t) (inv .2) _ (c .one-if2 .ensures ∙ ap bit (c .before .table-alters .ensures ∙ ap anyAlters (c .before .before .before .before .held-by .ensures))),
     )
 
 same-length : tie.Need-same-length Inv-loop μ-loop
@@ -101,11 +101,11 @@ list-held-spec =
     shared-slice-read-at
     held-by-requires
     slice-write-read
-    any-observes-requires
+    table-observes-requires
     one-if-requires
     add-r
     slice-write-altered
-    any-alters-requires
+    table-alters-requires
     one-if-requires-2
     add-a
     add-k

@@ -1,0 +1,87 @@
+-- The star test by the table of mode pairs; and a get: of every access that is held, the entry with the one that is wanted.
+-- Assumes nothing.
+use Prim.Native.Nat.{ℕ, _<_}
+use mathlib.Core.Path.{_≡_, refl, ap, _∙_, subst}
+use mathlib.Core.Logic.{_↔_, _≢_, _⊎_, ⊎-elim, inl, inr}
+use mathlib.Core.Bool.{true}
+use mathlib.Core.List.{List}
+use Rattle.model.specs.declared.Object.{Object}
+use Rattle.model.specs.declared.Label.{Label}
+use Rattle.model.specs.declared.Label.the-variants.{Absent}
+use Rattle.model.specs.declared.Monitor.{Monitor}
+use Rattle.model.specs.declared.Mode.{Mode}
+use Rattle.model.specs.Modes.{has, add, needsLabel}
+use Rattle.model.specs.State.{noObject, objectAt, object, heldBy, withHeld}
+use Rattle.model.specs.Properties.{Holds, Star}
+use Rattle.model.specs.Rules.{starFor}
+use Rattle.model.specs.ModePairs.{entry, Kept, Tabled, KeptByHeld}
+use Rattle.model.proofs.Tests.{set-all, or-right}
+use Rattle.model.proofs.Modes.{sameMode, has-add, held-add}
+use Rattle.model.proofs.ModePairs.{entry-star, turned, same-object, star-table}
+use Rattle.model.proofs.After.{held-stored}
+use Rattle.invariants.specs.Access.{withAccess}
+use Rattle.invariants.specs.Sound.{Sound}
+use Rattle.invariants.proofs.Pairs.{PairsFor}
+use Rattle.invariants.proofs.Secure.{StarFor, star-out, star-in}
+use Rattle.invariants.proofs.Added.{holds-now}
+
+-- ---- the test that the checks use
+
+-- of one subject over all objects, it is the table's
+pub test-table : (s : ℕ) (l : List Object) → (starFor s l ≡ true) ↔ PairsFor (λ x p y q. Kept (entry x y) (p .label) (q .label)) s l
+unfolding StarFor
+test-table s l = (
+  λ e p q x y h k. entry-star x y _ _ .1 (star-out s l e p q x y h k, star-out s l e q p y x k h),
+  λ T. star-in s l (λ p q x y h k. entry-star x y _ _ .0 (T p q x y h k) .0),
+)
+
+-- ---- one access more
+
+module _ (m : Monitor) (S : Sound m) (s o : ℕ) (x : Mode) (s-below : s < 16) (o-below : o < 64) where
+  abbrev now : Object
+  now = withHeld (object m o) s (add x (heldBy (object m o) s))
+
+  -- no label changes
+  label-same : (p : ℕ) → object (withAccess m s o x) p .label ≡ object m p .label
+  label-same p = set-all (λ j ob. ob .label ≡ objectAt (m .objects) j .label) (m .objects) o now noObject (λ j. refl) refl p
+
+  -- what was held is held
+  held-still : (p : ℕ) (h : Mode) → Holds m s p h → Holds (withAccess m s o x) s p h
+  held-still p h =
+      set-all (λ j ob. has h (heldBy (objectAt (m .objects) j) s) ≡ true → has h (heldBy ob s) ≡ true) (m .objects) o now noObject (λ j e. e)
+      (λ e. ap (has h) (held-stored (object m o) (S .formed .objects-formed o) s _ s-below)
+      ∙ has-add h x _ (S .formed .objects-formed o .shape .held-fit s) ∙ or-right (sameMode h x) _ e) p
+
+  -- what is held was held, or is the access wanted
+  held-or-wanted : (t p : ℕ) (y : Mode) → Holds (withAccess m s o x) t p y → Holds m t p y ⊎ ((t ≡ s) × (p ≡ o) × (y ≡ x))
+  held-or-wanted t p y =
+      set-all (λ j ob. has y (heldBy ob t) ≡ true → (has y (heldBy (objectAt (m .objects) j) t) ≡ true) ⊎ ((t ≡ s) × (j ≡ o) × (y ≡ x))) (m .objects) o now noObject
+      (λ j e. inl e)
+      (set-all (λ u k. has y k ≡ true → (has y (heldBy (object m o) u) ≡ true) ⊎ ((u ≡ s) × (o ≡ o) × (y ≡ x))) (object m o .held) s _ 0
+      (λ u e. inl e)
+      (λ w. held-add x y _ (S .formed .objects-formed o .shape .held-fit s) w (λ q. inr (refl, refl, q)) (λ q. inl q)) t)
+      p
+
+  table-added : (needsLabel x ≡ true → object m o .label ≢ Absent) → KeptByHeld m s o x → Tabled (withAccess m s o x)
+  table-added there K t p q y z g h =
+      rw (label-same p, label-same q)
+      (⊎-elim
+      (λ a. ⊎-elim
+      (λ b. star-table m .0 (S .secure .star) t p q y z a b)
+      (λ b. rw (b .1, b .2) (K p y (subst (λ (i : ℕ). Holds m i p y) (b .0) a)))
+      (held-or-wanted t q z h))
+      (λ a. ⊎-elim
+      (λ b. rw (a .1, a .2) (turned z x _ _ (K q z (subst (λ (i : ℕ). Holds m i q z) (a .0) b))))
+      (λ b. rw (a .1, a .2, b .1, b .2) (same-object x x (object m o .label) there))
+      (held-or-wanted t q z h))
+      (held-or-wanted t p y g))
+
+  -- adding the access keeps the star property exactly where the entry of each access that is held is kept
+  pub star-added : (needsLabel x ≡ true → object m o .label ≢ Absent) → Star (withAccess m s o x) ↔ KeptByHeld m s o x
+  star-added there = (
+    λ T p h e.
+        let k = star-table (withAccess m s o x) .0 T s p o h x (held-still p h e) (holds-now m S s o x s-below o-below) in
+        subst (λ (l : Label). Kept (entry h x) (object m p .label) l) (label-same o)
+        (subst (λ (l : Label). Kept (entry h x) l (object (withAccess m s o x) o .label)) (label-same p) k),
+    λ K. star-table (withAccess m s o x) .1 (table-added there K),
+  )

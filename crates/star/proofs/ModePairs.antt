@@ -1,0 +1,55 @@
+-- The table of mode pairs in numbers, and the sets of modes that are made from it.
+-- Assumes nothing.
+use Prim.Native.Nat.{ℕ, _<_}
+use mathlib.Core.Path.{_≡_, refl}
+use mathlib.Core.Bool.{not}
+use mathlib.Core.List.{List, [], _∷_, map}
+use lib.Dec.{eqb, ltb, ltb→lt}
+use lib.Bits.{bitAnd}
+use lib.ListN.{getD}
+use borrow.Author.Tests.{eqb-true}
+use Rattle.model.specs.declared.Mode.{Mode}
+use Rattle.model.specs.declared.Mode.the-variants.{Read, Write, Append, Execute}
+use Rattle.model.specs.Modes.{has, add, weight, anyObserves, anyAlters, anyNeedsLabel}
+use Rattle.model.specs.ModePairs.{entry}
+use Rattle.model.proofs.Tests.{toT}
+use Rattle.model.proofs.Modes.{modes-out}
+use Rattle.model.proofs.ModePairs.{pairs-out}
+use Rattle.labels.proofs.Sets.{some-and}
+use Rattle.star.specs.ModePairs.{place, coded, modesAsking}
+
+-- ---- the table
+
+pub place-below : (x : Mode) → place x < 4
+place-below x = ltb→lt _ _ (toT (modes-out (λ x. ltb (place x) 4) refl x))
+
+abbrev modes : List Mode
+modes = Read ∷ Write ∷ Append ∷ Execute ∷ []
+
+-- the entries, row by row
+abbrev rows : List (List ℕ)
+rows = map (λ x. map (λ y. coded (entry x y)) modes) modes
+
+-- found by the places of two modes
+pub entry-at : (x y : Mode) → getD (getD rows (place x) []) (place y) 0 ≡ coded (entry x y)
+entry-at x y = eqb-true _ _ (pairs-out (λ x y. eqb (getD (getD rows (place x) []) (place y) 0) (coded (entry x y))) refl x y)
+
+-- ---- the sets made from it
+
+pub alone : (x : Mode) → add x 0 ≡ weight x
+unfolding has add
+alone x = eqb-true _ _ (modes-out (λ x. eqb (add x 0) (weight x)) refl x)
+
+-- the modes whose rows ask something of the label of the object wanted are those that observe; of the object held, those that alter
+pub observes-asking : (n : ℕ) → n < 256 → not (eqb (bitAnd n (modesAsking 1)) 0) ≡ anyObserves n
+unfolding has
+observes-asking = some-and (modesAsking 1) anyObserves refl
+
+pub alters-asking : (n : ℕ) → n < 256 → not (eqb (bitAnd n (modesAsking 2)) 0) ≡ anyAlters n
+unfolding has
+alters-asking = some-and (modesAsking 2) anyAlters refl
+
+-- of either, those that need a label
+pub asks-asking : (n : ℕ) → n < 256 → not (eqb (bitAnd n (modesAsking 3)) 0) ≡ anyNeedsLabel n
+unfolding has
+asks-asking = some-and (modesAsking 3) anyNeedsLabel refl

@@ -1,0 +1,28 @@
+-- `star::pairs::entry` meets its contract.
+-- Assumes nothing.
+use native.Mathlib.Omega.{arith}
+use Rattle.star.proofs.ModePairs.{place-below, entry-at}
+use Rattle.star.proofs.pairs.entry.Statement.{statement}
+use Rattle.star.proofs.pairs.entry.Tie as tie
+
+place-requires : tie.Need-place-requires
+place-requires c κs = tt
+
+place-requires-2 : tie.Need-place-requires-2
+place-requires-2 c κs = tt
+
+mul-result : tie.Need-mul-result
+mul-result c = rw (c .before .place .ensures) (omega (arith, place-below (c .before .before .args .held)))
+
+index-1-result : tie.Need-index-1-result
+index-1-result c = rw (c .before .place .ensures) (place-below (c .before .before .args .held))
+
+index-2-result : tie.Need-index-2-result
+index-2-result c = rw (c .place2 .ensures) (place-below (c .before .before .args .wanted))
+
+returns : tie.Need-returns
+returns c =
+    rw (c .before .before .place .ensures, c .before .place2 .ensures) (entry-at (c .before .before .before .args .held) (c .before .before .before .args .wanted))
+
+pub entry-spec : {M : Type 1} → statement M
+entry-spec = tie.close (tie.spec place-requires place-requires-2 mul-result index-1-result index-2-result returns)

@@ -1,0 +1,15 @@
+-- `star::pairs::table_alters` meets its contract.
+-- Assumes nothing.
+use native.Mathlib.Omega.{arith}
+use Rattle.star.proofs.ModePairs.{alters-asking}
+use Rattle.star.proofs.pairs.table_alters.Statement.{statement}
+use Rattle.star.proofs.pairs.table_alters.Tie as tie
+
+modes-asking-requires : tie.Need-modes-asking-requires
+modes-asking-requires c κs = tt
+
+returns : tie.Need-returns
+returns c = rw (c .modes-asking .ensures) (alters-asking (c .before .args .n) (omega arith))
+
+pub table-alters-spec : {M : Type 1} → statement M
+table-alters-spec = tie.close (tie.spec modes-asking-requires returns)

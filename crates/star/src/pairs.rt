@@ -1,0 +1,99 @@
+// Mode pairs: for each mode held and mode wanted, which label the star property asks to dominate which. The check decides by this table.
+ghost use mathlib.Core.Path.{_≡_};
+ghost use Rattle.model.specs.Modes.{anyObserves, anyAlters, anyNeedsLabel};
+ghost use Rattle.star.specs.ModePairs.{place, coded, rowAsks, ifAsking, modesAsking};
+ghost use Rattle.model.specs.ModePairs.{entry};
+use labels::add;
+use model::Mode;
+
+const NEITHER: u8 = 0;
+
+// The label of the object wanted dominates that of the object held.
+const WANTED: u8 = 1;
+
+// The label of the object held dominates that of the object wanted.
+const HELD: u8 = 2;
+
+const BOTH: u8 = WANTED | HELD;
+
+// A row for each mode held; in each row the modes wanted: r, w, a, e.
+const PAIRS: [[u8; 4]; 4] = [
+    // r held: what is wanted for w or a has a label that dominates that of what is read
+    [NEITHER, WANTED, WANTED, NEITHER],
+    // w held, which reads and writes: r wanted asks the one, a wanted the other, w wanted both, so that the labels are equal
+    [HELD, BOTH, WANTED, NEITHER],
+    // a held: what is wanted for r or w has a label that is dominated by that of what is written
+    [HELD, HELD, NEITHER, NEITHER],
+    // e held: it neither reads nor writes
+    [NEITHER, NEITHER, NEITHER, NEITHER],
+];
+
+// Where the mode stands in a row, and its row in the table.
+fn place(x: Mode) -> usize
+    ensures { λ r. ⌜ r ≡ place x ⌝ }
+{
+    match x {
+        Mode::Read => 0,
+        Mode::Write => 1,
+        Mode::Append => 2,
+        Mode::Execute => 3,
+    }
+}
+
+fn entry(held: Mode, wanted: Mode) -> u8
+    ensures { λ r. ⌜ r ≡ coded (entry held wanted) ⌝ }
+{
+    PAIRS[place(held)][place(wanted)]
+}
+
+// All that the entries of a row ask.
+fn row_asks(held: Mode) -> u8
+    ensures { λ r. ⌜ r ≡ rowAsks held ⌝ }
+{
+    entry(held, Mode::Read)
+        | entry(held, Mode::Write)
+        | entry(held, Mode::Append)
+        | entry(held, Mode::Execute)
+}
+
+// The mode alone, as a set, where its row asks something of the label; else no mode.
+fn if_asking(held: Mode, label: u8) -> u8
+    ensures { λ r. ⌜ r ≡ ifAsking label held ⌝ }
+{
+    if row_asks(held) & label != 0 {
+        add(held, 0)
+    } else {
+        0
+    }
+}
+
+// The modes whose rows ask something of the label of the object wanted, of that of the object held, or of either.
+fn modes_asking(label: u8) -> u8
+    ensures { λ r. ⌜ r ≡ modesAsking label ⌝ }
+{
+    if_asking(Mode::Read, label)
+        | if_asking(Mode::Write, label)
+        | if_asking(Mode::Append, label)
+        | if_asking(Mode::Execute, label)
+}
+
+// Whether a mode of the set observes: its row asks that the label of another object dominate that of its own.
+pub fn table_observes(n: u8) -> bool
+    ensures { λ r. ⌜ r ≡ anyObserves n ⌝ }
+{
+    n & modes_asking(WANTED) != 0
+}
+
+// Whether a mode of the set alters: its row asks that the label of its own object dominate that of another.
+pub fn table_alters(n: u8) -> bool
+    ensures { λ r. ⌜ r ≡ anyAlters n ⌝ }
+{
+    n & modes_asking(HELD) != 0
+}
+
+// Whether the table asks anything of a mode of the set.
+pub fn table_asks(n: u8) -> bool
+    ensures { λ r. ⌜ r ≡ anyNeedsLabel n ⌝ }
+{
+    n & modes_asking(BOTH) != 0
+}
