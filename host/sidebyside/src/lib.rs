@@ -1,6 +1,7 @@
-//! What the tests share: both monitors on one run, pairs of modes, the program `circmon`, C programs over the header, and a
+//! What the tests share: both monitors on one run, dominance, pairs of modes, the program `circmon`, C programs over the header, and a
 //! program with bytes on its standard input.
 
+pub mod level;
 pub mod pair;
 
 use circmon::{Rows, Unit, ROWS, ROW_BYTES};

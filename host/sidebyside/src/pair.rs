@@ -1,15 +1,9 @@
 //! What the star property asks of two labels, for a mode held beside a mode wanted: computed from its sentence and from a plain
 //! dominance, and asked of neither implementation.
 
+use crate::level::label_dominates;
 use crate::Count;
 use reference::{Level, Mode};
-
-/// "A dominates B when A's class is at least B's and every need of B is in A." Without a label nothing dominates.
-pub fn dominates(a: Option<Level>, b: Option<Level>) -> bool {
-    let (Some(a), Some(b)) = (a, b) else { return false };
-    let has = |level: Level, need: u32| level.needs / 2u16.pow(need) % 2 == 1;
-    a.class >= b.class && (0..16).all(|need| has(a, need) || !has(b, need))
-}
 
 pub fn observes(mode: Mode) -> bool {
     matches!(mode, Mode::Read | Mode::Write)
@@ -43,7 +37,8 @@ impl Pair {
 
     /// Whether the labels of P and Q are as the sentence asks, of the two as they are and with their names exchanged.
     pub fn is_kept(self, p: Option<Level>, q: Option<Level>) -> bool {
-        (!said_of(self.held, self.wanted) || dominates(q, p)) && (!said_of(self.wanted, self.held) || dominates(p, q))
+        (!said_of(self.held, self.wanted) || label_dominates(q, p))
+            && (!said_of(self.wanted, self.held) || label_dominates(p, q))
     }
 }
 

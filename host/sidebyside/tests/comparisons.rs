@@ -4,14 +4,18 @@
 use circmon::{Comparison, Level, Unit};
 use load::Random;
 use reference::{Kind, Mode, Monitor, Object, Request, SUBJECTS};
-use sidebyside::{drawn, shape, with_effect, Count, RUNS, RUN_REQUESTS};
+use sidebyside::{drawn, level, shape, with_effect, Count, RUNS, RUN_REQUESTS};
 
 const ALL: [Comparison; 4] = [Comparison::Equal, Comparison::Above, Comparison::Below, Comparison::Apart];
 
-/// "A's class is at least B's and every need of B is in A", need by need.
+/// The same level in the second implementation.
+fn second(level: Level) -> reference::Level {
+    reference::Level { class: level.class, needs: level.needs }
+}
+
+/// By the words, need by need.
 fn dominates(a: Level, b: Level) -> bool {
-    let has = |level: Level, need: u32| level.needs / 2u16.pow(need) % 2 == 1;
-    a.class >= b.class && (0..16).all(|need| has(a, need) || !has(b, need))
+    level::dominates(second(a), second(b))
 }
 
 /// "equal, above (only A dominates), below (only B does) or apart (neither)"
@@ -25,7 +29,6 @@ fn by_the_words(a: Level, b: Level) -> Comparison {
 }
 
 fn by_the_second(a: Level, b: Level) -> Comparison {
-    let second = |level: Level| reference::Level { class: level.class, needs: level.needs };
     match second(a).compare(&second(b)) {
         reference::Comparison::Equal => Comparison::Equal,
         reference::Comparison::Above => Comparison::Above,

@@ -1,21 +1,12 @@
 //! No lowering: a change of level on a labelled object passes only where the new label dominates the old one. Dominance is
-//! computed here once more, by a plain loop over the needs, and asked of neither implementation.
+//! the plain one that is asked of neither implementation.
 
 use circmon::{Unit, OBJECTS, SUBJECTS};
 use reference::{reply, Kind, Level, Mode, Monitor, Object, Request};
+use sidebyside::level::dominates;
 use sidebyside::{drawn, image, shape, Both, Count, RUNS, RUN_REQUESTS};
 
 const TOP: Level = Level { class: 15, needs: 0xFFFF };
-
-/// "A dominates B when A's class is at least B's and every need of B is in A."
-fn dominates(a: Level, b: Level) -> bool {
-    let mut all = true;
-    for need in 0..16 {
-        let (of_a, of_b) = (a.needs / 2u16.pow(need) % 2 == 1, b.needs / 2u16.pow(need) % 2 == 1);
-        all = all && (of_a || !of_b);
-    }
-    all && a.class >= b.class
-}
 
 /// What an owner asks for with a change of level.
 #[derive(Clone, Copy, Debug, PartialEq)]

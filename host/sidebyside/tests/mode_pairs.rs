@@ -3,7 +3,8 @@
 
 use circmon::{Unit, SUBJECTS};
 use reference::{reply, Kind, Level, Mode, Monitor, Object, Request, Star};
-use sidebyside::pair::{dominates, observes, Met, Pair};
+use sidebyside::level::label_dominates;
+use sidebyside::pair::{observes, Met, Pair};
 use sidebyside::{image, root, Both, Count};
 
 const TOP: Level = level(15, 0xFFFF);
@@ -83,7 +84,7 @@ fn a_get_in_every_pair_of_modes_with_every_relation_of_the_labels() {
         let kept = pair.is_kept(p, q);
         assert_eq!(asked(pair, slots, labels), answer(kept), "{pair:?}, {slots:?}, {labels:?}");
         met.note(pair, kept);
-        relations.note(2 * u8::from(dominates(p, q)) + u8::from(dominates(q, p)));
+        relations.note(2 * u8::from(label_dominates(p, q)) + u8::from(label_dominates(q, p)));
     }
     met.check_kept(Pair::all(), 20);
     met.check_not_kept(200);
@@ -196,7 +197,7 @@ fn a_change_of_level_in_every_pair_of_modes_held() {
 /// The number that an image gets in which a subject with this clearance holds these modes on these labels.
 fn expected(clearance: Level, pair: Pair, labels: [Level; 2]) -> u8 {
     let [p, q] = labels.map(Some);
-    let is_cleared = |mode: Mode, label| !observes(mode) || dominates(Some(clearance), label);
+    let is_cleared = |mode: Mode, label| !observes(mode) || label_dominates(Some(clearance), label);
     if is_cleared(pair.held, p) && is_cleared(pair.wanted, q) {
         answer(pair.is_kept(p, q))
     } else {

@@ -3,7 +3,8 @@
 
 use circmon::{Unit, SUBJECTS};
 use reference::{reply, Kind, Mode, Monitor, Request, Star};
-use sidebyside::pair::{dominates, observes, Met, Pair};
+use sidebyside::level::label_dominates;
+use sidebyside::pair::{observes, Met, Pair};
 use sidebyside::{drawn, image, shape, Both, RUNS, RUN_REQUESTS};
 
 /// The accesses that a subject holds: the slot of the object and the mode.
@@ -67,7 +68,7 @@ fn asked(before: &Monitor, request: &Request) -> Option<Asked> {
     if wanted != Mode::Execute && label(object).is_none() {
         return None;
     }
-    if observes(wanted) && !dominates(Some(clearance), label(object)) {
+    if observes(wanted) && !label_dominates(Some(clearance), label(object)) {
         return None;
     }
     let mut asked = Asked::default();
