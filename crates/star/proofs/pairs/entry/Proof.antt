@@ -12,13 +12,13 @@ place-requires-2 : tie.Need-place-requires-2
 place-requires-2 c κs = tt
 
 mul-result : tie.Need-mul-result
-mul-result c = rw (c .before .place .ensures) (omega (arith, place-below (c .before .before .args .held)))
+mul-result c = let start = c .before .before .args in rw (c .before .place .ensures) (omega (arith, place-below (start .held), place-below (start .wanted)))
 
 index-1-result : tie.Need-index-1-result
-index-1-result c = rw (c .before .place .ensures) (place-below (c .before .before .args .held))
+index-1-result c = let start = c .before .before .args in rw (c .before .place .ensures) (omega (arith, place-below (start .held), place-below (start .wanted)))
 
 index-2-result : tie.Need-index-2-result
-index-2-result c = rw (c .place2 .ensures) (place-below (c .before .before .args .wanted))
+index-2-result c = let start = c .before .before .args in rw (c .place2 .ensures) (omega (arith, place-below (start .held), place-below (start .wanted)))
 
 returns : tie.Need-returns
 returns c =
