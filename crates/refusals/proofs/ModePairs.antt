@@ -1,7 +1,7 @@
 -- The reply to a get by the table of mode pairs.
 -- Assumes nothing.
 use Prim.Native.Nat.{ℕ, _<_}
-use mathlib.Core.Path.{_≡_, refl, ap}
+use mathlib.Core.Path.{_≡_, refl, ap, subst}
 use mathlib.Core.Logic.{_↔_, _≢_, _⊎_, ⊎-elim}
 use mathlib.Core.List.{List}
 use Rattle.model.specs.declared.Label.the-variants.{Absent}
@@ -11,18 +11,22 @@ use Rattle.model.specs.declared.Mode.the-variants.{Execute}
 use Rattle.model.specs.declared.Request.the-variants.{Get}
 use Rattle.model.specs.declared.Decoded.the-variants.{Says}
 use Rattle.model.specs.declared.Decision.the-variants.{StarBroken}
+use Rattle.model.specs.declared.Response.{Response}
 use Rattle.model.specs.Modes.{needsLabel}
 use Rattle.model.specs.State.{object}
 use Rattle.model.specs.Properties.{Star}
 use Rattle.model.specs.ModePairs.{KeptByHeld}
+use Rattle.model.specs.Decisions.{number}
 use Rattle.model.specs.Requests.{decode}
 use Rattle.model.specs.Rules.{changed, afterwards}
 use Rattle.model.specs.Runs.{reply}
 use Rattle.model.specs.Beginnings.{Reached}
 use Rattle.model.proofs.Tests.{apart, distinct}
 use Rattle.model.proofs.Requests.{decode-range}
+use Rattle.invariants.proofs.Steps.{sound-afterwards}
+use Rattle.invariants.proofs.Outcomes.{reply-granted}
 use Rattle.invariants.proofs.ModePairs.{star-added}
-use Rattle.images.proofs.Reached.{sound-reached}
+use Rattle.images.proofs.Reached.{sound-reached, respond-says}
 use Rattle.refusals.proofs.FirstRefusal.{reply-first-cause, reply-no-cause}
 
 -- a first cause that is not that of a row is one of the later rows
@@ -37,17 +41,24 @@ module _ (m : Monitor) (R : Reached m) (g : List ℕ) (s o : ℕ) (x : Mode) (sa
       let b = decode-range g (Get s o x) says in
       star-added m (sound-reached m R) s o x (b .0) (b .1) (λ n e. h (λ q. apart n (ap needsLabel q), e))
 
-  -- "The check decides by it": a get that no earlier check refuses gets 9 exactly where the entry of an access held, with the one wanted, is not kept
-  pub get-by-table : (reply g m < 2) ⊎ (reply g m ≡ 9) → (reply g m ≡ 9) ↔ (KeptByHeld m s o x → ⊥)
+  -- a get that is granted leaves a state with the star property
+  star-after : reply g m < 2 → Star (afterwards (Get s o x) m)
+  star-after h =
+      sound-afterwards (Get s o x) m (decode-range g (Get s o x) says) (sound-reached m R)
+      (reply-granted (Get s o x) m .0 (subst (λ (r : Response). number (r .decision) < 2) (respond-says g (Get s o x) m says) h)) .secure .star
+
+  kept-granted : reply g m < 2 → KeptByHeld m s o x
+  kept-granted h = by-held (reply-no-cause m R g (Get s o x) says .0 h .1 .1 .1 .0) .0 (star-after h)
+
+  nine-not-kept : reply g m ≡ 9 → KeptByHeld m s o x → ⊥
+  nine-not-kept e K =
+      let first = reply-first-cause m R g (Get s o x) says StarBroken refl .0 e in
+      let labelled = over (distinct _ _ refl) (over (distinct _ _ refl) (over (distinct _ _ refl) (over (distinct _ _ refl) first .1) .1) .1) in
+      ⊎-elim (λ a. a .1 (by-held (labelled .0) .1 K)) (λ c. absurd (c .1)) (over (distinct _ _ refl) (labelled .1) .1)
+
+  -- "The check decides by it": a get that no earlier check refuses is granted where, with each access held, the entry is kept, and else gets 9
+  pub get-by-table : (reply g m < 2) ⊎ (reply g m ≡ 9) → ((reply g m < 2) ↔ KeptByHeld m s o x) × ((reply g m ≡ 9) ↔ (KeptByHeld m s o x → ⊥))
   get-by-table passed = (
-    λ e K.
-        let first = reply-first-cause m R g (Get s o x) says StarBroken refl .0 e in
-        let labelled = over (distinct _ _ refl) (over (distinct _ _ refl) (over (distinct _ _ refl) (over (distinct _ _ refl) first .1) .1) .1) in
-        ⊎-elim (λ a. a .1 (by-held (labelled .0) .1 K)) (λ c. absurd (c .1)) (over (distinct _ _ refl) (labelled .1) .1),
-    λ n. ⊎-elim
-        (λ (granted : reply g m < 2).
-        let none = reply-no-cause m R g (Get s o x) says .0 granted in
-        absurd (none .1 .1 .1 .1 .1 .0 (λ T. n (by-held (none .1 .1 .1 .0) .0 T))))
-        (λ (e : reply g m ≡ 9). e)
-        passed,
+    (kept-granted, λ K. ⊎-elim (λ (h : reply g m < 2). h) (λ (e : reply g m ≡ 9). absurd (nine-not-kept e K)) passed),
+    (nine-not-kept, λ n. ⊎-elim (λ (h : reply g m < 2). absurd (n (kept-granted h))) (λ (e : reply g m ≡ 9). e) passed),
   )

@@ -3,3 +3,4 @@ pub mod MarkedRun
 pub mod Lowering
 pub mod Programs
 pub mod Witnesses
+pub mod ModePairs

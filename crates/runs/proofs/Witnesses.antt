@@ -10,7 +10,7 @@ use lib.ListN.{length, getD, take, replicate, length-append, length-replicate}
 use Rattle.bits.specs.Bits.{odd, toBits, fromBits, bytesToBits, field, cut, allZero, Bytes}
 use Rattle.bits.specs.Laws.{bytes-bitsToBytes, length-bitsToBytes}
 use Rattle.model.specs.declared.Monitor.{Monitor}
-use Rattle.model.specs.declared.Mode.the-variants.{Read}
+use Rattle.model.specs.declared.Mode.the-variants.{Read, Append}
 use Rattle.model.specs.declared.Request.the-variants.{Get, Create, ChangeLevel}
 use Rattle.model.specs.declared.Decoded.the-variants.{Says}
 use Rattle.model.specs.declared.Decision.the-variants.{Granted, NotEnrolled}
@@ -89,6 +89,13 @@ pub record Shown : Type 0 where
   -- an access that is held, after step 5, and a subject that is not enrolled
   pub held-there : has Read (heldBy (object (stateAt 5) 0) 1) ≡ true
   pub absent-there : enrolled (stateAt 5) 15 ≡ false
+  -- gets that come to check 9: one is granted, at step 12; of another, at step 13, a mode that is held stands against the one wanted
+  pub read-says : decode (getD markedBytes 11 []) ≡ Says (Get 1 1 Read)
+  pub read-granted : reply (getD markedBytes 11 []) (stateAt 11) ≡ 0
+  pub append-says : decode (getD markedBytes 12 []) ≡ Says (Get 1 0 Append)
+  pub append-refused : reply (getD markedBytes 12 []) (stateAt 12) ≡ 9
+  pub read-held : has Read (heldBy (object (stateAt 12) 1) 1) ≡ true
+  pub not-above : dominates (object (stateAt 12) 0 .label) (object (stateAt 12) 1 .label) ≡ false
 
 pub shown : Shown
 unfolding markedBytes rows tableW tableFrom tableForm labelForm labelFrom tableChecks begin readTable allZero bytesToBits toBits odd cut fromBits field decode decodeFields fields wellFormed modeAllowed unusedZero request respond step after checks already changed starAll starFor starFrom starPair implies unless answer simpleAll has add remove notLowered sameLabel dominates levelDominates compare
@@ -104,6 +111,12 @@ shown =
       refused-there = refl;
       held-there = refl;
       absent-there = refl;
+      read-says = refl;
+      read-granted = refl;
+      append-says = refl;
+      append-refused = refl;
+      read-held = refl;
+      not-above = refl;
     }
 
 -- replies under 2 and from 2 on, as the theorems ask for them
