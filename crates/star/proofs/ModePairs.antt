@@ -11,7 +11,7 @@ use borrow.Author.Tests.{eqb-true}
 use Rattle.model.specs.declared.Mode.{Mode}
 use Rattle.model.specs.declared.Mode.the-variants.{Read, Write, Append, Execute}
 use Rattle.model.specs.Modes.{has, add, weight, anyObserves, anyAlters, anyNeedsLabel}
-use Rattle.model.specs.ModePairs.{entry}
+use Rattle.model.specs.ModePairs.{wanted, held, both, entry}
 use Rattle.model.proofs.Tests.{toT}
 use Rattle.model.proofs.Modes.{modes-out}
 use Rattle.model.proofs.ModePairs.{pairs-out}
@@ -41,15 +41,15 @@ unfolding has add
 alone x = eqb-true _ _ (modes-out (λ x. eqb (add x 0) (weight x)) refl x)
 
 -- the modes whose rows ask something of the label of the object wanted are those that observe; of the object held, those that alter
-pub observes-asking : (n : ℕ) → n < 256 → not (eqb (bitAnd n (modesAsking 1)) 0) ≡ anyObserves n
+pub observes-asking : (n : ℕ) → n < 256 → not (eqb (bitAnd n (modesAsking (coded wanted))) 0) ≡ anyObserves n
 unfolding has
-observes-asking = some-and (modesAsking 1) anyObserves refl
+observes-asking = some-and (modesAsking (coded wanted)) anyObserves refl
 
-pub alters-asking : (n : ℕ) → n < 256 → not (eqb (bitAnd n (modesAsking 2)) 0) ≡ anyAlters n
+pub alters-asking : (n : ℕ) → n < 256 → not (eqb (bitAnd n (modesAsking (coded held))) 0) ≡ anyAlters n
 unfolding has
-alters-asking = some-and (modesAsking 2) anyAlters refl
+alters-asking = some-and (modesAsking (coded held)) anyAlters refl
 
 -- of either, those that need a label
-pub asks-asking : (n : ℕ) → n < 256 → not (eqb (bitAnd n (modesAsking 3)) 0) ≡ anyNeedsLabel n
+pub asks-asking : (n : ℕ) → n < 256 → not (eqb (bitAnd n (modesAsking (coded both))) 0) ≡ anyNeedsLabel n
 unfolding has
-asks-asking = some-and (modesAsking 3) anyNeedsLabel refl
+asks-asking = some-and (modesAsking (coded both)) anyNeedsLabel refl

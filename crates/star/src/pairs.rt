@@ -18,13 +18,13 @@ const BOTH: u8 = WANTED | HELD;
 
 // A row for each mode held; in each row the modes wanted: r, w, a, e.
 const PAIRS: [[u8; 4]; 4] = [
-    // r held: what is wanted for w or a has a label that dominates that of what is read
+    // r held: the label of what is wanted for w or a dominates its label
     [NEITHER, WANTED, WANTED, NEITHER],
-    // w held, which reads and writes: r wanted asks the one, a wanted the other, w wanted both, so that the labels are equal
+    // w held, which reads and writes: its label dominates that of what is wanted for r, that of what is wanted for a dominates it; for w both
     [HELD, BOTH, WANTED, NEITHER],
-    // a held: what is wanted for r or w has a label that is dominated by that of what is written
+    // a held: its label dominates that of what is wanted for r or w
     [HELD, HELD, NEITHER, NEITHER],
-    // e held: it neither reads nor writes
+    // e held, which neither reads nor writes
     [NEITHER, NEITHER, NEITHER, NEITHER],
 ];
 
