@@ -76,7 +76,7 @@ module _ (m : Monitor) (S : Sound m) (s o : ℕ) (x : Mode) (s-below : s < 16) (
       (held-or-wanted t q z h))
       (held-or-wanted t p y g))
 
-  -- adding the access keeps the star property exactly where the entry of each access that is held is kept
+  -- adding the access, to an object that is labelled where its mode needs it, keeps star exactly where the entry with each access held is kept
   pub star-added : (needsLabel x ≡ true → object m o .label ≢ Absent) → Star (withAccess m s o x) ↔ KeptByHeld m s o x
   star-added there = (
     λ T p h e.

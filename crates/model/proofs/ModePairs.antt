@@ -16,6 +16,34 @@ use Rattle.model.proofs.Tests.{split, apart, clash, and-left, and-right
 use Rattle.model.proofs.Modes.{allModes, modes-out}
 use Rattle.model.proofs.Levels.{dominates-decides, dominates-refl}
 
+-- ---- what each word asks
+
+-- two labels of which one alone dominates the other
+abbrev low : Label
+low = Present (record { class = 0; needs = 0 })
+
+abbrev high : Label
+high = Present (record { class = 1; needs = 0 })
+
+high-low : Dominates high low
+unfolding dominates levelDominates compare
+high-low = dominates-decides high low .0 refl
+
+low-low : Dominates low low
+unfolding dominates levelDominates compare
+low-low = dominates-decides low low .0 refl
+
+low-high : {P : Type 0} → Dominates low high → P
+unfolding dominates levelDominates compare
+low-high d = apart (dominates-decides low high .1 d) refl
+
+-- computed: an object held that is labelled above the one wanted, the other way, and both alike
+pub each-word : Kept neither high low × Kept neither low high
+    × Kept wanted low high × (Kept wanted high low → ⊥)
+    × Kept held high low × (Kept held low high → ⊥)
+    × Kept both low low × (Kept both high low → ⊥) × (Kept both low high → ⊥)
+each-word = (tt, tt, high-low, low-high, high-low, low-high, (low-low, low-low), λ k. low-high (k .0), λ k. low-high (k .1))
+
 -- ---- each entry
 
 -- a test at each two modes
@@ -35,11 +63,12 @@ asks-wanted x y = same-bool _ _ (and-left (Bool·beq (asksWanted (entry x y)) (o
 pub asks-held : (x y : Mode) → asksHeld (entry x y) ≡ (observes y && alters x)
 asks-held x y = same-bool _ _ (and-right (Bool·beq (asksWanted (entry x y)) (observes x && alters y)) _ (pairs-out asStar sixteen x y))
 
--- a mode observes where an entry of its row asks something of the label of the other object over that of its own, and alters where one
--- asks it the other way
+-- some mode passes the test
 abbrev some : (Mode → Bool) → Bool
 some f = f Read || (f Write || (f Append || f Execute))
 
+-- a mode observes where an entry of its row asks that the label of the object wanted dominate, and alters where one asks it of that of
+-- its own object, which is held
 pub row-observes : (x : Mode) → some (λ y. asksWanted (entry x y)) ≡ observes x
 row-observes x = same-bool _ _ (modes-out (λ x. Bool·beq (some (λ y. asksWanted (entry x y))) (observes x)) refl x)
 
@@ -66,21 +95,6 @@ entry-star x y p q =
     )
 
 -- ---- and no other table has this
-
--- two labels of which one alone dominates the other
-abbrev low : Label
-low = Present (record { class = 0; needs = 0 })
-
-abbrev high : Label
-high = Present (record { class = 1; needs = 0 })
-
-high-low : Dominates high low
-unfolding dominates levelDominates compare
-high-low = dominates-decides high low .0 refl
-
-low-high : {P : Type 0} → Dominates low high → P
-unfolding dominates levelDominates compare
-low-high d = apart (dominates-decides low high .1 d) refl
 
 -- by these two an entry is known
 wanted-shown : (a : Asked) → Kept a high low → asksWanted a ≡ false

@@ -30,12 +30,12 @@ two-accesses m s p q x y T hp hq = (
       (λ a. ⊎-elim
       (λ b. rw (a .0, a .1, b .0, b .1) (same-object x x (object m p .label) (λ n. hp)))
       (λ b. rw (a .0, a .1, b .0, b .1) k)
-      (T .only t j u h .1))
+      (T .only t j u h))
       (λ a. ⊎-elim
       (λ b. rw (a .0, a .1, b .0, b .1) (turned x y _ _ k))
       (λ b. rw (a .0, a .1, b .0, b .1) (same-object y y (object m q .label) (λ n. hq)))
-      (T .only t j u h .1))
-      (T .only t i z g .1)),
+      (T .only t j u h))
+      (T .only t i z g)),
 )
 
 -- ---- each entry has such a state
@@ -57,14 +57,14 @@ reached l x = record { live = true; owner = 0; label = Present l; rights = set n
 abbrev pub twoHeld : Mode → Mode → Level → Level → Monitor
 twoHeld x y a b = withObject (withObject emptyMonitor 0 (reached a x)) 1 (reached b y)
 
-held-there : (l : Level) (x : Mode) (t : ℕ) (z : Mode) → has z (heldBy (reached l x) t) ≡ true → (t ≡ 0) × (z ≡ x)
+held-there : (l : Level) (x : Mode) (t : ℕ) (z : Mode) → has z (heldBy (reached l x) t) ≡ true → z ≡ x
 held-there l x t z =
-    set-all (λ t n. has z n ≡ true → (t ≡ 0) × (z ≡ x)) noModes 0 (weight x) 0
-    (λ j e. apart e (ap (has z) (replicate-at 0 16 j) ∙ has-none z)) (λ e. (refl, one-mode x z e)) t
+    set-all (λ t n. has z n ≡ true → z ≡ x) noModes 0 (weight x) 0
+    (λ j e. apart e (ap (has z) (replicate-at 0 16 j) ∙ has-none z)) (one-mode x z) t
 
 -- what an object is held by: the first access to object 0, the second to object 1
 abbrev Found : Mode → Mode → ℕ → Mode → ℕ → Object → Type 0
-Found x y t z o ob = has z (heldBy ob t) ≡ true → (t ≡ 0) × (((o ≡ 0) × (z ≡ x)) ⊎ ((o ≡ 1) × (z ≡ y)))
+Found x y t z o ob = has z (heldBy ob t) ≡ true → ((o ≡ 0) × (z ≡ x)) ⊎ ((o ≡ 1) × (z ≡ y))
 
 two-held : (x y : Mode) (a b : Level) → Two (twoHeld x y a b) 0 0 1 x y
 two-held x y a b =
@@ -75,8 +75,8 @@ two-held x y a b =
           set-all (Found x y t z) (withObject emptyMonitor 0 (reached a x) .objects) 1 (reached b y) noObject
           (set-all (Found x y t z) (emptyMonitor .objects) 0 (reached a x) noObject
           (λ j e. apart e (ap (λ (ob : Object). has z (heldBy ob t)) (replicate-at noObject 64 j) ∙ ap (has z) (replicate-at 0 16 t) ∙ has-none z))
-          (λ e. let h = held-there a x t z e in (h .0, inl (refl, h .1))))
-          (λ e. let h = held-there b y t z e in (h .0, inr (refl, h .1))) o;
+          (λ e. inl (refl, held-there a x t z e)))
+          (λ e. inr (refl, held-there b y t z e)) o;
     }
 
 -- "each of its sixteen entries": for every two modes and every two levels

@@ -51,17 +51,17 @@ abbrev pub Tabled : Monitor → Type 0
 Tabled m =
     (s p q : ℕ) (x y : Mode) → Holds m s p x → Holds m s q y → Kept (entry x y) (object m p .label) (object m q .label)
 
--- by each access that subject s holds, and access x to object o, which it wants
+-- the entry is kept by each access that subject s holds, as held, and access x to object o, as wanted
 abbrev pub KeptByHeld : Monitor → ℕ → ℕ → Mode → Type 0
 KeptByHeld m s o x = (p : ℕ) (h : Mode) → Holds m s p h → Kept (entry h x) (object m p .label) (object m o .label)
 
--- subject s has access x to object p and access y to object q, and nobody has another
+-- subject s has access x to object p and access y to object q, and nobody has another access than these two
 pub record Two (m : Monitor) (s p q : ℕ) (x y : Mode) : Type 0 where
   pub first : Holds m s p x
   pub second : Holds m s q y
-  pub only : (t o : ℕ) (z : Mode) → Holds m t o z → (t ≡ s) × (((o ≡ p) × (z ≡ x)) ⊎ ((o ≡ q) × (z ≡ y)))
+  pub only : (t o : ℕ) (z : Mode) → Holds m t o z → ((o ≡ p) × (z ≡ x)) ⊎ ((o ≡ q) × (z ≡ y))
 
--- whether an entry asks something of the label of the object wanted, and of that of the object held
+-- whether an entry asks that the label of the object wanted dominate, and whether it asks that that of the object held does
 abbrev pub asksWanted : Asked → Bool
 asksWanted neither = false
 asksWanted wanted = true

@@ -56,7 +56,7 @@ module _ (m : Monitor) (R : Reached m) (g : List ℕ) (s o : ℕ) (x : Mode) (sa
       let labelled = over (distinct _ _ refl) (over (distinct _ _ refl) (over (distinct _ _ refl) (over (distinct _ _ refl) first .1) .1) .1) in
       ⊎-elim (λ a. a .1 (by-held (labelled .0) .1 K)) (λ c. absurd (c .1)) (over (distinct _ _ refl) (labelled .1) .1)
 
-  -- "The check decides by it": a get that no earlier check refuses is granted where, with each access held, the entry is kept, and else gets 9
+  -- "The check decides by it": a get that gets 0, 1 or 9 is granted where, with each access held, the entry is kept, and else gets 9
   pub get-by-table : (reply g m < 2) ⊎ (reply g m ≡ 9) → ((reply g m < 2) ↔ KeptByHeld m s o x) × ((reply g m ≡ 9) ↔ (KeptByHeld m s o x → ⊥))
   get-by-table passed = (
     (kept-granted, λ K. ⊎-elim (λ (h : reply g m < 2). h) (λ (e : reply g m ≡ 9). absurd (nine-not-kept e K)) passed),

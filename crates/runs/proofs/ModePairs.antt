@@ -20,17 +20,17 @@ use Rattle.runs.proofs.Witnesses.{markedBytes, stateAt, table-met, show
 reached-at : (k : ℕ) → Reached (stateAt k)
 reached-at k = record { beginning = table tableW; accepted = table-met; requests = take k markedBytes; reaches = refl }
 
--- step 12: s1, who holds r on o0 and a on o1, gets r on o1; with each of the two the entry is kept
-pub step-12-kept : KeptByHeld (stateAt 11) 1 1 Read
-step-12-kept =
-    let g = get-by-table (stateAt 11) (reached-at 11) (getD markedBytes 11 []) 1 1 Read (shown .read-says) in
-    g (inl (omega (arith, shown .read-granted))) .0 .0 (omega (arith, shown .read-granted))
+-- step 8: s1 holds r on o0 and gets a on o1, whose label is above; with each of its accesses the entry is kept
+pub step-8-kept : KeptByHeld (stateAt 7) 1 1 Append × Holds (stateAt 7) 1 0 Read × (entry Read Append ≡ wanted)
+step-8-kept =
+    let g = get-by-table (stateAt 7) (reached-at 7) (getD markedBytes 7 []) 1 1 Append (shown .above-says) in
+    (g (inl (omega (arith, shown .above-granted))) .0 .0 (omega (arith, shown .above-granted)), shown .first-held, refl)
 
 -- step 13: s1 wants a on o0 and is refused with 9, so that with one of its accesses the entry is not kept
 pub step-13-not-kept : KeptByHeld (stateAt 12) 1 0 Append → ⊥
 step-13-not-kept =
-    get-by-table (stateAt 12) (reached-at 12) (getD markedBytes 12 []) 1 0 Append (shown .append-says) (inr (shown .append-refused)) .1 .0 (shown .append-refused)
+    get-by-table (stateAt 12) (reached-at 12) (getD markedBytes 12 []) 1 0 Append (shown .below-says) (inr (shown .below-refused)) .1 .0 (shown .below-refused)
 
 -- it is r on o1: the entry says wanted, and the label of o0 does not dominate that of o1
 pub step-13-entry : Holds (stateAt 12) 1 1 Read × (entry Read Append ≡ wanted) × (Kept (entry Read Append) (object (stateAt 12) 1 .label) (object (stateAt 12) 0 .label) → ⊥)
-step-13-entry = (shown .read-held, refl, λ k. apart (dominates-decides _ _ .1 k) (shown .not-above))
+step-13-entry = (shown .second-held, refl, λ k. apart (dominates-decides _ _ .1 k) (shown .not-above))

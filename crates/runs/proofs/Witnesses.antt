@@ -89,12 +89,13 @@ pub record Shown : Type 0 where
   -- an access that is held, after step 5, and a subject that is not enrolled
   pub held-there : has Read (heldBy (object (stateAt 5) 0) 1) ≡ true
   pub absent-there : enrolled (stateAt 5) 15 ≡ false
-  -- gets that come to check 9: one is granted, at step 12; of another, at step 13, a mode that is held stands against the one wanted
-  pub read-says : decode (getD markedBytes 11 []) ≡ Says (Get 1 1 Read)
-  pub read-granted : reply (getD markedBytes 11 []) (stateAt 11) ≡ 0
-  pub append-says : decode (getD markedBytes 12 []) ≡ Says (Get 1 0 Append)
-  pub append-refused : reply (getD markedBytes 12 []) (stateAt 12) ≡ 9
-  pub read-held : has Read (heldBy (object (stateAt 12) 1) 1) ≡ true
+  -- gets of a by a subject that holds r on another object: granted at step 8, refused at step 13
+  pub first-held : has Read (heldBy (object (stateAt 7) 0) 1) ≡ true
+  pub above-says : decode (getD markedBytes 7 []) ≡ Says (Get 1 1 Append)
+  pub above-granted : reply (getD markedBytes 7 []) (stateAt 7) ≡ 0
+  pub second-held : has Read (heldBy (object (stateAt 12) 1) 1) ≡ true
+  pub below-says : decode (getD markedBytes 12 []) ≡ Says (Get 1 0 Append)
+  pub below-refused : reply (getD markedBytes 12 []) (stateAt 12) ≡ 9
   pub not-above : dominates (object (stateAt 12) 0 .label) (object (stateAt 12) 1 .label) ≡ false
 
 pub shown : Shown
@@ -111,11 +112,12 @@ shown =
       refused-there = refl;
       held-there = refl;
       absent-there = refl;
-      read-says = refl;
-      read-granted = refl;
-      append-says = refl;
-      append-refused = refl;
-      read-held = refl;
+      first-held = refl;
+      above-says = refl;
+      above-granted = refl;
+      second-held = refl;
+      below-says = refl;
+      below-refused = refl;
       not-above = refl;
     }
 

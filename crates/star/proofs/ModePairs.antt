@@ -1,6 +1,6 @@
 -- The table of mode pairs in numbers, and the sets of modes that are made from it.
 -- Assumes nothing.
-use Prim.Native.Nat.{ℕ, _<_}
+use Prim.Native.Nat.{ℕ, _+_, _*_, _<_}
 use mathlib.Core.Path.{_≡_, refl}
 use mathlib.Core.Bool.{not}
 use mathlib.Core.List.{List, [], _∷_, map}
@@ -8,15 +8,16 @@ use lib.Dec.{eqb, ltb, ltb→lt}
 use lib.Bits.{bitAnd}
 use lib.ListN.{getD}
 use borrow.Author.Tests.{eqb-true}
+use Rattle.bits.specs.Bits.{bit}
 use Rattle.model.specs.declared.Mode.{Mode}
 use Rattle.model.specs.declared.Mode.the-variants.{Read, Write, Append, Execute}
-use Rattle.model.specs.Modes.{has, add, weight, anyObserves, anyAlters, anyNeedsLabel}
-use Rattle.model.specs.ModePairs.{wanted, held, both, entry}
+use Rattle.model.specs.Modes.{has, add, weight, observes, alters, anyObserves, anyAlters, anyNeedsLabel}
+use Rattle.model.specs.ModePairs.{Asked, neither, wanted, held, both, entry, asksWanted, asksHeld}
 use Rattle.model.proofs.Tests.{toT}
 use Rattle.model.proofs.Modes.{modes-out}
 use Rattle.model.proofs.ModePairs.{pairs-out}
 use Rattle.labels.proofs.Sets.{some-and}
-use Rattle.star.specs.ModePairs.{place, coded, modesAsking}
+use Rattle.star.specs.ModePairs.{place, coded, rowAsks, modesAsking}
 
 -- ---- the table
 
@@ -34,13 +35,24 @@ rows = map (λ x. map (λ y. coded (entry x y)) modes) modes
 pub entry-at : (x y : Mode) → getD (getD rows (place x) []) (place y) 0 ≡ coded (entry x y)
 entry-at x y = eqb-true _ _ (pairs-out (λ x y. eqb (getD (getD rows (place x) []) (place y) 0) (coded (entry x y))) refl x y)
 
+-- a bit for each label that is to dominate
+pub coded-bits : (a : Asked) → coded a ≡ bit (asksWanted a) + 2 * bit (asksHeld a)
+coded-bits neither = refl
+coded-bits wanted = refl
+coded-bits held = refl
+coded-bits both = refl
+
+-- of a row the first where its mode observes, the second where it alters
+pub row-bits : (x : Mode) → rowAsks x ≡ bit (observes x) + 2 * bit (alters x)
+row-bits x = eqb-true _ _ (modes-out (λ x. eqb (rowAsks x) (bit (observes x) + 2 * bit (alters x))) refl x)
+
 -- ---- the sets made from it
 
 pub alone : (x : Mode) → add x 0 ≡ weight x
 unfolding has add
 alone x = eqb-true _ _ (modes-out (λ x. eqb (add x 0) (weight x)) refl x)
 
--- the modes whose rows ask something of the label of the object wanted are those that observe; of the object held, those that alter
+-- the modes whose rows ask that the label of the object wanted dominate are those that observe; that of the object held, those that alter
 pub observes-asking : (n : ℕ) → n < 256 → not (eqb (bitAnd n (modesAsking (coded wanted))) 0) ≡ anyObserves n
 unfolding has
 observes-asking = some-and (modesAsking (coded wanted)) anyObserves refl
@@ -49,7 +61,7 @@ pub alters-asking : (n : ℕ) → n < 256 → not (eqb (bitAnd n (modesAsking (c
 unfolding has
 alters-asking = some-and (modesAsking (coded held)) anyAlters refl
 
--- of either, those that need a label
+-- one of the two, those that need a label
 pub asks-asking : (n : ℕ) → n < 256 → not (eqb (bitAnd n (modesAsking (coded both))) 0) ≡ anyNeedsLabel n
 unfolding has
 asks-asking = some-and (modesAsking (coded both)) anyNeedsLabel refl

@@ -19,24 +19,24 @@ place Write = 1
 place Append = 2
 place Execute = 3
 
--- an entry as a number, with a bit for each label of which it asks something
+-- an entry as a number: 1 where it asks that the label of the object wanted dominate, 2 that of the object held, and their sum
 abbrev pub coded : Asked → ℕ
 coded neither = 0
 coded wanted = 1
 coded held = 2
 coded both = 3
 
--- all that the entries of a row ask
+-- all that the entries in the row of a mode ask, as such a number
 abbrev pub rowAsks : Mode → ℕ
 rowAsks x = bitOr (bitOr (bitOr (coded (entry x Read)) (coded (entry x Write))) (coded (entry x Append))) (coded (entry x Execute))
 
--- a mode as a set where its row asks something of the label, else no mode
-abbrev pub ifAsking : ℕ → Mode → ℕ
-ifAsking k x = cond (eqb (bitAnd (rowAsks x) k) 0) 0 (weight x)
+-- a mode as a set where its row asks it of the label that k names, 1 or 2, or of one of both, 3; else no mode
+abbrev pub ifAsking : Mode → ℕ → ℕ
+ifAsking x k = cond (eqb (bitAnd (rowAsks x) k) 0) 0 (weight x)
 
--- the modes whose rows ask something of it
+-- the modes whose rows ask it
 abbrev pub modesAsking : ℕ → ℕ
-modesAsking k = bitOr (bitOr (bitOr (ifAsking k Read) (ifAsking k Write)) (ifAsking k Append)) (ifAsking k Execute)
+modesAsking k = bitOr (bitOr (bitOr (ifAsking Read k) (ifAsking Write k)) (ifAsking Append k)) (ifAsking Execute k)
 
 -- of every two accesses that subject s holds, the entry is kept by the labels; `at` has the record of each number
 abbrev pub TabledFor : ℕ → (ℕ → Object) → Type 0

@@ -46,7 +46,7 @@ fn entry(held: Mode, wanted: Mode) -> u8
     PAIRS[place(held)][place(wanted)]
 }
 
-// All that the entries of a row ask.
+// All that the entries of a row ask, as the sum of WANTED and HELD.
 fn row_asks(held: Mode) -> u8
     ensures { λ r. ⌜ r ≡ rowAsks held ⌝ }
 {
@@ -56,35 +56,35 @@ fn row_asks(held: Mode) -> u8
         | entry(held, Mode::Execute)
 }
 
-// The mode alone, as a set, where its row asks something of the label; else no mode.
-fn if_asking(held: Mode, label: u8) -> u8
-    ensures { λ r. ⌜ r ≡ ifAsking label held ⌝ }
+// The mode alone, as a set, where its row asks that this label dominate: WANTED, HELD, or BOTH for one of the two; else no mode.
+fn if_asking(held: Mode, which: u8) -> u8
+    ensures { λ r. ⌜ r ≡ ifAsking held which ⌝ }
 {
-    if row_asks(held) & label != 0 {
+    if row_asks(held) & which != 0 {
         add(held, 0)
     } else {
         0
     }
 }
 
-// The modes whose rows ask something of the label of the object wanted, of that of the object held, or of either.
-fn modes_asking(label: u8) -> u8
-    ensures { λ r. ⌜ r ≡ modesAsking label ⌝ }
+// The modes whose rows ask it.
+fn modes_asking(which: u8) -> u8
+    ensures { λ r. ⌜ r ≡ modesAsking which ⌝ }
 {
-    if_asking(Mode::Read, label)
-        | if_asking(Mode::Write, label)
-        | if_asking(Mode::Append, label)
-        | if_asking(Mode::Execute, label)
+    if_asking(Mode::Read, which)
+        | if_asking(Mode::Write, which)
+        | if_asking(Mode::Append, which)
+        | if_asking(Mode::Execute, which)
 }
 
-// Whether a mode of the set observes: its row asks that the label of another object dominate that of its own.
+// Whether a mode of the set observes: its row asks that the label of the object wanted dominate.
 pub fn table_observes(n: u8) -> bool
     ensures { λ r. ⌜ r ≡ anyObserves n ⌝ }
 {
     n & modes_asking(WANTED) != 0
 }
 
-// Whether a mode of the set alters: its row asks that the label of its own object dominate that of another.
+// Whether a mode of the set alters: its row asks that the label of the object held, its own, dominate.
 pub fn table_alters(n: u8) -> bool
     ensures { λ r. ⌜ r ≡ anyAlters n ⌝ }
 {

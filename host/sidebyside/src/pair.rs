@@ -62,7 +62,7 @@ impl Met {
         }
     }
 
-    /// Each pair that asks something was not kept more often than this; one that asks nothing was always kept.
+    /// Each pair that asks something was met with labels that do not keep it, and more often than this; one that asks nothing, never.
     pub fn check_not_kept(&self, often: usize) {
         for pair in Pair::all() {
             let times = self.not_kept.of(pair.number());

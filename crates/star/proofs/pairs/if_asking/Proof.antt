@@ -22,15 +22,15 @@ add-requires c κs = tt
 returns : tie.Need-returns
 returns c =
     let start = c .before .before .before .args in
-    let asks : eqb (bitAnd (rowAsks (start .held)) (start .label)) 0 ≡ false =
-    ap (λ (n : ℕ). eqb (bitAnd n (start .label)) 0) (sym (c .before .before .row-asks .ensures)) ∙ ne-eqb _ 0 (c .before .if1 .taken) in
+    let asks : eqb (bitAnd (rowAsks (start .held)) (start .which)) 0 ≡ false =
+    ap (λ (n : ℕ). eqb (bitAnd n (start .which)) 0) (sym (c .before .before .row-asks .ensures)) ∙ ne-eqb _ 0 (c .before .if1 .taken) in
     c .add .ensures ∙ alone (start .held) ∙ sym (cond-false _ 0 (weight (start .held)) asks)
 
 returns-2 : tie.Need-returns-2
 returns-2 c =
     let start = c .before .before .args in
-    let none : eqb (bitAnd (rowAsks (start .held)) (start .label)) 0 ≡ true =
-    ap (λ (n : ℕ). eqb (bitAnd n (start .label)) 0) (sym (c .before .row-asks .ensures)) ∙ eq-eqb _ 0 (c .if1 .left) in
+    let none : eqb (bitAnd (rowAsks (start .held)) (start .which)) 0 ≡ true =
+    ap (λ (n : ℕ). eqb (bitAnd n (start .which)) 0) (sym (c .before .row-asks .ensures)) ∙ eq-eqb _ 0 (c .if1 .left) in
     sym (cond-true _ 0 (weight (start .held)) none)
 
 pub if-asking-spec : {M : Type 1} → statement M
