@@ -4,7 +4,6 @@ use Prim.Native.Nat.{ℕ}
 use mathlib.Core.Path.{_≡_, refl, ap, _∙_}
 use mathlib.Core.Logic.{_↔_, _≢_, _⊎_, ⊎-elim, inl, inr}
 use mathlib.Core.Bool.{true}
-use lib.ListN.{set}
 use Rattle.model.specs.declared.Level.{Level}
 use Rattle.model.specs.declared.Label.the-variants.{Absent, Present}
 use Rattle.model.specs.declared.Object.{Object}
@@ -13,7 +12,7 @@ use Rattle.model.specs.declared.Monitor.{Monitor}
 use Rattle.model.specs.Tests.{implies}
 use Rattle.model.specs.Levels.{present}
 use Rattle.model.specs.Modes.{weight, has}
-use Rattle.model.specs.State.{noModes, noObject, object, heldBy, withObject, emptyMonitor}
+use Rattle.model.specs.State.{noModes, noObject, object, heldBy, withOwner, withLabel, withRights, withHeld, withObject, emptyMonitor}
 use Rattle.model.specs.Properties.{Star}
 use Rattle.model.specs.ModePairs.{entry, Kept, Two}
 use Rattle.model.proofs.Tests.{apart, clash, implies-out, set-all, replicate-at}
@@ -49,15 +48,15 @@ its-mode : (x : Mode) → has x (weight x) ≡ true
 unfolding has
 its-mode x = modes-out (λ x. has x (weight x)) refl x
 
--- a live object with this label, to which subject 0 has this access
-abbrev pub reached : Level → Mode → Object
-reached l x = record { live = true; owner = 0; label = Present l; rights = set noModes 0 (weight x); held = set noModes 0 (weight x) }
+-- an object of subject 0 with this label, to which it has this right and this access
+abbrev pub heldObject : Level → Mode → Object
+heldObject l x = withHeld (withRights (withLabel (withOwner noObject 0) (Present l)) 0 (weight x)) 0 (weight x)
 
 -- subject 0 has access x to object 0 and access y to object 1
 abbrev pub twoHeld : Mode → Mode → Level → Level → Monitor
-twoHeld x y a b = withObject (withObject emptyMonitor 0 (reached a x)) 1 (reached b y)
+twoHeld x y a b = withObject (withObject emptyMonitor 0 (heldObject a x)) 1 (heldObject b y)
 
-held-there : (l : Level) (x : Mode) (t : ℕ) (z : Mode) → has z (heldBy (reached l x) t) ≡ true → z ≡ x
+held-there : (l : Level) (x : Mode) (t : ℕ) (z : Mode) → has z (heldBy (heldObject l x) t) ≡ true → z ≡ x
 held-there l x t z =
     set-all (λ t n. has z n ≡ true → z ≡ x) noModes 0 (weight x) 0
     (λ j e. apart e (ap (has z) (replicate-at 0 16 j) ∙ has-none z)) (one-mode x z) t
@@ -72,8 +71,8 @@ two-held x y a b =
       first = its-mode x;
       second = its-mode y;
       only = λ t o z.
-          set-all (Found x y t z) (withObject emptyMonitor 0 (reached a x) .objects) 1 (reached b y) noObject
-          (set-all (Found x y t z) (emptyMonitor .objects) 0 (reached a x) noObject
+          set-all (Found x y t z) (withObject emptyMonitor 0 (heldObject a x) .objects) 1 (heldObject b y) noObject
+          (set-all (Found x y t z) (emptyMonitor .objects) 0 (heldObject a x) noObject
           (λ j e. apart e (ap (λ (ob : Object). has z (heldBy ob t)) (replicate-at noObject 64 j) ∙ ap (has z) (replicate-at 0 16 t) ∙ has-none z))
           (λ e. inl (refl, held-there a x t z e)))
           (λ e. inr (refl, held-there b y t z e)) o;
