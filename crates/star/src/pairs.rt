@@ -46,7 +46,7 @@ fn entry(held: Mode, wanted: Mode) -> u8
     PAIRS[place(held)][place(wanted)]
 }
 
-// All that the entries of a row ask, as the sum of WANTED and HELD.
+// All that the entries of a row ask: NEITHER, WANTED, HELD or BOTH.
 fn row_asks(held: Mode) -> u8
     ensures { λ r. ⌜ r ≡ rowAsks held ⌝ }
 {
