@@ -12,8 +12,11 @@
  * access is held without the right; 7 no label, of an image: r, w or a is held on an object without one; 8 the simple
  * property would break, of an image: is broken; 9 the star property would break, of an image: is broken; 10 another length;
  * 11 a stray bit in what is absent; 12 an absent subject owns, has a right or holds; 13 the buffer is too short; 14 the new
- * label does not dominate the one that the object has.
- * circmon_compare has four numbers of its own. docs/FORMATS.md has the bytes. */
+ * label does not dominate the one that the object has; 15 the seed of a load is 0.
+ * circmon_compare has four numbers of its own. docs/FORMATS.md has the bytes.
+ *
+ * A function that returns a number with a count beside it returns both in 64 bits: the number in the low byte and the count,
+ * cut to 56 bits, above it. Of what it returns, CIRCMON_NUMBER is the number and CIRCMON_COUNT the count. */
 #ifndef CIRCMON_H
 #define CIRCMON_H
 
@@ -29,6 +32,10 @@ extern "C" {
 #define CIRCMON_DISTINGUISH_BYTES 24
 #define CIRCMON_UNIT_BYTES 3328
 #define CIRCMON_PAGE_BYTES 258
+
+/* The two parts of a number with a count beside it. */
+#define CIRCMON_NUMBER(answer) ((uint8_t)((answer) & 0xFF))
+#define CIRCMON_COUNT(answer) ((uint64_t)(answer) >> 8)
 
 /* The length of a buffer, in bytes. It has 64 bits on every machine, so that this header need not change with one. */
 typedef uint64_t circmon_size;
@@ -115,6 +122,14 @@ uint8_t circmon_distinguish(const uint8_t *a, circmon_size a_len, const uint8_t 
  * dominates b where it returns 0 or 1. An absent label or clearance is no level and is none of the four: do not compare it. A
  * class above 15, which no table, image or request has, is compared as the number that it is. */
 uint8_t circmon_compare(uint8_t class_a, uint16_t needs_a, uint8_t class_b, uint16_t needs_b);
+
+/* ---- Test loads: the same requests in every laboratory */
+
+/* Writes requests of six bytes from a seed, as many whole ones as fit. The same seed gives the same requests on every machine;
+ * docs/FORMATS.md says how they are drawn. Each of them is well formed: no state replies 2 to it.
+ * Returns a number with a count beside it: 0 and how many requests there are, which is requests_len / 6, and any byte behind
+ * the last one is left; or 15 and 0 where the seed is 0, and every byte is left. */
+uint64_t circmon_load(uint32_t seed, uint8_t *requests, circmon_size requests_len);
 
 #ifdef __cplusplus
 }

@@ -1,5 +1,6 @@
 // The monitor for C and Rust, on byte slices: each passes as a pointer and a length. include/circmon.h says what each does.
 mod levels;
+mod loads;
 mod units;
 
 ghost use mathlib.Core.Path.{_≡_};

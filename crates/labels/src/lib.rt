@@ -220,6 +220,7 @@ pub fn number(d: Decision) -> u8
         Decision::AbsentSubject => 12,
         Decision::ShortBuffer => 13,
         Decision::LabelLowered => 14,
+        Decision::ZeroSeed => 15,
     }
 }
 

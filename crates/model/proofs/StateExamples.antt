@@ -7,19 +7,19 @@ use mathlib.Core.List.{List, [], _∷_, map}
 use Rattle.model.specs.declared.Label.the-variants.{Absent}
 use Rattle.model.specs.declared.Subject.{Subject}
 use Rattle.model.specs.declared.Object.{Object}
-use Rattle.model.specs.declared.Decision.the-variants.{Granted, Already, MalformedRequest, NotEnrolled, NotLive, AlreadyLive, NoRight, NoLabel, SimpleBroken, StarBroken, WrongLength, StrayBits, AbsentSubject, ShortBuffer, LabelLowered}
+use Rattle.model.specs.declared.Decision.the-variants.{Granted, Already, MalformedRequest, NotEnrolled, NotLive, AlreadyLive, NoRight, NoLabel, SimpleBroken, StarBroken, WrongLength, StrayBits, AbsentSubject, ShortBuffer, LabelLowered, ZeroSeed}
 use Rattle.model.specs.Levels.{present}
 use Rattle.model.specs.State.{nobody, noObject, clearanceAt, clearance, enrolled, object, rightsOf, heldBy, fresh, emptyMonitor}
 use Rattle.model.specs.Decisions.{number}
 use Rattle.model.proofs.Tests.{replicate-at}
 
--- "Reply 0", "Reply 1", and the numbers of "Refused causes" from 2 to 13, in the order of its rows; "Refused: 14"
+-- "Reply 0", "Reply 1", and the numbers of "Refused causes" from 2 to 13, in the order of its rows; "Refused: 14", "Refused: 15"
 pub every-number : map number
     (Granted ∷ Already
     ∷ MalformedRequest ∷ NotEnrolled ∷ NotLive ∷ AlreadyLive ∷ NoRight ∷ NoLabel ∷ SimpleBroken ∷ StarBroken
     ∷ WrongLength ∷ StrayBits ∷ AbsentSubject ∷ ShortBuffer
-    ∷ LabelLowered ∷ [])
-    ≡ 0 ∷ 1 ∷ 2 ∷ 3 ∷ 4 ∷ 5 ∷ 6 ∷ 7 ∷ 8 ∷ 9 ∷ 10 ∷ 11 ∷ 12 ∷ 13 ∷ 14 ∷ []
+    ∷ LabelLowered ∷ ZeroSeed ∷ [])
+    ≡ 0 ∷ 1 ∷ 2 ∷ 3 ∷ 4 ∷ 5 ∷ 6 ∷ 7 ∷ 8 ∷ 9 ∷ 10 ∷ 11 ∷ 12 ∷ 13 ∷ 14 ∷ 15 ∷ []
 every-number = refl
 
 -- "An object that isn't live has no owner, label, right or access"

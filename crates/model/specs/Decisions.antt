@@ -4,7 +4,7 @@ use Prim.Native.Nat.{ℕ}
 use mathlib.Core.Bool.{Bool}
 use lib.Dec.{leb}
 use Rattle.model.specs.declared.Decision.{Decision}
-use Rattle.model.specs.declared.Decision.the-variants.{Granted, Already, MalformedRequest, NotEnrolled, NotLive, AlreadyLive, NoRight, NoLabel, SimpleBroken, StarBroken, WrongLength, StrayBits, AbsentSubject, ShortBuffer, LabelLowered}
+use Rattle.model.specs.declared.Decision.the-variants.{Granted, Already, MalformedRequest, NotEnrolled, NotLive, AlreadyLive, NoRight, NoLabel, SimpleBroken, StarBroken, WrongLength, StrayBits, AbsentSubject, ShortBuffer, LabelLowered, ZeroSeed}
 
 abbrev pub number : Decision → ℕ
 -- "granted and the state changed"; "An accepted table or image returns 0", "a writing returns 0"
@@ -37,6 +37,8 @@ number AbsentSubject = 12
 number ShortBuffer = 13
 -- "a new label that does not dominate the old" (change request §3)
 number LabelLowered = 14
+-- of a test load: "Refused: 15, seed 0" (change request §5)
+number ZeroSeed = 15
 
 -- every number from 2 on is a refusal
 abbrev pub refuses : Decision → Bool

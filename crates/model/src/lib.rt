@@ -145,6 +145,7 @@ pub enum Decision {
     AbsentSubject,
     ShortBuffer,
     LabelLowered,
+    ZeroSeed,
 }
 
 // The answer to a request or to a beginning, and the monitor after it.

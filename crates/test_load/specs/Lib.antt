@@ -1,0 +1,3 @@
+-- A test load from a seed: the generator, and the requests made of its draws.
+pub mod Generator
+pub mod Load
