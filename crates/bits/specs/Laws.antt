@@ -4,7 +4,7 @@ use mathlib.Core.Path.{_≡_, refl, sym, ap, ap₂, _∙_}
 use Prim.Native.Nat.{ℕ, zero, suc, _+_, _-_, _*_, _/_, _%_, _^_, _≤_, _<_}
 use mathlib.Core.Bool.{Bool, true, false}
 use mathlib.Core.List.{List, [], _∷_, _++_, append-assoc}
-use native.Mathlib.Nat.{zero-add, suc-add, add-assoc, add-comm, mod-lt, mod-eq-of-lt, pow-suc, mul-assoc, mul-comm, add-mul, mul-add-div-right, mul-add-mod-self-right, zero-lt-suc, suc-inj, lt-of-lt-of-le}
+use native.Mathlib.Nat.{zero-add, suc-add, add-assoc, add-comm, mod-lt, mod-eq-of-lt, pow-suc, mul-assoc, mul-comm, add-mul, mul-add-div-right, mul-add-mod-self-right, zero-lt-suc, suc-inj, lt-of-lt-of-le, zero-div}
 use native.Mathlib.Numerals.{one-add}
 use native.Mathlib.Omega.{arith}
 use borrow.Author.Tests.{ne-eqb}
@@ -118,6 +118,11 @@ fromBits-split w k b e =
     ap fromBits (sym (take-append-drop w b)) ∙ fromBits-append (take w b) (drop w b) ∙ rw (t, l)
 
 -- ---- no bit set
+
+pub toBits-zero : (n : ℕ) → toBits n 0 ≡ replicate n false
+unfolding toBits odd
+toBits-zero zero = refl
+toBits-zero (suc n) = rw (zero-div (2 ^ n), toBits-zero n)
 
 pub fromBits-zeros : (n : ℕ) → fromBits (replicate n false) ≡ 0
 unfolding fromBits

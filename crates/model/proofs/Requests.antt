@@ -223,7 +223,7 @@ fieldsOf-fit (Create s o c) r = omega (arith, r .0, r .1, create-mode-below (c .
 fieldsOf-fit (Delete s o) r = omega (arith, r .0, r .1)
 fieldsOf-fit (ChangeLevel s o l) r = omega (arith, r .0, r .1, r .2 .0, r .2 .1)
 
-in-range : (f : Fields) → (leb 1 (f .kind) && leb (f .kind) 7) ≡ true → f .actor < 16 → f .other < 16 → f .object < 64
+pub in-range : (f : Fields) → (leb 1 (f .kind) && leb (f .kind) 7) ≡ true → f .actor < 16 → f .other < 16 → f .object < 64
     → modeAllowed (f .kind) (f .mode) ≡ true → unusedZero f ≡ true → wellFormed f ≡ true
 unfolding wellFormed
 in-range f k a t o m u =

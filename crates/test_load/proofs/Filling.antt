@@ -3,18 +3,14 @@
 use Prim.Native.Nat.{ℕ, _+_, _*_, _/_, _≤_, _<_}
 use native.Mathlib.Omega.{arith}
 use mathlib.Core.Path.{_≡_, refl, sym, ap, ap₂, _∙_}
-use mathlib.Core.Bool.{cond, true, false}
-use mathlib.Core.List.{List, []}
+use mathlib.Core.List.{List}
 use lib.ListN.{length}
-use lib.Dec.{eqb}
 use borrow.Author.Tests.{eq-eqb, ne-eqb}
 use Rattle.bits.specs.Bits.{join}
-use Rattle.model.specs.declared.Decision.{Decision}
 use Rattle.model.specs.declared.Decision.the-variants.{Granted, ZeroSeed}
-use Rattle.model.specs.Decisions.{refuses}
+use Rattle.model.specs.Tests.{unless}
 use Rattle.model.specs.Requests.{requestSize, pack}
 use Rattle.model.specs.Buffers.{put, front}
-use Rattle.model.proofs.Packing.{pack-length}
 use Rattle.model.proofs.Buffers.{put-none, put-more, put-front, length-put}
 use Rattle.test_load.specs.Generator.{draw}
 use Rattle.test_load.specs.Load.{made, requestsFrom, bytesFrom, loading, loadCount, loaded}
@@ -25,12 +21,12 @@ use Rattle.test_load.proofs.Draws.{draw-add, bytes-more, bytes-length}
 module _ (seed : ℕ) (buffer : List ℕ) where
   -- "15, seed 0, before any byte is written"
   pub zero-refused : seed ≡ 0 → (ZeroSeed ≡ loading seed) × (0 ≡ loadCount seed buffer) × (buffer ≡ loaded seed buffer)
-  unfolding loading loadCount loaded
+  unfolding unless loading loadCount loaded
   zero-refused e = rw (eq-eqb seed 0 e) (refl, refl, refl)
 
   module _ (e : seed ≡ 0 → ⊥) where
     pub seed-taken : loading seed ≡ Granted
-    unfolding loading
+    unfolding unless loading
     seed-taken = rw (ne-eqb seed 0 e)
 
     -- "as many whole requests as fit"

@@ -1,7 +1,7 @@
 -- The requests of a test load (change request §5): what each draw says, how a lent buffer is filled, and what is refused.
 -- Assumes nothing.
 use Prim.Native.Nat.{ℕ, zero, suc, _+_, _*_, _/_, _%_}
-use mathlib.Core.Bool.{Bool, cond, _||_}
+use mathlib.Core.Bool.{Bool, cond, not, _||_}
 use mathlib.Core.List.{List, [], _∷_, map}
 use lib.ListN.{length}
 use lib.Dec.{leb, eqb}
@@ -9,6 +9,7 @@ use Rattle.bits.specs.Bits.{join}
 use Rattle.model.specs.declared.Fields.{Fields}
 use Rattle.model.specs.declared.Decision.{Decision}
 use Rattle.model.specs.declared.Decision.the-variants.{Granted, ZeroSeed}
+use Rattle.model.specs.Tests.{unless}
 use Rattle.model.specs.Decisions.{refuses}
 use Rattle.model.specs.Requests.{requestSize, pack}
 use Rattle.model.specs.Buffers.{front}
@@ -72,7 +73,7 @@ bytesFrom n x = join (map pack (requestsFrom n x))
 
 -- "0 is returned"; "Refused: 15, seed 0"
 unfoldable pub loading : ℕ → Decision
-loading seed = cond (eqb seed 0) ZeroSeed Granted
+loading seed = unless (not (eqb seed 0)) ZeroSeed Granted
 
 -- "as many whole requests as fit", "with their count beside it"
 unfoldable pub loadCount : ℕ → List ℕ → ℕ

@@ -1,6 +1,6 @@
 // A test load from a seed, for laboratories that want to run the same requests.
-mod generator;
 mod requests;
+mod xorshift;
 
 ghost use mathlib.Core.Path.{_≡_};
 ghost use Rattle.test_load.specs.Load.{loading, loadCount, loaded};

@@ -2,7 +2,7 @@
 ghost use mathlib.Core.Path.{_≡_};
 ghost use Rattle.test_load.specs.Generator.{draw};
 ghost use Rattle.test_load.specs.Load.{kindDrawn, usesOther, otherDrawn, modeDrawn, classDrawn, needsDrawn, made};
-use crate::generator::next;
+use crate::xorshift::next;
 use model::Fields;
 
 fn kind_drawn(d: u32) -> u8

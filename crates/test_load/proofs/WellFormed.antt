@@ -1,0 +1,125 @@
+-- "Every request made this way is well formed": its bytes say it, so no monitor replies 2.
+-- Assumes nothing.
+use Prim.Native.Nat.{ℕ, zero, suc, _+_, _*_, _%_, _<_}
+use native.Mathlib.Nat.{mod-lt, zero-lt-suc}
+use native.Mathlib.Omega.{arith}
+use mathlib.Core.Path.{_≡_, refl, sym, ap, _∙_}
+use mathlib.Core.Logic.{_≢_}
+use mathlib.Core.Bool.{Bool, true, false, _&&_, _||_}
+use mathlib.Core.List.{map}
+use lib.Dec.{eqb, leb}
+use lib.ListN.{getD}
+use borrow.Author.Tests.{le-leb}
+use Rattle.model.specs.declared.Monitor.{Monitor}
+use Rattle.model.specs.declared.Decoded.{Decoded}
+use Rattle.model.specs.declared.Decoded.the-variants.{Malformed, Says}
+use Rattle.model.specs.Requests.{fields, modeAllowed, unusedZero, wellFormed, request, decode, pack}
+use Rattle.model.specs.Runs.{reply, replies, respond}
+use Rattle.model.proofs.Tests.{split, clash, and-both}
+use Rattle.model.proofs.Packing.{FieldsFit, pack-length, fields-packed}
+use Rattle.model.proofs.Requests.{in-range, says-decode}
+use Rattle.refusals.proofs.FirstRefusal.{reply-2-exactly}
+use Rattle.refusals.proofs.Malformed.{malformed-exactly}
+use Rattle.test_load.specs.Generator.{draw}
+use Rattle.test_load.specs.Load.{kindDrawn, whereUsed, usesOther, usesLevel, modeDrawn, made, requestsFrom}
+
+-- ---- each field
+
+-- a remainder by 4, one more, is a mode from 1 to 4
+four-modes : (n : ℕ) → n < 4 → (leb 1 (1 + n) && leb (1 + n) 4) ≡ true
+four-modes n h = and-both (le-leb 1 (1 + n) (omega arith)) (le-leb (1 + n) 4 (omega arith))
+
+-- four times a remainder by 2 is 0 or 4
+two-modes : (n : ℕ) → n < 2 → (eqb (4 * n) 0 || eqb (4 * n) 4) ≡ true
+two-modes zero h = refl
+two-modes (suc zero) h = refl
+two-modes (suc (suc n)) h = absurd (omega arith)
+
+mode-drawn-allowed : (kind d : ℕ) → modeAllowed kind (modeDrawn kind d) ≡ true
+unfolding modeAllowed
+mode-drawn-allowed kind d =
+    split (leb kind 4) (λ e. rw e (four-modes (d % 4) (mod-lt d (zero-lt-suc 3))))
+    (λ e. split (eqb kind 5) (λ f. rw (e, f) (two-modes (d % 2) (mod-lt d (zero-lt-suc 1)))) (λ f. rw (e, f)))
+
+-- what is not used is 0
+other-unused : (give rescind : Bool) (x : ℕ) → (give || (rescind || eqb (whereUsed (give || rescind) x) 0)) ≡ true
+other-unused true rescind x = refl
+other-unused false true x = refl
+other-unused false false x = refl
+
+level-unused : (change : Bool) (c n : ℕ) → (change || (eqb (whereUsed change c) 0 && eqb (whereUsed change n) 0)) ≡ true
+level-unused true c n = refl
+level-unused false c n = refl
+
+-- and what is used stays below a bound
+used-below : (used : Bool) (x n : ℕ) → x < n → 0 < n → whereUsed used x < n
+used-below true x n h g = h
+used-below false x n h g = g
+
+-- ---- the request
+
+module _ (x : ℕ) where
+  abbrev kind : ℕ
+  kind = kindDrawn (draw 1 x)
+
+  other-below : made x .other < 16
+  unfolding made
+  other-below = used-below (usesOther kind) (draw 3 x % 16) 16 (omega arith) (omega arith)
+
+  mode-below : made x .mode < 8
+  unfolding made
+  mode-below =
+      split (leb kind 4) (λ e. rw e (omega arith))
+      (λ e. split (eqb kind 5) (λ f. rw (e, f) (omega arith)) (λ f. rw (e, f) (omega arith)))
+
+  pub made-well-formed : wellFormed (made x) ≡ true
+  unfolding made unusedZero
+  made-well-formed =
+      in-range (made x)
+      (and-both (le-leb 1 kind (omega arith)) (le-leb kind 7 (omega arith)))
+      (omega arith) other-below (omega arith)
+      (mode-drawn-allowed kind (draw 5 x))
+      (and-both (other-unused (eqb kind 3) (eqb kind 4) (draw 3 x % 16))
+      (and-both (level-unused (usesLevel kind) (draw 6 x % 16) (draw 7 x % 65536)) refl))
+
+  made-fits : FieldsFit (made x)
+  unfolding made
+  made-fits =
+      record {
+        kind = omega arith;
+        actor = omega arith;
+        other = omega (arith, other-below);
+        object = omega arith;
+        mode = omega (arith, mode-below);
+        class = used-below (usesLevel kind) (draw 6 x % 16) 16 (omega arith) (omega arith);
+        needs = used-below (usesLevel kind) (draw 7 x % 65536) 65536 (omega arith) (omega arith);
+        spare = omega arith;
+      }
+
+  -- its six bytes have the fields that were drawn
+  pub made-fields : fields (pack (made x)) ≡ made x
+  made-fields = fields-packed (made x) made-fits
+
+  -- "Every request made this way is well formed"
+  pub made-says : decode (pack (made x)) ≡ Says (request (made x))
+  made-says =
+      says-decode (pack (made x)) (pack-length (made x)) (ap wellFormed made-fields ∙ made-well-formed)
+      ∙ ap (λ f. Says (request f)) made-fields
+
+  -- no monitor replies 2 to it
+  pub made-never-2 : (m : Monitor) → reply (pack (made x)) m ≢ 2
+  made-never-2 m e = says-not-2 (sym made-says ∙ malformed-exactly (pack (made x)) .1 (reply-2-exactly (pack (made x)) m .0 e))
+    where
+      isSays : Decoded → Bool
+      isSays Malformed = false
+      isSays (Says q) = true
+
+      says-not-2 : Says (request (made x)) ≢ Malformed
+      says-not-2 p = clash (ap isSays p)
+
+-- nor at any place of a run of them, whatever the state
+pub run-never-2 : (n x : ℕ) (m : Monitor) (i : ℕ) → getD (replies (map pack (requestsFrom n x)) m) i 0 ≢ 2
+unfolding replies requestsFrom
+run-never-2 zero x m i = λ e. absurd (omega (arith, e))
+run-never-2 (suc n) x m zero = made-never-2 x m
+run-never-2 (suc n) x m (suc i) = run-never-2 n (draw 7 x) (respond (pack (made x)) m .monitor) i
