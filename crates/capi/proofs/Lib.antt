@@ -5,4 +5,5 @@ pub mod Calls
 pub mod UnitRuns
 pub mod Pages
 pub mod Comparing
+pub mod Counts
 pub mod Labels

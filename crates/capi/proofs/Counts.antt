@@ -1,0 +1,42 @@
+-- The two parts of a number with a count beside it, and those of a load.
+-- Assumes nothing.
+use Prim.Native.Nat.{ℕ, _*_, _/_, _%_, _^_, _<_}
+use native.Mathlib.Nat.{mod-lt, mod-eq-of-lt}
+use native.Mathlib.Omega.{arith}
+use mathlib.Core.Path.{_≡_, ap, _∙_}
+use mathlib.Core.Logic.{_≢_}
+use mathlib.Core.List.{List}
+use lib.ListN.{length}
+use lib.Pow.{pow-pos}
+use Rattle.model.specs.Decisions.{number}
+use Rattle.model.specs.Requests.{requestSize}
+use Rattle.model.proofs.Decisions.{number-small}
+use Rattle.test_load.specs.Load.{loading, loadCount}
+use Rattle.test_load.proofs.Filling.{count-taken}
+use Rattle.capi.specs.Counts.{withCount}
+
+module _ (n count : ℕ) (h : n < 256) where
+  -- the number is the low byte
+  pub number-beside : withCount n count % 256 ≡ n
+  number-beside = omega arith
+
+  -- the count stands above it
+  pub count-beside : withCount n count / 256 ≡ count % 2 ^ 56
+  count-beside = omega arith
+
+  -- both fit in 64 bits
+  pub both-fit : withCount n count < 2 ^ 64
+  both-fit = omega (arith, mod-lt count (pow-pos 56))
+
+module _ (seed : ℕ) (buffer : List ℕ) where
+  abbrev returned : ℕ
+  returned = withCount (number (loading seed)) (loadCount seed buffer)
+
+  pub load-number : returned % 256 ≡ number (loading seed)
+  load-number = number-beside (number (loading seed)) (loadCount seed buffer) (omega (arith, number-small (loading seed)))
+
+  -- the count is whole but for buffers of 6 times 2^56 bytes or more
+  pub load-count : seed ≢ 0 → length buffer < requestSize * 2 ^ 56 → returned / 256 ≡ length buffer / requestSize
+  load-count e h =
+      count-beside (number (loading seed)) (loadCount seed buffer) (omega (arith, number-small (loading seed)))
+      ∙ ap (λ n. n % 2 ^ 56) (count-taken seed buffer e) ∙ mod-eq-of-lt (omega (arith, h))
