@@ -4,6 +4,7 @@
 mod bits;
 mod image;
 mod level;
+mod load;
 mod marked;
 mod mode;
 mod monitor;
@@ -15,6 +16,7 @@ mod star;
 
 pub use image::{IMAGE_BYTES, TABLE_BYTES};
 pub use level::{Comparison, Level};
+pub use load::{write_load, Xorshift};
 pub use marked::{marked_run, table_w};
 pub use mode::Mode;
 pub use monitor::Monitor;
@@ -24,7 +26,7 @@ pub use record::{Object, OBJECTS, SUBJECTS};
 pub use request::{Kind, Request, REQUEST_BYTES};
 pub use star::Star;
 
-/// The numbers that requests, readings and writings return.
+/// The numbers that requests, readings, writings and loads return.
 pub mod reply {
     pub const CHANGED: u8 = 0;
     pub const ALREADY: u8 = 1;
@@ -42,6 +44,8 @@ pub mod reply {
     pub const SHORT_BUFFER: u8 = 13;
     /// a new label that does not dominate the old
     pub const LOWERED: u8 = 14;
+    /// a load from the seed 0
+    pub const SEED_0: u8 = 15;
 }
 
 #[cfg(test)]
