@@ -1,12 +1,15 @@
-//! Safe Rust over the proved monitor: a unit in memory, and the functions of include/circmon.h on images and on levels.
+//! Safe Rust over the proved monitor: a unit in memory, and the functions of include/circmon.h on images, on levels and on
+//! requests from a seed.
 //!
 //! The contracts of the functions are proved of the Rattle code (crates/capi). What stands here is the boundary: the
 //! declarations, and slices handed on as pointer and length.
 
+mod counted;
 mod level;
 mod raw;
 mod unit;
 
+pub use counted::Counted;
 pub use level::{compare, Comparison, Level};
 pub use unit::{Rows, Unit, ROWS, ROW_BYTES, UNIT_BYTES};
 
@@ -76,4 +79,11 @@ pub fn replay(table: &[u8], requests: &[u8], replies: &mut [u8]) -> u8 {
 pub fn distinguish(a: &[u8], b: &[u8], requests: &mut [u8]) -> u8 {
     // Safety: each pointer comes with the length of its slice, and no slice overlaps the one that is written.
     unsafe { raw::circmon_distinguish(a.as_ptr(), size(a), b.as_ptr(), size(b), requests.as_mut_ptr(), size(requests)) }
+}
+
+/// Requests from the seed, each of six bytes and well formed, as many whole ones as the buffer takes: 0 with their count, and
+/// the bytes behind the last one left. Or 15 with the count 0 where the seed is 0, and every byte left.
+pub fn load(seed: u32, requests: &mut [u8]) -> Counted {
+    // Safety: the pointer comes with the length of its slice.
+    Counted::new(unsafe { raw::circmon_load(seed, requests.as_mut_ptr(), size(requests)) })
 }

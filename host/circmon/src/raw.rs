@@ -29,4 +29,5 @@ extern "C" {
         requests_len: u64,
     ) -> u8;
     pub fn circmon_compare(class_a: u8, needs_a: u16, class_b: u8, needs_b: u16) -> u8;
+    pub fn circmon_load(seed: u32, requests: *mut u8, requests_len: u64) -> u64;
 }
