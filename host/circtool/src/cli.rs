@@ -1,52 +1,19 @@
 //! The subcommands: from the words of the command line to what is printed and the exit status.
 
 use crate::arguments::{Arguments, Takes};
+use crate::begin::{begin, image_message, is_image, Begun};
 use crate::compare::{compare, Comparison, Named};
 use crate::disassemble::disassemble;
 use crate::explain::explain;
 use crate::input::{assembled, form, is_text, read, Form, Input};
+use crate::outcome::{bad_usage, refused, trouble, Outcome, Step, REFUSED, TROUBLE};
 use crate::paint::Paint;
 use crate::show::show;
 use crate::view::View;
 use crate::{help, page, refusal, save};
-use circmon::{Unit, IMAGE_BYTES, REQUEST_BYTES, TABLE_BYTES};
+use circmon::{IMAGE_BYTES, REQUEST_BYTES};
 use std::ffi::{OsStr, OsString};
 use std::io::{ErrorKind, Read, Write};
-
-pub const FINE: u8 = 0;
-/// a refused table or image, an object without a page, or two images that differ
-pub const REFUSED: u8 = 1;
-/// usage, or input that cannot be read
-pub const TROUBLE: u8 = 2;
-
-/// What a call prints and returns.
-pub struct Outcome {
-    pub out: Vec<u8>,
-    pub err: String,
-    pub status: u8,
-}
-
-impl Outcome {
-    fn fine(out: impl Into<Vec<u8>>) -> Outcome {
-        Outcome { out: out.into(), err: String::new(), status: FINE }
-    }
-
-    fn failed(status: u8, err: String) -> Outcome {
-        Outcome { out: Vec::new(), err, status }
-    }
-}
-
-/// A call that has its outcome before its end: bad usage or bad input.
-type Step<T> = Result<T, Outcome>;
-
-fn trouble(err: String) -> Outcome {
-    Outcome::failed(TROUBLE, err)
-}
-
-/// Words of the command line that the subcommand does not take.
-fn bad_usage(name: &str, message: String) -> Outcome {
-    trouble(format!("circtool {name}: {message}; see 'circtool {name} --help'\n"))
-}
 
 /// Carries out a call. Nothing is written to standard output or a file before its input is found good.
 pub fn call(words: &[OsString], standard_input: &mut dyn Read, paint: Paint) -> Outcome {
@@ -107,16 +74,16 @@ fn subcommand(name: &str, words: &[OsString], standard_input: &mut dyn Read, pai
 }
 
 fn takes(name: &str) -> Takes {
-    let (flags, with_file, files): (&[&str], &[&str], usize) = match name {
-        "explain" => (&["--script", "--bytes"], &[], 1),
-        "run" => (&["--script", "--bytes"], &["--image"], 1),
-        "show" => (&["--anyway"], &[], 1),
+    let (flags, with_file, least_files, most_files): (&[&str], &[&str], usize, usize) = match name {
+        "explain" => (&["--script", "--bytes"], &[], 0, 1),
+        "run" => (&["--script", "--bytes"], &["--image"], 0, 1),
+        "show" => (&["--anyway"], &[], 0, 1),
         // the image, and words that are no files: the objects
-        "page" => (&["--all"], &[], usize::MAX),
-        "compare" => (&[], &[], 2),
-        _ => (&[], &[], 1),
+        "page" => (&["--all"], &[], 0, usize::MAX),
+        "compare" => (&[], &[], 2, 2),
+        _ => (&[], &[], 0, 1),
     };
-    Takes { flags, with_file, least_files: if files == 2 { 2 } else { 0 }, most_files: files }
+    Takes { flags, with_file, least_files, most_files }
 }
 
 fn asm(arguments: &Arguments, standard_input: &mut dyn Read) -> Step<Outcome> {
@@ -146,68 +113,26 @@ fn form_asked(arguments: &Arguments) -> Step<Option<Form>> {
     }
 }
 
-/// A unit begun from the table of a script or of bytes, and the requests behind it.
-struct Begun {
-    unit: Unit,
-    requests: Vec<u8>,
-    /// the line of each request in the script; none where the input is bytes
-    lines: Vec<usize>,
-}
-
-fn begin(arguments: &Arguments, standard_input: &mut dyn Read) -> Step<Begun> {
+fn begin_run(arguments: &Arguments, standard_input: &mut dyn Read) -> Step<Begun> {
     let asked = form_asked(arguments)?;
     let input = read(arguments.file(), standard_input).map_err(trouble)?;
-    match asked.unwrap_or_else(|| form(&input.bytes)) {
-        Form::Script => begin_script(&input),
-        Form::Bytes if asked.is_none() && is_image(&input.bytes) => {
-            Err(trouble(image_message(&input.name) + "  with --bytes it is run as a table and requests all the same\n"))
-        }
-        Form::Bytes => begin_bytes(&input, asked.is_some()),
-    }
+    begin(&input, asked).map_err(|outcome| outcome.with(other_form(&input, asked)))
 }
 
-/// 1,274 bytes are 42 of a table, 205 requests and two bytes too many: a whole run never has them.
-fn is_image(bytes: &[u8]) -> bool {
-    bytes.len() == IMAGE_BYTES && !is_text(bytes)
-}
-
-fn image_message(name: &str) -> String {
-    format!(
-        "{name}: {IMAGE_BYTES} bytes are an image, and no table with whole requests behind it\n  \
-         'circtool show' prints the state in an image; a run begins from a table\n"
-    )
-}
-
-/// Only a table given by its bytes can be refused, and then its line is named.
-fn begin_script(input: &Input) -> Step<Begun> {
-    let script = assembled(input).map_err(trouble)?;
-    let name = script.table_line.map_or(input.name.clone(), |line| format!("{}:{line}", input.name));
-    let (unit, requests) = begin_table(&name, &script.bytes)?;
-    Ok(Begun { unit, requests, lines: script.lines })
-}
-
-fn begin_bytes(input: &Input, asked: bool) -> Step<Begun> {
-    let begun = begin_table(&input.name, &input.bytes);
-    let (unit, requests) = begun.map_err(|mut outcome| {
-        if is_text(&input.bytes) {
-            let otherwise = if asked { "without --bytes" } else { "with --script" };
-            outcome.err.push_str(&format!("  it looks like a script; {otherwise} it is read as one\n"));
-        }
-        outcome
-    })?;
-    Ok(Begun { unit, requests, lines: Vec::new() })
-}
-
-fn begin_table(name: &str, bytes: &[u8]) -> Step<(Unit, Vec<u8>)> {
-    let (table, requests) = bytes.split_at(bytes.len().min(TABLE_BYTES));
-    match Unit::from_table(table) {
-        Ok(unit) => Ok((unit, requests.to_vec())),
-        Err(number) => Err(Outcome::failed(REFUSED, refusal::of_table(name, table, number))),
+/// What another flag, or none, would do with an input that was taken for bytes.
+fn other_form(input: &Input, asked: Option<Form>) -> &'static str {
+    let taken_for = asked.unwrap_or_else(|| form(&input.bytes));
+    match asked {
+        _ if taken_for == Form::Script => "",
+        None if is_image(&input.bytes) => "  with --bytes it is run as a table and requests all the same\n",
+        None if is_text(&input.bytes) => "  it looks like a script; with --script it is read as one\n",
+        Some(_) if is_text(&input.bytes) => "  it looks like a script; without --bytes it is read as one\n",
+        _ => "",
     }
 }
 
 fn explain_run(arguments: &Arguments, standard_input: &mut dyn Read, paint: Paint) -> Step<Outcome> {
-    let mut begun = begin(arguments, standard_input)?;
+    let mut begun = begin_run(arguments, standard_input)?;
     Ok(Outcome::fine(explain(&mut begun.unit, &begun.requests, &begun.lines, paint)))
 }
 
@@ -216,7 +141,7 @@ fn run(arguments: &Arguments, standard_input: &mut dyn Read) -> Step<Outcome> {
     if let Some(out) = out {
         may_write(out, arguments.file())?;
     }
-    let Begun { mut unit, requests, .. } = begin(arguments, standard_input)?;
+    let Begun { mut unit, requests, .. } = begin_run(arguments, standard_input)?;
     let replies: String = requests.chunks(REQUEST_BYTES).map(|piece| format!("{}\n", unit.ask(piece))).collect();
     if let Some(out) = out {
         save::whole(out, &unit.image()).map_err(|error| {
@@ -256,7 +181,7 @@ fn show_image(arguments: &Arguments, standard_input: &mut dyn Read, paint: Paint
 fn pages(arguments: &Arguments, standard_input: &mut dyn Read, paint: Paint) -> Step<Outcome> {
     let asked = page::asked(arguments).map_err(|message| bad_usage("page", message))?;
     let input = read(arguments.file(), standard_input).map_err(trouble)?;
-    page::pages(&input, &asked, paint).map(Outcome::fine).map_err(|err| Outcome::failed(REFUSED, err))
+    page::pages(&input, &asked, paint).map(Outcome::fine).map_err(refused)
 }
 
 fn compare_images(arguments: &Arguments, standard_input: &mut dyn Read, paint: Paint) -> Step<Outcome> {

@@ -3,6 +3,7 @@
 
 mod arguments;
 pub mod assemble;
+mod begin;
 mod bits;
 pub mod cause;
 pub mod cli;
@@ -17,6 +18,7 @@ mod kinds;
 pub mod layout;
 pub mod level;
 pub mod mode;
+mod outcome;
 pub mod page;
 pub mod paint;
 pub mod properties;

@@ -1,0 +1,54 @@
+//! A unit begun from an input: a script, or bytes as the program `circmon` reads them.
+
+use crate::input::{assembled, form, is_text, Form, Input};
+use crate::outcome::{refused, trouble, Step};
+use crate::refusal;
+use circmon::{Unit, IMAGE_BYTES, TABLE_BYTES};
+
+/// A unit begun from the table of a script or of bytes, and the requests behind it.
+pub struct Begun {
+    pub unit: Unit,
+    pub requests: Vec<u8>,
+    /// the line of each request in the script; none where the input is bytes
+    pub lines: Vec<usize>,
+}
+
+/// Begins in the form that was asked for, or in the one that the input has; without a form asked for, an image is not begun.
+pub fn begin(input: &Input, asked: Option<Form>) -> Step<Begun> {
+    match asked.unwrap_or_else(|| form(&input.bytes)) {
+        Form::Script => begin_script(input),
+        Form::Bytes if asked.is_none() && is_image(&input.bytes) => Err(trouble(image_message(&input.name))),
+        Form::Bytes => {
+            let (unit, requests) = begin_table(&input.name, &input.bytes)?;
+            Ok(Begun { unit, requests, lines: Vec::new() })
+        }
+    }
+}
+
+/// Only a table given by its bytes can be refused, and then its line is named.
+fn begin_script(input: &Input) -> Step<Begun> {
+    let script = assembled(input).map_err(trouble)?;
+    let name = script.table_line.map_or(input.name.clone(), |line| format!("{}:{line}", input.name));
+    let (unit, requests) = begin_table(&name, &script.bytes)?;
+    Ok(Begun { unit, requests, lines: script.lines })
+}
+
+fn begin_table(name: &str, bytes: &[u8]) -> Step<(Unit, Vec<u8>)> {
+    let (table, requests) = bytes.split_at(bytes.len().min(TABLE_BYTES));
+    match Unit::from_table(table) {
+        Ok(unit) => Ok((unit, requests.to_vec())),
+        Err(number) => Err(refused(refusal::of_table(name, table, number))),
+    }
+}
+
+/// 1,274 bytes are 42 of a table, 205 requests and two bytes too many: a whole run never has them.
+pub fn is_image(bytes: &[u8]) -> bool {
+    bytes.len() == IMAGE_BYTES && !is_text(bytes)
+}
+
+pub fn image_message(name: &str) -> String {
+    format!(
+        "{name}: {IMAGE_BYTES} bytes are an image, and no table with whole requests behind it\n  \
+         'circtool show' prints the state in an image; a run begins from a table\n"
+    )
+}
