@@ -77,6 +77,13 @@ pub fn table(random: &mut Random, shape: Shape) -> [u8; reference::TABLE_BYTES] 
     monitor.table()
 }
 
+/// All sixteen subjects enrolled, each with the class of its number and every need: a table that is told in one sentence, for
+/// loads that others repeat. So are the subjects of examples/seeded-load.circ.
+pub fn everyone() -> [u8; reference::TABLE_BYTES] {
+    let clearance = |subject| Some(Level { class: subject as u8, needs: u16::MAX });
+    Monitor::begin(std::array::from_fn(clearance)).table()
+}
+
 /// The next request for a state: most draws name the owner of the object, so that ownership is met often.
 pub fn request(random: &mut Random, shape: Shape, monitor: &Monitor) -> Request {
     let object = random.below(shape.objects);
