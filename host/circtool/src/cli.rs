@@ -10,7 +10,7 @@ use crate::outcome::{bad_usage, refused, trouble, Outcome, Step, REFUSED, TROUBL
 use crate::paint::Paint;
 use crate::show::show;
 use crate::view::View;
-use crate::{help, page, refusal, save};
+use crate::{help, load, page, refusal, save};
 use circmon::{IMAGE_BYTES, REQUEST_BYTES};
 use std::ffi::{OsStr, OsString};
 use std::io::{ErrorKind, Read, Write};
@@ -68,6 +68,7 @@ fn subcommand(name: &str, words: &[OsString], standard_input: &mut dyn Read, pai
         "run" => run(&arguments, standard_input),
         "show" => show_image(&arguments, standard_input, paint),
         "page" => pages(&arguments, standard_input, paint),
+        "load" => load_requests(&arguments, standard_input),
         _ => compare_images(&arguments, standard_input, paint),
     };
     result.unwrap_or_else(|outcome| outcome)
@@ -80,6 +81,8 @@ fn takes(name: &str) -> Takes {
         "show" => (&["--anyway"], &[], 0, 1),
         // the image, and words that are no files: the objects
         "page" => (&["--all"], &[], 0, usize::MAX),
+        // two words that are no files: the seed and the count
+        "load" => (&["--bytes"], &["--table"], 0, 2),
         "compare" => (&[], &[], 2, 2),
         _ => (&[], &[], 0, 1),
     };
@@ -182,6 +185,15 @@ fn pages(arguments: &Arguments, standard_input: &mut dyn Read, paint: Paint) -> 
     let asked = page::asked(arguments).map_err(|message| bad_usage("page", message))?;
     let input = read(arguments.file(), standard_input).map_err(trouble)?;
     page::pages(&input, &asked, paint).map(Outcome::fine).map_err(refused)
+}
+
+fn load_requests(arguments: &Arguments, standard_input: &mut dyn Read) -> Step<Outcome> {
+    let asked = load::asked(arguments).map_err(|message| bad_usage("load", message))?;
+    let table = match arguments.file_of("--table") {
+        Some(file) => Some(load::table(&read(Some(file), standard_input).map_err(trouble)?)?),
+        None => None,
+    };
+    load::load(&asked, table.as_deref()).map(Outcome::fine).map_err(refused)
 }
 
 fn compare_images(arguments: &Arguments, standard_input: &mut dyn Read, paint: Paint) -> Step<Outcome> {

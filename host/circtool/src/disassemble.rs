@@ -12,18 +12,21 @@ pub const MOST_REQUESTS: usize = 4096;
 
 pub fn disassemble(bytes: &[u8]) -> String {
     let (table, requests) = bytes.split_at(bytes.len().min(TABLE_BYTES));
-    let mut script = table_lines(table);
-    if !requests.is_empty() {
-        script.push('\n');
-    }
+    let between = if requests.is_empty() { "" } else { "\n" };
+    table_lines(table) + between + &request_lines(requests)
+}
+
+/// A line for each piece of six bytes, a short last one counted, and a remark where `circmon` stops.
+pub fn request_lines(requests: &[u8]) -> String {
+    let mut lines = String::new();
     for (at, piece) in requests.chunks(REQUEST_BYTES).enumerate() {
         if at == MOST_REQUESTS {
-            script.push_str("# the program circmon reads no further than 4,096 requests\n");
+            lines.push_str("# the program circmon reads no further than 4,096 requests\n");
         }
-        script.push_str(&piece_line(piece));
-        script.push('\n');
+        lines.push_str(&piece_line(piece));
+        lines.push('\n');
     }
-    script
+    lines
 }
 
 /// The subjects, or the bytes of a table that is not well formed with the reason.

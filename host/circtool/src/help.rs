@@ -1,7 +1,7 @@
 //! What `--help` prints.
 
 pub const GENERAL: &str = "\
-circtool: scripts, explanations, states, access pages and comparisons for the monitor circmon
+circtool: scripts, explanations, states, access pages, test loads and comparisons for the monitor circmon
 
 Usage: circtool SUBCOMMAND [OPTIONS] [FILE]
 
@@ -11,15 +11,17 @@ Usage: circtool SUBCOMMAND [OPTIONS] [FILE]
   run      a run: one reply for each request; can write the image after it
   show     the state in an image
   page     the access page of an object in an image
+  load     a test load from a seed, as a script or as bytes
   compare  two images: equal, or where they differ and which requests show it
   help     this text, or that of a subcommand
 
 'circtool help SUBCOMMAND' says more. --version prints the version.
-Where no file or '-' is given, standard input is read; 'page' with objects needs the image or '-' before them.
-Every reply, acceptance, page and comparison of two levels comes from the proved library.
+Where no file or '-' is given, standard input is read; 'page' with objects needs the image or '-' before them, and
+'load' reads only what --table names.
+Every reply, acceptance, page, load and comparison of two levels comes from the proved library.
 
-Exit status: 0 fine; 1 a table or image is refused, an object is not live, or two images differ; 2 usage, or input that
-cannot be read.
+Exit status: 0 fine; 1 a table, image or load is refused, an object is not live, or two images differ; 2 usage, or input
+that cannot be read.
 ";
 
 pub const ASM: &str = "\
@@ -129,6 +131,27 @@ Example: circtool page marked.img o1
 Exit status: 0 fine; 1 the image is refused, or an object is not live; 2 usage, or a file that cannot be read.
 ";
 
+pub const LOAD: &str = "\
+Usage: circtool load SEED COUNT [--table FILE] [--bytes]
+
+Writes COUNT requests that the library makes from SEED, as a script, with a first line that says seed and count. The
+same seed gives the same requests everywhere, and a longer load begins with a shorter one of the same seed. Every
+request is well formed; most are refused, since every field is drawn.
+
+  --table FILE   puts the subjects of FILE in front: those of a script, whose requests are left out, or those of a table
+                 in bytes; '-' is standard input
+  --bytes        writes bytes: with --table what circmon reads, 42 bytes of table, then six bytes for each request;
+                 without it the requests alone, to be put behind a table
+
+SEED is 1 to 4294967295; 0 is refused with 15. COUNT is 0 to 1000000. circmon stops after 4,096 requests, circtool does
+not. Without --table the script names no subject: it is put behind lines that do; alone, every request gets 3.
+
+Example: circtool load 7 20 --table examples/seeded-load.circ | circtool explain
+
+Exit status: 0 fine; 1 the seed is 0, or the table is refused; 2 usage, a file that cannot be read, or errors in the
+script.
+";
+
 pub const COMPARE: &str = "\
 Usage: circtool compare A B
 
@@ -150,6 +173,7 @@ pub fn of(subcommand: &str) -> Option<&'static str> {
         "run" => RUN,
         "show" => SHOW,
         "page" => PAGE,
+        "load" => LOAD,
         "compare" => COMPARE,
         _ => return None,
     })

@@ -1,5 +1,6 @@
-//! What the command `circtool` is made of. Every reply, acceptance, page and comparison of two levels comes from the
-//! proved library through the crate `circmon`; what stands here reads bytes and scripts, finds the words for them, and prints.
+//! What the command `circtool` is made of. Every reply, acceptance, page, load and comparison of two levels comes from
+//! the proved library through the crate `circmon`; what stands here reads bytes and scripts, finds the words for them, and
+//! prints.
 
 mod arguments;
 pub mod assemble;
@@ -17,8 +18,9 @@ pub mod input;
 mod kinds;
 pub mod layout;
 pub mod level;
+mod load;
 pub mod mode;
-mod outcome;
+pub mod outcome;
 pub mod page;
 pub mod paint;
 pub mod properties;

@@ -19,27 +19,31 @@ pub fn hex(bytes: &[u8]) -> String {
     bytes.iter().map(|byte| format!("{byte:02X}")).collect::<Vec<_>>().join(" ")
 }
 
-/// Each number, its words as the reply to a request, and as that of a refused table or image; nothing where it is none.
-const NUMBERS: [(u8, &str, &str); 15] = [
-    (0, "granted, the state changed", ""),
-    (1, "granted, it was so already", ""),
-    (2, "refused: malformed", ""),
-    (3, "refused: not enrolled", ""),
-    (4, "refused: the object is not live", ""),
-    (5, "refused: the object is live already", ""),
-    (6, "refused: right or ownership missing", "an access is held outside the matrix"),
-    (7, "refused: no label", "r, w or a is held on an object without a label"),
-    (8, "refused: the simple property would break", "the simple property is broken"),
-    (9, "refused: the star property would break", "the star property is broken"),
-    (10, "", "another length"),
-    (11, "", "a bit is set in what is absent"),
-    (12, "", "an absent subject owns, has a right or holds"),
-    (13, "", "the buffer is too short"),
-    (14, "refused: the new label does not dominate the old", ""),
+/// A number, its words as the reply to a request, as that of a refused table or image, and as that of a refused load; nothing
+/// where it is none.
+type Row = (u8, &'static str, &'static str, &'static str);
+
+const NUMBERS: [Row; 16] = [
+    (0, "granted, the state changed", "", ""),
+    (1, "granted, it was so already", "", ""),
+    (2, "refused: malformed", "", ""),
+    (3, "refused: not enrolled", "", ""),
+    (4, "refused: the object is not live", "", ""),
+    (5, "refused: the object is live already", "", ""),
+    (6, "refused: right or ownership missing", "an access is held outside the matrix", ""),
+    (7, "refused: no label", "r, w or a is held on an object without a label", ""),
+    (8, "refused: the simple property would break", "the simple property is broken", ""),
+    (9, "refused: the star property would break", "the star property is broken", ""),
+    (10, "", "another length", ""),
+    (11, "", "a bit is set in what is absent", ""),
+    (12, "", "an absent subject owns, has a right or holds", ""),
+    (13, "", "the buffer is too short", ""),
+    (14, "refused: the new label does not dominate the old", "", ""),
+    (15, "", "", "the seed is 0"),
 ];
 
 /// The words of a number in one column of the table.
-fn words_of(number: u8, column: fn(&(u8, &'static str, &'static str)) -> &'static str) -> Option<&'static str> {
+fn words_of(number: u8, column: fn(&Row) -> &'static str) -> Option<&'static str> {
     NUMBERS.iter().find(|row| row.0 == number).map(column).filter(|words| !words.is_empty())
 }
 
@@ -51,6 +55,11 @@ pub fn reply_words(reply: u8) -> String {
 /// The cause of a refused table or image with its number: `11 (a bit is set in what is absent)`.
 pub fn refusal_words(number: u8) -> String {
     format!("{number} ({})", words_of(number, |row| row.2).unwrap_or("a number that no table or image gets"))
+}
+
+/// The cause of a refused load with its number: `15 (the seed is 0)`.
+pub fn load_words(number: u8) -> String {
+    format!("{number} ({})", words_of(number, |row| row.3).unwrap_or("a number that no load gets"))
 }
 
 /// `1 object`, `2 objects`.
@@ -95,5 +104,6 @@ mod tests {
         };
         assert_eq!(numbers(reply_words), (0..=9).chain([14]).collect::<Vec<u8>>());
         assert_eq!(numbers(refusal_words), (6..=13).collect::<Vec<u8>>());
+        assert_eq!(numbers(load_words), [15]);
     }
 }

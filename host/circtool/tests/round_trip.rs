@@ -7,7 +7,7 @@ use circtool::assemble::assemble;
 use circtool::disassemble::disassemble;
 use circtool::request::Request;
 use load::Random;
-use reference::{Kind, Mode};
+use shared::lines::request_line;
 use sidebyside::SHAPES;
 
 fn round_trip(bytes: &[u8], what: &str) -> String {
@@ -17,33 +17,6 @@ fn round_trip(bytes: &[u8], what: &str) -> String {
         Err(errors) => panic!("{what}: {errors:?}\n{script}"),
     }
     script
-}
-
-fn letter(mode: Mode) -> char {
-    match mode {
-        Mode::Read => 'r',
-        Mode::Write => 'w',
-        Mode::Append => 'a',
-        Mode::Execute => 'e',
-    }
-}
-
-/// The line of a request, written from the second implementation's decoding.
-fn expected_line(request: &reference::Request) -> String {
-    let (s, o) = (request.actor, request.object);
-    match request.kind {
-        Kind::Get(mode) => format!("s{s} get {} o{o}", letter(mode)),
-        Kind::Release(mode) => format!("s{s} release {} o{o}", letter(mode)),
-        Kind::Give(other, mode) => format!("s{s} give s{other} {} o{o}", letter(mode)),
-        Kind::Rescind(other, mode) => format!("s{s} rescind s{other} {} o{o}", letter(mode)),
-        Kind::Create { execute } => format!("s{s} create o{o}{}", if execute { " with e" } else { "" }),
-        Kind::Delete => format!("s{s} delete o{o}"),
-        Kind::ChangeLevel(level) => {
-            let needs: Vec<String> =
-                (0..16).filter(|k| level.needs & 1 << k != 0).map(|k: u32| k.to_string()).collect();
-            format!("s{s} level o{o} class {} needs {{{}}}", level.class, needs.join(","))
-        }
-    }
 }
 
 #[test]
@@ -60,7 +33,7 @@ fn runs_of_valid_and_damaged_requests() {
         for (line, piece) in lines.iter().zip(pieces) {
             requests += 1;
             match reference::Request::decode(piece) {
-                Some(request) => assert_eq!(*line, expected_line(&request), "seed {seed}: {piece:02x?}"),
+                Some(request) => assert_eq!(*line, request_line(&request), "seed {seed}: {piece:02x?}"),
                 None => {
                     malformed += 1;
                     assert!(line.starts_with("bytes ") && line.contains("  # "), "seed {seed}: {line}");

@@ -3,6 +3,7 @@
 
 pub mod clone;
 pub mod formats;
+pub mod lines;
 
 use load::{Random, Shape};
 use reference::Monitor;

@@ -1,0 +1,74 @@
+//! Loads from a seed, each as the library makes it, as a script or as bytes.
+
+use crate::arguments::Arguments;
+use crate::begin::begin;
+use crate::disassemble::{disassemble, request_lines};
+use crate::input::{form, is_text, Form, Input};
+use crate::outcome::Step;
+use crate::script::{number, quoted};
+use crate::words::{count, load_words};
+use circmon::{REQUEST_BYTES, TABLE_BYTES};
+use std::ffi::OsStr;
+
+/// As many requests as one call writes.
+pub const MOST: usize = 1_000_000;
+
+/// What the words of the command line ask for.
+pub struct Asked {
+    seed: u32,
+    count: usize,
+    bytes: bool,
+}
+
+pub fn asked(arguments: &Arguments) -> Result<Asked, String> {
+    let [seed, count] = arguments.files.as_slice() else {
+        return Err("expected a seed and a count".to_string());
+    };
+    // that 0 is no seed is said by the library
+    let seed = decimal("a seed (1 to 4294967295)", seed, u32::MAX as usize)? as u32;
+    Ok(Asked { seed, count: decimal("a count (0 to 1000000)", count, MOST)?, bytes: arguments.has("--bytes") })
+}
+
+fn decimal(expected: &str, word: &OsStr, most: usize) -> Result<usize, String> {
+    let word = word.to_string_lossy();
+    number(&word, most).ok_or_else(|| format!("expected {expected}, found {}", quoted(&word)))
+}
+
+/// The table of a script or of bytes; the requests behind it are left out.
+pub fn table(input: &Input) -> Step<Vec<u8>> {
+    let begun = begin(input, None).map_err(|outcome| {
+        let text = form(&input.bytes) == Form::Bytes && is_text(&input.bytes);
+        outcome.with(if text {
+            "  it looks like a script, but no script begins with its first character\n"
+        } else {
+            ""
+        })
+    })?;
+    Ok(begun.unit.image()[..TABLE_BYTES].to_vec())
+}
+
+/// The load as it is asked for, behind the table where there is one. An error says why it is refused.
+pub fn load(asked: &Asked, table: Option<&[u8]>) -> Result<Vec<u8>, String> {
+    let mut requests = vec![0; asked.count * REQUEST_BYTES];
+    let loaded = circmon::load(asked.seed, &mut requests);
+    if loaded.number != 0 {
+        return Err(format!("circtool load: refused with {}\n", load_words(loaded.number)));
+    }
+    assert_eq!(loaded.count, asked.count as u64, "it is proved that a buffer is filled with whole requests");
+    let bytes = [table.unwrap_or_default(), &requests].concat();
+    if asked.bytes {
+        return Ok(bytes);
+    }
+    let lines = match table {
+        Some(_) => disassemble(&bytes),
+        None if bytes.is_empty() => String::new(),
+        None => format!("\n{}", request_lines(&bytes)),
+    };
+    Ok((heading(asked) + &lines).into_bytes())
+}
+
+/// Whoever reads the script sees from what it was made.
+fn heading(asked: &Asked) -> String {
+    let Asked { seed, count: requests, .. } = asked;
+    format!("# {} from seed {seed}: circtool load {seed} {requests}\n", count(*requests, "request", "requests"))
+}
