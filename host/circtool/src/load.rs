@@ -11,7 +11,7 @@ use circmon::{REQUEST_BYTES, TABLE_BYTES};
 use std::ffi::OsStr;
 
 /// As many requests as one call writes.
-pub const MOST: usize = 1_000_000;
+const MOST: usize = 1_000_000;
 
 /// What the words of the command line ask for.
 pub struct Asked {
