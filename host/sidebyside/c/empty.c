@@ -28,5 +28,7 @@ int main(void) {
     printf("distinguish %d", circmon_distinguish(NULL, 0, image, sizeof image, NULL, 0));
     printf(" %d", circmon_distinguish(image, sizeof image, NULL, 0, NULL, 0));
     printf(" %d\n", circmon_distinguish(image, sizeof image, image, sizeof image, NULL, 0));
+    printf("load %d", (int)circmon_load(1, NULL, 0));
+    printf(" %d\n", (int)circmon_load(0, NULL, 0));
     return 0;
 }

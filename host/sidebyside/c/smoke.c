@@ -54,6 +54,18 @@ static void raised(const uint8_t *image, circmon_size length) {
     printf(" %d\n", circmon_request(copy, sizeof copy, requests[2], sizeof requests[2]));
 }
 
+/* The number and the count of a load into 13 bytes, in which two requests have room, and the bytes after it. */
+static void load_from(uint32_t seed) {
+    uint8_t buffer[2 * CIRCMON_REQUEST_BYTES + 1];
+    memset(buffer, 0xEE, sizeof buffer);
+    uint64_t loaded = circmon_load(seed, buffer, sizeof buffer);
+    printf("load %d %d", CIRCMON_NUMBER(loaded), (int)CIRCMON_COUNT(loaded));
+    for (size_t i = 0; i < sizeof buffer; i++) {
+        printf(" %02x", buffer[i]);
+    }
+    printf("\n");
+}
+
 int main(void) {
     uint8_t saved[CIRCMON_IMAGE_BYTES], image[CIRCMON_IMAGE_BYTES], fresh[CIRCMON_IMAGE_BYTES];
     uint8_t replies[4] = {0xEE, 0xEE, 0xEE, 0xEE}, telling[CIRCMON_DISTINGUISH_BYTES];
@@ -70,5 +82,7 @@ int main(void) {
            telling[5], telling[6]);
     printf("compare %d %d", circmon_compare(1, 0x0001, 1, 0x0001), circmon_compare(2, 0x8001, 1, 0x8000));
     printf(" %d %d\n", circmon_compare(1, 0x0000, 1, 0x8000), circmon_compare(16, 0x0001, 15, 0x8000));
+    load_from(0);
+    load_from(1);
     return 0;
 }

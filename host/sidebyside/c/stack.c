@@ -18,6 +18,7 @@ static uint8_t requests[PIECES][CIRCMON_REQUEST_BYTES];
 static uint8_t replies[PIECES];
 static uint8_t told[CIRCMON_DISTINGUISH_BYTES];
 static uint8_t text[CIRCMON_PAGE_BYTES];
+static uint8_t made[PIECES * CIRCMON_REQUEST_BYTES];
 static volatile uint8_t answer;
 
 /* The six bytes of a request: kind 4 bits, actor 5, other 5, object 7, mode 3, class 4, needs 16, spare 4. */
@@ -72,6 +73,7 @@ static void *level(void *unused) { answer = circmon_request(image, sizeof image,
 static void *replay(void *unused) { answer = circmon_replay(table, sizeof table, requests[0], sizeof requests, replies, sizeof replies); return unused; }
 static void *distinguish(void *unused) { answer = circmon_distinguish(image, sizeof image, other, sizeof other, told, sizeof told); return unused; }
 static void *compare(void *unused) { answer = circmon_compare(2, 0x0001, 1, 0x0003); return unused; }
+static void *load(void *unused) { answer = (uint8_t)circmon_load(1, made, sizeof made); return unused; }
 
 /* Every kind, from the full state on: what the deepest of them needs. */
 static void *ask(void *unused) {
@@ -105,7 +107,7 @@ int main(void) {
     const struct { const char *name; void *(*work)(void *); } rows[] = {
         {"circmon_open", open_unit}, {"circmon_start", start}, {"circmon_ask", ask}, {"circmon_save", save},
         {"circmon_page", page}, {"circmon_begin", begin}, {"circmon_read", reading}, {"circmon_request", level}, {"circmon_replay", replay},
-        {"circmon_distinguish", distinguish}, {"circmon_compare", compare}};
+        {"circmon_distinguish", distinguish}, {"circmon_compare", compare}, {"circmon_load", load}};
     depth(nothing);
     for (size_t i = 0; i < sizeof rows / sizeof *rows; i++) {
         fill();

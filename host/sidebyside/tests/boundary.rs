@@ -1,14 +1,14 @@
 //! The boundary: the header in a C program, and the program `circmon` on files.
 
 use load::Random;
-use reference::{program, MOST_REQUESTS};
+use reference::{program, write_load, MOST_REQUESTS};
 use sidebyside::{compiled_here, fed, root, SHAPES};
 use std::path::{Path, PathBuf};
 use std::process::Command;
 
 const FOLDER: &str = env!("CARGO_TARGET_TMPDIR");
 
-/// What `smoke` prints. The line of `telling`: subject 1 releases r on object 0, which is live in the first image only, and a
+/// What `smoke` prints before its loads. The line of `telling`: subject 1 releases r on object 0, which is live in the first image only, and a
 /// byte that is left.
 const SMOKE: &str = "start 0\nask 0\nask 7\nask 0\nshort 13\nsave 0\nopen 0\nask 1\n\
     page 2 4 13 0\n01 rwa- ---- 0\nto 00 00 00 00 00\nee\n\
@@ -16,11 +16,22 @@ const SMOKE: &str = "start 0\nask 0\nask 7\nask 0\nshort 13\nsave 0\nopen 0\nask
     replay 0\nreplies 0 7 0 238\nbegin 0\ndistinguish 1\ntelling 20 80 01 00 00 00 ee\n\
     compare 0 1 2 3\n";
 
+/// What `smoke` prints, with its loads of two seeds into 13 bytes, as the second implementation makes them.
+fn smoke() -> String {
+    let load = |seed| {
+        let mut buffer = [0xEE; 13];
+        let (number, count) = write_load(seed, &mut buffer);
+        let bytes: String = buffer.iter().map(|byte| format!(" {byte:02x}")).collect();
+        format!("load {number} {count}{bytes}\n")
+    };
+    format!("{SMOKE}{}{}", load(0), load(1))
+}
+
 #[test]
 fn a_c_program_over_the_header() {
     for words in [&["-std=c11", "-O0"][..], &["-std=c11", "-O2"]] {
         let output = Command::new(compiled_here("smoke", FOLDER, words)).output().unwrap();
-        assert_eq!(String::from_utf8_lossy(&output.stdout), SMOKE);
+        assert_eq!(String::from_utf8_lossy(&output.stdout), smoke());
     }
 }
 
@@ -43,14 +54,14 @@ fn a_cpp_program_over_the_header() {
         return;
     }
     let output = Command::new(compiled_as_cpp()).output().unwrap();
-    assert_eq!(String::from_utf8_lossy(&output.stdout), SMOKE);
+    assert_eq!(String::from_utf8_lossy(&output.stdout), smoke());
 }
 
 #[test]
 fn a_null_pointer_with_length_0_is_an_empty_buffer() {
     for words in [&["-O0"][..], &["-O2"]] {
         let output = Command::new(compiled_here("empty", FOLDER, words)).output().unwrap();
-        let expected = "open 10\nstart 10 0\nask 2\nsave 13\npage 2 4 13\nbegin 10 13 0\nread 10\nrequest 138 2\nreplay 10 0 13\ndistinguish 138 202 13\n";
+        let expected = "open 10\nstart 10 0\nask 2\nsave 13\npage 2 4 13\nbegin 10 13 0\nread 10\nrequest 138 2\nreplay 10 0 13\ndistinguish 138 202 13\nload 0 15\n";
         assert_eq!(String::from_utf8_lossy(&output.stdout), expected);
     }
 }
@@ -91,6 +102,18 @@ fn circmon_prints_what_the_second_implementation_prints() {
     ] {
         let input = run(seed, requests, tail);
         assert_eq!(circmon(&input), program(&input), "seed {seed}, {requests} requests, {tail} bytes behind them");
+    }
+}
+
+#[test]
+fn circmon_runs_a_load_from_a_seed() {
+    for (seed, requests) in [(1, 600), (u32::MAX, MOST_REQUESTS), (7, MOST_REQUESTS + 500)] {
+        let mut load = vec![0; 6 * requests];
+        assert_eq!(circmon::load(seed, &mut load).number, 0);
+        let input = [&load::everyone()[..], &load].concat();
+        let printed = circmon(&input);
+        assert_eq!(printed, program(&input), "seed {seed}");
+        assert!(printed.lines().all(|reply| reply != "2"), "seed {seed}: a request that is malformed");
     }
 }
 

@@ -27,8 +27,14 @@ struct Parameter {
     passed: Passed,
 }
 
-/// The functions with their parameters; every one returns a byte.
-type Functions = BTreeMap<String, Vec<Parameter>>;
+#[derive(Clone, Debug, PartialEq, Eq)]
+struct Signature {
+    /// of the number that is returned
+    bits: u8,
+    parameters: Vec<Parameter>,
+}
+
+type Functions = BTreeMap<String, Signature>;
 
 fn parameter(name: &str, passed: Passed) -> Parameter {
     Parameter { name: name.to_string(), passed }
@@ -50,17 +56,47 @@ fn read(file: &str) -> String {
     std::fs::read_to_string(root().join(file)).unwrap_or_else(|error| panic!("{file}: {error}"))
 }
 
-/// Each function behind the words that declare one, with its parameters as one form has them, and what stands behind.
-fn declared(text: &str, before: &str, behind: &str, parameters: fn(&str) -> Vec<Parameter>) -> Functions {
+/// Each function that is declared: with the bits of what it returns, which one form says before or behind it, and with its
+/// parameters. A name that stands where nothing is declared has no bits.
+fn declared(text: &str, bits: fn(&str, &str) -> Option<u8>, parameters: fn(&str) -> Vec<Parameter>) -> Functions {
     let mut functions = Functions::new();
-    for part in text.split(&format!("{before}circmon_")).skip(1) {
-        let (name, rest) = part.split_once('(').expect("a parameter list");
-        let (list, rest) = rest.split_once(')').expect("its end");
-        assert!(rest.starts_with(behind), "circmon_{name}: '{behind}' does not follow, but {rest:.20}");
-        let found = list.split(',').map(str::trim).filter(|it| !it.is_empty()).flat_map(parameters).collect();
-        assert!(functions.insert(format!("circmon_{name}"), found).is_none(), "circmon_{name} stands twice");
+    for (at, _) in text.match_indices("circmon_") {
+        let (before, rest) = text.split_at(at);
+        let Some((name, rest)) = rest.split_once('(') else { continue };
+        if !name.chars().all(|letter| letter.is_ascii_alphanumeric() || letter == '_') {
+            continue;
+        }
+        let (list, behind) = rest.split_once(')').expect("the end of the parameters");
+        let Some(bits) = bits(before, behind) else { continue };
+        let parameters = list.split(',').map(str::trim).filter(|it| !it.is_empty()).flat_map(parameters).collect();
+        let twice = functions.insert(name.to_string(), Signature { bits, parameters });
+        assert!(twice.is_none(), "{name} stands twice");
     }
     functions
+}
+
+/// `uint8_t circmon_read(..);`
+fn bits_in_c(before: &str, behind: &str) -> Option<u8> {
+    let bits = [("uint8_t ", 8), ("uint64_t ", 64)].into_iter().find(|(result, _)| before.ends_with(result))?.1;
+    assert!(behind.starts_with(';'), "include/circmon.h: ';' does not follow, but {behind:.20}");
+    Some(bits)
+}
+
+/// `pub fn circmon_read(..) -> u8;`
+fn bits_in_rust(before: &str, behind: &str) -> Option<u8> {
+    before.ends_with("pub fn ").then(|| returned(behind, ';'))
+}
+
+/// `#[no_mangle] pub extern "C" fn circmon_read(..) -> u8 `
+fn bits_in_rattle(before: &str, behind: &str) -> Option<u8> {
+    before.ends_with(EXPORTED).then(|| returned(behind, ' '))
+}
+
+const EXPORTED: &str = "#[no_mangle] pub extern \"C\" fn ";
+
+fn returned(behind: &str, end: char) -> u8 {
+    let width = behind.strip_prefix(" -> u").and_then(|it| it.split_once(end)).map(|(width, _)| width.parse());
+    width.and_then(Result::ok).unwrap_or_else(|| panic!("a number that is returned does not follow, but {behind:.20}"))
 }
 
 /// `const uint8_t *image`
@@ -70,6 +106,7 @@ fn in_c(parameter: &str) -> Vec<Parameter> {
         ("circmon_size", false) => Passed::Length,
         ("uint8_t", false) => Passed::Number { bits: 8 },
         ("uint16_t", false) => Passed::Number { bits: 16 },
+        ("uint32_t", false) => Passed::Number { bits: 32 },
         ("uint8_t", true) => Passed::Bytes { mutable: true },
         ("const uint8_t", true) => Passed::Bytes { mutable: false },
         ("circmon_unit", true) => Passed::Unit { mutable: true },
@@ -86,6 +123,7 @@ fn in_rust(parameter: &str) -> Vec<Parameter> {
         "u64" => Passed::Length,
         "u8" => Passed::Number { bits: 8 },
         "u16" => Passed::Number { bits: 16 },
+        "u32" => Passed::Number { bits: 32 },
         "*mut u8" => Passed::Bytes { mutable: true },
         "*const u8" => Passed::Bytes { mutable: false },
         "*mut Rows" => Passed::Unit { mutable: true },
@@ -112,13 +150,17 @@ fn in_rattle(parameter: &str) -> Vec<Parameter> {
     }
 }
 
+/// What a text in C declares.
+fn declared_in_c(text: &str) -> Functions {
+    declared(text, bits_in_c, in_c)
+}
+
 fn header() -> Functions {
-    let text = plain(&read("include/circmon.h"), &[("/*", "*/")]);
-    declared(&text, "uint8_t ", ";", in_c)
+    declared_in_c(&plain(&read("include/circmon.h"), &[("/*", "*/")]))
 }
 
 fn bindings() -> Functions {
-    declared(&plain(&read("host/circmon/src/raw.rs"), &[("//", "\n")]), "pub fn ", " -> u8;", in_rust)
+    declared(&plain(&read("host/circmon/src/raw.rs"), &[("//", "\n")]), bits_in_rust, in_rust)
 }
 
 fn library() -> Functions {
@@ -126,19 +168,17 @@ fn library() -> Functions {
     let mut functions = Functions::new();
     for entry in std::fs::read_dir(folder).unwrap().map(Result::unwrap) {
         let text = plain(&std::fs::read_to_string(entry.path()).unwrap(), &[("//", "\n")]);
-        assert_eq!(
-            text.matches("#[no_mangle]").count(),
-            text.matches("#[no_mangle] pub extern \"C\" fn circmon_").count()
-        );
-        functions.extend(declared(&text, "#[no_mangle] pub extern \"C\" fn ", " -> u8 ", in_rattle));
+        let exported = text.matches(&format!("{EXPORTED}circmon_")).count();
+        assert_eq!(text.matches("#[no_mangle]").count(), exported);
+        functions.extend(declared(&text, bits_in_rattle, in_rattle));
     }
     functions
 }
 
-/// How each function's parameters pass, without their names.
-fn passed(functions: &Functions) -> BTreeMap<&str, Vec<Passed>> {
-    let kinds = |list: &[Parameter]| list.iter().map(|it| it.passed).collect();
-    functions.iter().map(|(name, list)| (name.as_str(), kinds(list))).collect()
+/// What each function returns and how its parameters pass, without their names.
+fn passed(functions: &Functions) -> BTreeMap<&str, (u8, Vec<Passed>)> {
+    let kinds = |it: &Signature| (it.bits, it.parameters.iter().map(|it| it.passed).collect());
+    functions.iter().map(|(name, it)| (name.as_str(), kinds(it))).collect()
 }
 
 #[test]
@@ -165,6 +205,8 @@ fn the_sizes_of_the_header_are_those_of_the_bindings() {
     let sizes: BTreeMap<&str, usize> = text
         .lines()
         .filter_map(|line| line.strip_prefix("#define CIRCMON_")?.split_once(' '))
+        // what takes an argument is no size
+        .filter(|(name, _)| !name.contains('('))
         .map(|(name, number)| (name, number.parse().unwrap()))
         .collect();
     let expected = [
@@ -184,23 +226,40 @@ fn the_sizes_of_the_header_are_those_of_the_bindings() {
     assert_eq!((reference::SUBJECTS, reference::OBJECTS), (circmon::SUBJECTS, circmon::OBJECTS));
 }
 
-#[test]
-fn a_parameter_that_is_not_so_would_be_seen() {
-    let text = "uint8_t circmon_save(const circmon_unit *unit, uint8_t *image, circmon_size image_len);";
-    let right = declared(text, "uint8_t ", ";", in_c);
-    assert_eq!(right["circmon_save"], header()["circmon_save"]);
-    for (from, to) in [("const circmon_unit", "circmon_unit"), ("uint8_t *image", "const uint8_t *image")] {
-        let wrong = declared(&text.replacen(from, to, 1), "uint8_t ", ";", in_c);
-        assert_ne!(passed(&wrong), passed(&right), "{to}");
+/// That the text declares a function as the header does, and with any of these words replaced does not.
+fn check_edits(text: &str, edits: &[(&str, &str)]) {
+    let right = declared_in_c(text);
+    let name = right.keys().next().expect("a function").clone();
+    assert_eq!(right[&name], header()[&name]);
+    for (from, to) in edits {
+        assert!(text.contains(from), "{from}");
+        let wrong = declared_in_c(&text.replacen(from, to, 1));
+        assert_ne!(passed(&wrong), passed(&right), "{to} for {from}");
     }
-    assert_ne!(declared(&text.replace(", circmon_size image_len", ""), "uint8_t ", ";", in_c), right);
-    assert_ne!(declared(&text.replace("_save", "_store"), "uint8_t ", ";", in_c), right);
-    let text = "uint8_t circmon_page(const circmon_unit *unit, uint8_t object, uint8_t *page, circmon_size page_len);";
-    let right = declared(text, "uint8_t ", ";", in_c);
-    assert_eq!(right["circmon_page"], header()["circmon_page"]);
-    assert_ne!(declared(&text.replace("uint8_t object", "circmon_size object"), "uint8_t ", ";", in_c), right);
-    let text = "uint8_t circmon_compare(uint8_t class_a, uint16_t needs_a, uint8_t class_b, uint16_t needs_b);";
-    let right = declared(text, "uint8_t ", ";", in_c);
-    assert_eq!(right["circmon_compare"], header()["circmon_compare"]);
-    assert_ne!(passed(&declared(&text.replacen("uint16_t", "uint8_t", 1), "uint8_t ", ";", in_c)), passed(&right));
+}
+
+#[test]
+fn what_is_not_so_would_be_seen() {
+    check_edits(
+        "uint8_t circmon_save(const circmon_unit *unit, uint8_t *image, circmon_size image_len);",
+        &[
+            ("const circmon_unit", "circmon_unit"),
+            ("uint8_t *image", "const uint8_t *image"),
+            (", circmon_size image_len", ""),
+            ("_save", "_store"),
+            ("uint8_t circmon_", "uint64_t circmon_"),
+        ],
+    );
+    check_edits(
+        "uint8_t circmon_page(const circmon_unit *unit, uint8_t object, uint8_t *page, circmon_size page_len);",
+        &[("uint8_t object", "circmon_size object")],
+    );
+    check_edits(
+        "uint8_t circmon_compare(uint8_t class_a, uint16_t needs_a, uint8_t class_b, uint16_t needs_b);",
+        &[("uint16_t", "uint8_t")],
+    );
+    check_edits(
+        "uint64_t circmon_load(uint32_t seed, uint8_t *requests, circmon_size requests_len);",
+        &[("uint64_t", "uint8_t"), ("uint32_t", "uint16_t"), ("uint8_t *requests", "const uint8_t *requests")],
+    );
 }
