@@ -1,10 +1,11 @@
-//! Whole states: begun, opened, saved, pages of their objects, and one request on an image, beside the second implementation.
+//! Whole states: begun, opened, saved, pages of their objects, and one request on an image; and test loads made from a seed;
+//! beside the second implementation.
 
 use crate::loads::{prepare, shape};
 use crate::timing::{each, median, ROUNDS};
 use circmon::Unit;
 use load::Random;
-use reference::{Kind, Mode, Monitor, Request, IMAGE_BYTES, OBJECTS, PAGE_BYTES};
+use reference::{Kind, Mode, Monitor, Request, IMAGE_BYTES, OBJECTS, PAGE_BYTES, REQUEST_BYTES};
 
 /// The microseconds of the proved monitor and of the second implementation, taken in turns.
 fn row(work: &str, proved: &mut dyn FnMut(), reference: &mut dyn FnMut()) {
@@ -32,6 +33,7 @@ pub fn images() {
     }
     pages("page, sparse", false);
     pages("page, dense", true);
+    load_from_seed(100);
 }
 
 /// The table is short and the image long: a beginning that is written is nearly the time of writing alone.
@@ -73,6 +75,17 @@ fn pages(work: &str, dense: bool) {
     row(work, &mut || assert_eq!(unit.page(*ours.next().expect("a live object"), &mut one), 0), &mut || {
         assert_eq!(monitor.write_page(*theirs.next().expect("a live object"), &mut two), 0)
     });
+    assert_eq!(one, two);
+}
+
+/// So many requests made from a seed. What one costs does not depend on how many there are.
+fn load_from_seed(requests: usize) {
+    let (mut one, mut two) = (vec![0; requests * REQUEST_BYTES], vec![0; requests * REQUEST_BYTES]);
+    row(
+        &format!("load, {requests} requests from seed 1"),
+        &mut || assert_eq!(circmon::load(1, &mut one).number, 0),
+        &mut || assert_eq!(reference::write_load(1, &mut two).0, 0),
+    );
     assert_eq!(one, two);
 }
 

@@ -1,7 +1,7 @@
-//! The loads: each a table and requests, of one kind or mixed, on few or many objects.
+//! The loads: each a table and requests, of one kind or mixed, on few or many objects; and a test load from a seed.
 
 use load::{Random, Shape};
-use reference::{Kind, Level, Monitor, Request, SUBJECTS};
+use reference::{Kind, Level, Monitor, Request, REQUEST_BYTES, SUBJECTS};
 
 const REQUESTS: usize = 20_000;
 
@@ -113,7 +113,16 @@ pub fn loads() -> Vec<Load> {
             loads.extend(KINDS.map(|(kind, draw)| drawn(kind, draw, objects, dense)));
         }
     }
+    loads.push(from_seed(1));
     loads
+}
+
+/// A test load as the library makes it, with everyone enrolled: who has the table, the seed and the number of requests can
+/// repeat it without this program. Nothing stands before the requests that count.
+fn from_seed(seed: u32) -> Load {
+    let mut requests = vec![0; REQUESTS * REQUEST_BYTES];
+    assert_eq!(circmon::load(seed, &mut requests).number, 0);
+    Load { name: format!("from seed {seed}"), table: load::everyone(), requests }
 }
 
 fn seed(objects: usize, dense: bool) -> u64 {
@@ -137,9 +146,15 @@ fn drawn(kind: &str, draw: Draw, objects: usize, dense: bool) -> Load {
 #[cfg(test)]
 mod tests {
     use super::*;
-    use reference::REQUEST_BYTES;
 
     const PREPARED: [(usize, bool); 6] = [(4, false), (4, true), (16, false), (16, true), (64, false), (64, true)];
+
+    /// The replies of a load, with those to the requests that make its state.
+    fn replies(load: &Load) -> (Monitor, Vec<u8>) {
+        let mut monitor = Monitor::from_table(&load.table).expect("a table that was written");
+        let replies = load.requests.chunks(REQUEST_BYTES).map(|it| monitor.request(it)).collect();
+        (monitor, replies)
+    }
 
     /// How many accesses are held.
     fn held(monitor: &Monitor) -> usize {
@@ -167,8 +182,7 @@ mod tests {
     fn changes_of_level_get_as_far_as_their_last_checks() {
         for (objects, dense) in PREPARED {
             let load = drawn("change level", change_level, objects, dense);
-            let mut monitor = Monitor::from_table(&load.table).expect("a table that was written");
-            let all: Vec<u8> = load.requests.chunks(REQUEST_BYTES).map(|it| monitor.request(it)).collect();
+            let (monitor, all) = replies(&load);
             let replies = &all[all.len() - REQUESTS..];
             let of = |numbers: &[u8]| replies.iter().filter(|reply| numbers.contains(reply)).count();
             let what = format!("{}: {:?}", load.name, [0, 1, 8, 9, 14].map(|number| (number, of(&[number]))));
@@ -178,5 +192,22 @@ mod tests {
             assert!(20 * often > REQUESTS, "{what}");
             assert_eq!(held(&monitor) >= 2 * objects, dense, "{what}: {} accesses are left", held(&monitor));
         }
+    }
+
+    #[test]
+    fn the_load_of_seed_1_is_that_of_the_second_implementation_and_gets_these_replies() {
+        let load = from_seed(1);
+        let mut requests = vec![0; load.requests.len()];
+        assert_eq!(reference::write_load(1, &mut requests), (0, REQUESTS));
+        assert_eq!(load.requests, requests);
+        let (monitor, replies) = replies(&load);
+        assert!(monitor.subjects.iter().all(Option::is_some));
+        let mut met = replies.clone();
+        met.sort_unstable();
+        met.dedup();
+        assert_eq!(met, [0, 1, 4, 5, 6, 7, 8, 9, 14]);
+        // every field is drawn, so most actors have no right to what they ask for, and one request in six is granted
+        let of = |numbers: &[u8]| replies.iter().filter(|reply| numbers.contains(reply)).count();
+        assert!(2 * of(&[6]) > REQUESTS && (REQUESTS / 7..REQUESTS / 5).contains(&of(&[0, 1])), "{}", of(&[0, 1]));
     }
 }
