@@ -23,7 +23,7 @@ impl Clone {
         fs::create_dir(&folder).unwrap();
         copy(&super::root(), &root);
         fs::create_dir(&programs).unwrap();
-        script(&programs.join("rt"), &toolchain());
+        script(&programs.join("rt"), &toolchain(&folder.join("archive")));
         let path = format!("{}:{}", programs.display(), std::env::var("PATH").unwrap());
         Clone { folder, root, path }
     }
@@ -69,8 +69,9 @@ pub fn script(place: &Path, text: &str) {
     fs::set_permissions(place, fs::Permissions::from_mode(0o755)).unwrap();
 }
 
-/// `rt`, which first copies the proofs of the repository where it finds none. The program `circmon` is not among them.
-fn toolchain() -> String {
+/// `rt`, which first copies the proofs of the repository where it finds none. The program `circmon` is not among them. The
+/// archive of the library is built once in a clone and then handed out again, since `rt` proves the library anew each time.
+fn toolchain(kept: &Path) -> String {
     let target = root().join("target");
     format!(
         "#!/usr/bin/env bash\n\
@@ -79,7 +80,15 @@ fn toolchain() -> String {
              mkdir -p target && cp -r {0}/rlib {0}/stamp {0}/log target 2> /dev/null\n    \
              rm -f target/stamp/circmon\n\
          fi\n\
-         exec rt \"$@\"\n",
-        target.display()
+         if [ \"$*\" != 'staticlib capi' ]; then\n    \
+             exec rt \"$@\"\n\
+         fi\n\
+         if [ ! -d {1} ]; then\n    \
+             rt staticlib capi && cp -r target/staticlib {1}\n\
+         else\n    \
+             mkdir -p target/staticlib && cp -r {1}/. target/staticlib\n\
+         fi\n",
+        target.display(),
+        kept.display()
     )
 }
