@@ -1,8 +1,9 @@
-/* Tables, requests and images by their bits, and a page by its characters, written from docs/FORMATS.md alone: a table with
- * three subjects, each of the seven kinds of request, the record of an object read out of the image, and its access page.
- * docs/FORMATS.md builds and runs it. */
+/* Tables, requests and images by their bits, a page by its characters and a load by its draws, written from docs/FORMATS.md
+ * alone: a table with three subjects, each of the seven kinds of request, the record of an object read out of the image, its
+ * access page, and test loads made here beside those of the library. docs/FORMATS.md builds and runs it. */
 #include "circmon.h"
 #include <stdio.h>
+#include <string.h>
 
 /* The fields are packed most significant bit first: bit 0 is the bit of weight 128 in byte 0. */
 static void put(uint8_t *bytes, unsigned at, unsigned width, unsigned number) {
@@ -83,6 +84,41 @@ static void show_page(const uint8_t *image, unsigned object) {
     printf("    holders: r %.2s, w %.2s, a %.2s, e %.2s, total %.2s\n", last + 3, last + 6, last + 9, last + 12, last + 15);
 }
 
+/* The next draw of a load. */
+static uint32_t draw(uint32_t *state) {
+    *state ^= *state << 13;
+    *state ^= *state >> 17;
+    *state ^= *state << 5;
+    return *state;
+}
+
+/* Seven draws, in the order of the fields; a field that the kind does not use is drawn and is 0. */
+static void drawn(uint8_t bytes[CIRCMON_REQUEST_BYTES], uint32_t *state) {
+    struct request it = {"", (enum kind)(1 + draw(state) % 7), 0, 0, 0, NONE, 0, 0};
+    it.actor = draw(state) % 16;
+    it.other = draw(state) % 16 * (it.kind == GIVE || it.kind == RESCIND);
+    it.object = draw(state) % 64;
+    uint32_t d = draw(state);
+    it.mode = (enum mode)(it.kind <= RESCIND ? 1 + d % 4 : it.kind == CREATE ? 4 * (d % 2) : 0);
+    it.class = draw(state) % 16 * (it.kind == CHANGE_LEVEL);
+    it.needs = draw(state) % 65536 * (it.kind == CHANGE_LEVEL);
+    pack(bytes, &it);
+}
+
+static void compare_loads(uint32_t seeds) {
+    uint8_t library[20 * CIRCMON_REQUEST_BYTES], here[sizeof library];
+    uint32_t equal = 0;
+    for (uint32_t seed = 1; seed <= seeds; seed++) {
+        uint32_t state = seed;
+        for (size_t i = 0; i < sizeof here; i += CIRCMON_REQUEST_BYTES) {
+            drawn(here + i, &state);
+        }
+        uint64_t answer = circmon_load(seed, library, sizeof library);
+        equal += answer % 256 == 0 && answer / 256 == 20 && memcmp(library, here, sizeof here) == 0;
+    }
+    printf("loads of 20 requests from seeds 1 to %u: %u are as drawn here\n", (unsigned)seeds, (unsigned)equal);
+}
+
 static const struct request requests[] = {
     {"s1 creates o1 with e", CREATE, 1, 0, 1, E, 0, 0},
     {"s1 changes the level of o1 to class 2 needs {0}", CHANGE_LEVEL, 1, 0, 1, NONE, 2, 0x0001},
@@ -112,5 +148,6 @@ int main(void) {
     hex("bytes 61 to 66 of the image\n", image + 61, 6);
     show_object(image, 1);
     show_page(image, 1);
+    compare_loads(10000);
     return 0;
 }

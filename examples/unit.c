@@ -1,6 +1,6 @@
 /* A unit in C: it starts from an enrolment table, answers requests in memory, writes the access page of an object, saves its
- * state as an image and opens it again; a request on an image alone; and two levels compared. docs/EMBEDDING.md builds and runs
- * it. */
+ * state as an image and opens it again; a request on an image alone; two levels compared; and a test load. docs/EMBEDDING.md
+ * builds and runs it. */
 #include "circmon.h"
 #include <stdio.h>
 #include <string.h>
@@ -24,7 +24,9 @@ static const uint8_t release[CIRCMON_REQUEST_BYTES] = {0x20, 0x80, 0x01, 0x00, 0
 int main(void) {
     circmon_unit unit, again;
     uint8_t saved[CIRCMON_IMAGE_BYTES], image[CIRCMON_IMAGE_BYTES], telling[CIRCMON_DISTINGUISH_BYTES];
-    uint8_t page[CIRCMON_PAGE_BYTES], answer;
+    uint8_t page[CIRCMON_PAGE_BYTES], load[200 * CIRCMON_REQUEST_BYTES], answer;
+    uint64_t loaded;
+    int granted = 0;
     printf("start: %d\n", circmon_start(&unit, table, sizeof table));
     for (size_t i = 0; i < sizeof requests / sizeof *requests; i++) {
         uint8_t reply = circmon_ask(&unit, requests[i].bytes, CIRCMON_REQUEST_BYTES);
@@ -45,5 +47,12 @@ int main(void) {
     /* why s0 could not read an object with this label */
     answer = circmon_compare(1, 0x0001, 2, 0x0002);
     printf("class 1 needs {0} compared with class 2 needs {1}: %d, %s\n", answer, answers[answer]);
+    /* a test load: a number with a count beside it */
+    loaded = circmon_load(1, load, sizeof load);
+    for (uint64_t i = 0; i < CIRCMON_COUNT(loaded); i++) {
+        granted += circmon_ask(&unit, load + CIRCMON_REQUEST_BYTES * i, CIRCMON_REQUEST_BYTES) < 2;
+    }
+    printf("load from seed 1: %d, %d requests, %d of them granted\n", CIRCMON_NUMBER(loaded), (int)CIRCMON_COUNT(loaded),
+           granted);
     return 0;
 }
