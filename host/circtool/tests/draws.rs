@@ -10,16 +10,15 @@ use shared::formats::{document, fields, table};
 
 /// The kinds by their names on the page, from kind 1 on.
 fn kinds() -> Vec<String> {
-    table("kind").iter().map(|row| row[1].clone()).collect()
+    table("kind | name").iter().map(|row| row[1].clone()).collect()
 }
 
 /// Whether the words name this kind.
-fn names(words: &str, kind: u64) -> bool {
+fn names(words: &str, known: &[String], kind: u64) -> bool {
     if let Some((first, last)) = words.strip_prefix("kinds ").and_then(|range| range.split_once(" to ")) {
         return (first.parse().unwrap()..=last.parse().unwrap()).contains(&kind);
     }
     let wanted: Vec<&str> = words.split(" and ").collect();
-    let known = kinds();
     assert!(wanted.iter().all(|name| known.iter().any(|kind| kind == name)), "{words}");
     wanted.contains(&known[kind as usize - 1].as_str())
 }
@@ -37,11 +36,11 @@ fn value(expression: &str, draw: u64) -> u64 {
 }
 
 /// What a cell of the table says of a draw, in a request of this kind; 0 where no clause names the kind.
-fn said(cell: &str, kind: Option<u64>, draw: u64) -> u64 {
+fn said(cell: &str, known: &[String], kind: Option<u64>, draw: u64) -> u64 {
     for clause in cell.split(", ") {
         match clause.split_once(" in ") {
             None => return value(clause, draw),
-            Some((expression, words)) if names(words, kind.unwrap()) => return value(expression, draw),
+            Some((expression, words)) if names(words, known, kind.unwrap()) => return value(expression, draw),
             Some(_) => {}
         }
     }
@@ -50,7 +49,7 @@ fn said(cell: &str, kind: Option<u64>, draw: u64) -> u64 {
 
 #[test]
 fn every_field_is_what_the_table_says_of_its_draw() {
-    let (draws, places) = (table("draw of a request"), fields("field of a request"));
+    let (draws, places, known) = (table("draw of a request"), fields("field of a request"), kinds());
     let order: Vec<&str> = draws.iter().map(|row| row[0].as_str()).collect();
     assert_eq!(order, ["1", "2", "3", "4", "5", "6", "7"]);
     let mut written = vec![0; 400 * REQUEST_BYTES];
@@ -66,13 +65,8 @@ fn every_field_is_what_the_table_says_of_its_draw() {
                 let (first, width) = places[&row[1]];
                 let shift = 48 - first - width;
                 let number = word >> shift & ((1 << width) - 1);
-                assert_eq!(
-                    number,
-                    said(&row[2], kind, generator.draw().into()),
-                    "{} of seed {seed}: {}",
-                    row[1],
-                    hex(bytes)
-                );
+                let wanted = said(&row[2], &known, kind, generator.draw().into());
+                assert_eq!(number, wanted, "{} of seed {seed}: {}", row[1], hex(bytes));
                 kind = kind.or(Some(number));
                 left -= number << shift;
             }
