@@ -25,21 +25,19 @@ pub first-from-the-paper : xorshift 2463534242 ≡ 723471715
 unfolding xorshift
 first-from-the-paper = refl
 
--- nine requests, every kind and every mode among them, as six bytes each: s6 creates o24; s1 rescinds e on o13 from s11; s1 releases a
--- on o28; s15 gives s9 w on o39; s11 changes o33 to class 6 and needs 39668; s0 deletes o31; s3 releases r on o41; s8 gets w on o15;
--- s4 creates o63 with e
-pub nine-from-425 : bytesFrom 9 425
-    ≡ 83 ∷ 0 ∷ 192 ∷ 0 ∷ 0 ∷ 0
-    ∷ 64 ∷ 172 ∷ 108 ∷ 0 ∷ 0 ∷ 0
-    ∷ 32 ∷ 128 ∷ 227 ∷ 0 ∷ 0 ∷ 0
-    ∷ 55 ∷ 165 ∷ 58 ∷ 0 ∷ 0 ∷ 0
-    ∷ 117 ∷ 129 ∷ 8 ∷ 105 ∷ 175 ∷ 64
-    ∷ 96 ∷ 0 ∷ 248 ∷ 0 ∷ 0 ∷ 0
-    ∷ 33 ∷ 129 ∷ 73 ∷ 0 ∷ 0 ∷ 0
-    ∷ 20 ∷ 0 ∷ 122 ∷ 0 ∷ 0 ∷ 0
-    ∷ 82 ∷ 1 ∷ 252 ∷ 0 ∷ 0 ∷ 0 ∷ []
+-- eight requests, every kind and every mode among them, six bytes each: s5 creates o7 with e; s2 releases a on o24; s5 creates o14; s12 gives
+-- s8 e on o32; s11 changes o27 to class 12 and needs 42553; s8 rescinds r on o37 from s15; s7 deletes o37; s1 gets w on o49
+pub eight-from-122563 : bytesFrom 8 122563
+    ≡ 82 ∷ 128 ∷ 60 ∷ 0 ∷ 0 ∷ 0
+    ∷ 33 ∷ 0 ∷ 195 ∷ 0 ∷ 0 ∷ 0
+    ∷ 82 ∷ 128 ∷ 112 ∷ 0 ∷ 0 ∷ 0
+    ∷ 54 ∷ 33 ∷ 4 ∷ 0 ∷ 0 ∷ 0
+    ∷ 117 ∷ 128 ∷ 216 ∷ 202 ∷ 99 ∷ 144
+    ∷ 68 ∷ 61 ∷ 41 ∷ 0 ∷ 0 ∷ 0
+    ∷ 99 ∷ 129 ∷ 40 ∷ 0 ∷ 0 ∷ 0
+    ∷ 16 ∷ 129 ∷ 138 ∷ 0 ∷ 0 ∷ 0 ∷ []
 unfolding bytesFrom requestsFrom made draw xorshift pack join bitsToBytes fromBits toBits odd
-nine-from-425 = refl
+eight-from-122563 = refl
 
 -- a buffer of 14 bytes takes two requests, and its last two bytes are left; one of five takes none
 pub two-in-fourteen : (loaded 1 (replicate 14 238) ≡ 32 ∷ 128 ∷ 122 ∷ 0 ∷ 0 ∷ 0 ∷ 34 ∷ 128 ∷ 92 ∷ 0 ∷ 0 ∷ 0 ∷ 238 ∷ 238 ∷ []) × (loadCount 1 (replicate 14 238) ≡ 2)
