@@ -5,6 +5,7 @@ use native.Mathlib.Omega.{arith}
 use mathlib.Core.Path.{_≡_, refl, _∙_}
 use mathlib.Core.Logic.{_≢_, _⊎_, ⊎-elim}
 use mathlib.Core.Bool.{Bool, true, false}
+use lib.Dec.{eqb}
 use borrow.Author.Tests.{le-leb, lt-leb, eq-eqb, ne-eqb}
 use Rattle.model.proofs.Tests.{or-left, or-right, cond-true, cond-false}
 use Rattle.test_load.specs.Generator.{draw}
@@ -43,7 +44,7 @@ module _ (x : ℕ) where
   unfolding made
   other-drawn =
       ⊎-elim (λ e. field-used (usesOther (made x .kind)) (draw 3 x % 16) (or-left _ _ (eq-eqb _ 3 e)))
-      (λ e. field-used (usesOther (made x .kind)) (draw 3 x % 16) (or-right _ _ (eq-eqb _ 4 e)))
+      (λ e. field-used (usesOther (made x .kind)) (draw 3 x % 16) (or-right (eqb (made x .kind) 3) _ (eq-eqb _ 4 e)))
 
   -- "1 + d mod 4 for kinds 1 to 4, 4 times (d mod 2) for create, else 0"
   pub mode-drawn : (made x .kind ≤ 4 → made x .mode ≡ 1 + draw 5 x % 4) × (made x .kind ≡ 5 → made x .mode ≡ 4 * (draw 5 x % 2)) × (5 < made x .kind → made x .mode ≡ 0)
