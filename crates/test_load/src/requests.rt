@@ -4,6 +4,7 @@ ghost use Rattle.test_load.specs.Generator.{draw};
 ghost use Rattle.test_load.specs.Load.{kindDrawn, usesOther, otherDrawn, modeDrawn, classDrawn, needsDrawn, made};
 use crate::xorshift::next;
 use model::Fields;
+use model::Level;
 
 fn kind_drawn(d: u32) -> u8
     ensures { λ r. ⌜ r ≡ kindDrawn d ⌝ }
@@ -37,16 +38,16 @@ fn mode_drawn(kind: u8, d: u32) -> u8
 }
 
 // Class and needs stand in a change of level.
-fn class_drawn(kind: u8, d: u32) -> u8
-    ensures { λ r. ⌜ r ≡ classDrawn kind d ⌝ }
+fn level_drawn(kind: u8, class: u32, needs: u32) -> Level
+    ensures { λ r. ⌜ (r .class ≡ classDrawn kind class) × (r .needs ≡ needsDrawn kind needs) ⌝ }
 {
-    if kind == 7 { (d % 16) as u8 } else { 0 }
-}
-
-fn needs_drawn(kind: u8, d: u32) -> u16
-    ensures { λ r. ⌜ r ≡ needsDrawn kind d ⌝ }
-{
-    if kind == 7 { (d % 65536) as u16 } else { 0 }
+    if kind != 7 {
+        return Level { class: 0, needs: 0 };
+    }
+    Level {
+        class: (class % 16) as u8,
+        needs: (needs % 65536) as u16,
+    }
 }
 
 // A request, and the state behind its seven draws.
@@ -67,14 +68,15 @@ pub fn make(state: u32) -> Made
     let class = next(mode);
     let needs = next(class);
     let kind = kind_drawn(first);
+    let level = level_drawn(kind, class, needs);
     let fields = Fields {
         kind,
         actor: (actor % 16) as u8,
         other: other_drawn(kind, other),
         object: (object % 64) as u8,
         mode: mode_drawn(kind, mode),
-        class: class_drawn(kind, class),
-        needs: needs_drawn(kind, needs),
+        class: level.class,
+        needs: level.needs,
         spare: 0,
     };
     Made {

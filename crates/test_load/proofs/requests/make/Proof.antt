@@ -29,37 +29,35 @@ next-requires-7 c κs = search needs
 kind-drawn-requires : tie.Need-kind-drawn-requires
 kind-drawn-requires c κs = search needs
 
-cast-t12 : tie.Need-cast-t12
-cast-t12 c = search needs
+level-drawn-requires : tie.Need-level-drawn-requires
+level-drawn-requires c κs = search needs
+
+cast-t13 : tie.Need-cast-t13
+cast-t13 c = search needs
 
 other-drawn-requires : tie.Need-other-drawn-requires
 other-drawn-requires c κs = search needs
 
-cast-t15 : tie.Need-cast-t15
-cast-t15 c = search needs
+cast-t16 : tie.Need-cast-t16
+cast-t16 c = search needs
 
 mode-drawn-requires : tie.Need-mode-drawn-requires
 mode-drawn-requires c κs = search needs
 
-class-drawn-requires : tie.Need-class-drawn-requires
-class-drawn-requires c κs = search needs
-
-needs-drawn-requires : tie.Need-needs-drawn-requires
-needs-drawn-requires c κs = search needs
-
 returns : tie.Need-returns
 returns c =
-    let x = c .before .before .before .before .before .before .before .before .before .before .before .before .args .state in
-    let a = c .before .before .before .before .before .before .before .before .before .before .before .next in
-    let b = c .before .before .before .before .before .before .before .before .before .before .next2 in
-    let d = c .before .before .before .before .before .before .before .before .before .next3 in
-    let e = c .before .before .before .before .before .before .before .before .next4 in
-    let f = c .before .before .before .before .before .before .before .next5 in
-    let g = c .before .before .before .before .before .before .next6 in
-    let h = c .before .before .before .before .before .next7 in (
-      made-of x _ _ _ _ _ _ _ (a .ensures) (b .ensures) (d .ensures) (e .ensures) (f .ensures) (g .ensures) (h .ensures) _ _ _ _ _
-          (c .before .before .before .before .kind-drawn .ensures) (c .before .before .before .other-drawn .ensures) (c .before .before .mode-drawn .ensures) (c .before .class-drawn .ensures) (c .needs-drawn .ensures),
-      seventh x _ _ _ _ _ _ _ (a .ensures) (b .ensures) (d .ensures) (e .ensures) (f .ensures) (g .ensures) (h .ensures),
+    let x = c .before .before .before .before .before .before .before .before .before .before .before .args .state in
+    let a = c .before .before .before .before .before .before .before .before .before .before .next .ensures in
+    let b = c .before .before .before .before .before .before .before .before .before .next2 .ensures in
+    let d = c .before .before .before .before .before .before .before .before .next3 .ensures in
+    let e = c .before .before .before .before .before .before .before .next4 .ensures in
+    let f = c .before .before .before .before .before .before .next5 .ensures in
+    let g = c .before .before .before .before .before .next6 .ensures in
+    let h = c .before .before .before .before .next7 .ensures in
+    let level = c .before .before .level-drawn .ensures in (
+      made-of x _ _ _ _ _ _ _ a b d e f g h _ _ _ _ _
+          (c .before .before .before .kind-drawn .ensures) (c .before .other-drawn .ensures) (c .mode-drawn .ensures) (level .0) (level .1),
+      seventh x _ _ _ _ _ _ _ a b d e f g h,
     )
 
 pub make-spec : {M : Type 1} → statement M
@@ -74,10 +72,9 @@ make-spec =
     next-requires-6
     next-requires-7
     kind-drawn-requires
-    cast-t12
+    level-drawn-requires
+    cast-t13
     other-drawn-requires
-    cast-t15
+    cast-t16
     mode-drawn-requires
-    class-drawn-requires
-    needs-drawn-requires
     returns)
