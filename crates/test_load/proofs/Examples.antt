@@ -25,19 +25,26 @@ pub first-from-the-paper : xorshift 2463534242 ≡ 723471715
 unfolding xorshift
 first-from-the-paper = refl
 
--- eight requests, every kind and every mode among them, six bytes each: s5 creates o7 with e; s2 releases a on o24; s5 creates o14; s12 gives
--- s8 e on o32; s11 changes o27 to class 12 and needs 42553; s8 rescinds r on o37 from s15; s7 deletes o37; s1 gets w on o49
-pub eight-from-122563 : bytesFrom 8 122563
-    ≡ 82 ∷ 128 ∷ 60 ∷ 0 ∷ 0 ∷ 0
-    ∷ 33 ∷ 0 ∷ 195 ∷ 0 ∷ 0 ∷ 0
-    ∷ 82 ∷ 128 ∷ 112 ∷ 0 ∷ 0 ∷ 0
-    ∷ 54 ∷ 33 ∷ 4 ∷ 0 ∷ 0 ∷ 0
-    ∷ 117 ∷ 128 ∷ 216 ∷ 202 ∷ 99 ∷ 144
-    ∷ 68 ∷ 61 ∷ 41 ∷ 0 ∷ 0 ∷ 0
-    ∷ 99 ∷ 129 ∷ 40 ∷ 0 ∷ 0 ∷ 0
-    ∷ 16 ∷ 129 ∷ 138 ∷ 0 ∷ 0 ∷ 0 ∷ []
+-- nine requests, every kind and every mode among them, six bytes each: s15 releases r on o11; s0 rescinds e on o43 from s8; s6 deletes o35; s5
+-- creates o62; s13 changes o29 to class 1 and needs 42367; s8 gets w on o27; s10 changes o18 to class 11 and needs 18860; s1 creates o33 with
+-- e; s5 gives s14 a on o5
+pub nine-from-12275 : bytesFrom 9 12275
+    ≡ 39 ∷ 128 ∷ 89 ∷ 0 ∷ 0 ∷ 0
+    ∷ 64 ∷ 33 ∷ 92 ∷ 0 ∷ 0 ∷ 0
+    ∷ 99 ∷ 1 ∷ 24 ∷ 0 ∷ 0 ∷ 0
+    ∷ 82 ∷ 129 ∷ 240 ∷ 0 ∷ 0 ∷ 0
+    ∷ 118 ∷ 128 ∷ 232 ∷ 26 ∷ 87 ∷ 240
+    ∷ 20 ∷ 0 ∷ 218 ∷ 0 ∷ 0 ∷ 0
+    ∷ 117 ∷ 0 ∷ 144 ∷ 180 ∷ 154 ∷ 192
+    ∷ 80 ∷ 129 ∷ 12 ∷ 0 ∷ 0 ∷ 0
+    ∷ 50 ∷ 184 ∷ 43 ∷ 0 ∷ 0 ∷ 0 ∷ []
 unfolding bytesFrom requestsFrom made draw xorshift pack join bitsToBytes fromBits toBits odd
-eight-from-122563 = refl
+nine-from-12275 = refl
+
+-- a request more with every sixth byte
+pub how-many-fit : map (λ n. loadCount 1 (replicate n 238)) (0 ∷ 5 ∷ 6 ∷ 11 ∷ 12 ∷ 17 ∷ 18 ∷ []) ≡ 0 ∷ 0 ∷ 1 ∷ 1 ∷ 2 ∷ 2 ∷ 3 ∷ []
+unfolding loadCount loading unless
+how-many-fit = refl
 
 -- a buffer of 14 bytes takes two requests, and its last two bytes are left; one of five takes none
 pub two-in-fourteen : (loaded 1 (replicate 14 238) ≡ 32 ∷ 128 ∷ 122 ∷ 0 ∷ 0 ∷ 0 ∷ 34 ∷ 128 ∷ 92 ∷ 0 ∷ 0 ∷ 0 ∷ 238 ∷ 238 ∷ []) × (loadCount 1 (replicate 14 238) ≡ 2)

@@ -29,7 +29,6 @@ module _ (seed : ℕ) (buffer : List ℕ) where
     unfolding unless loading
     seed-taken = rw (ne-eqb seed 0 e)
 
-    -- "as many whole requests as fit"
     pub count-taken : loadCount seed buffer ≡ length buffer / requestSize
     unfolding loadCount
     count-taken = rw seed-taken

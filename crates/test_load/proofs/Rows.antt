@@ -47,7 +47,7 @@ odd-xor a b =
     ∙ differ-small (a % 2) (b % 2) (mod-lt a two) (mod-lt b two) in
     ap (λ n. eqb n 1) last ∙ xor-small (a % 2) (b % 2) (mod-lt a two) (mod-lt b two)
 
--- the bits of two numbers combined are their bits combined
+-- the bits of an exclusive or are the exclusive or of the bits
 pub xor-bits : (w a b : ℕ) → toBits w (bitXor a b) ≡ zipWith xor (toBits w a) (toBits w b)
 unfolding toBits zipWith
 xor-bits zero a b = refl
