@@ -127,8 +127,8 @@ uint8_t circmon_compare(uint8_t class_a, uint16_t needs_a, uint8_t class_b, uint
 
 /* Writes requests of six bytes from a seed, as many whole ones as fit. The same seed gives the same requests on every machine;
  * docs/FORMATS.md says how they are drawn. Each of them is well formed: no state replies 2 to it.
- * Returns a number with a count beside it: 0 and how many requests there are, which is requests_len / 6, and any byte behind
- * the last one is left; or 15 and 0 where the seed is 0, and every byte is left. */
+ * Returns a number with a count beside it: 0 and how many requests there are, which is requests_len / 6, and any later byte is
+ * left; or 15 and 0 where the seed is 0, and every byte is left. */
 uint64_t circmon_load(uint32_t seed, uint8_t *requests, circmon_size requests_len);
 
 #ifdef __cplusplus

@@ -49,6 +49,6 @@ pub fn is_image(bytes: &[u8]) -> bool {
 pub fn image_message(name: &str) -> String {
     format!(
         "{name}: {IMAGE_BYTES} bytes are an image, and no table with whole requests behind it\n  \
-         'circtool show' prints the state in an image; a run begins from a table\n"
+         'circtool show' prints the state in an image; a run and a load begin from a table\n"
     )
 }

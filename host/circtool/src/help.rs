@@ -148,8 +148,8 @@ not. Without --table the script names no subject: it is put behind lines that do
 
 Example: circtool load 7 20 --table examples/seeded-load.circ | circtool explain
 
-Exit status: 0 fine; 1 the seed is 0, or the table is refused; 2 usage, a file that cannot be read, or errors in the
-script.
+Exit status: 0 fine; 1 the seed is 0, or the table is refused; 2 usage, a file that cannot be read, an image where a
+table is wanted, or errors in the script.
 ";
 
 pub const COMPARE: &str = "\

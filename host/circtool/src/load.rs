@@ -25,8 +25,10 @@ pub fn asked(arguments: &Arguments) -> Result<Asked, String> {
         return Err("expected a seed and a count".to_string());
     };
     // that 0 is no seed is said by the library
-    let seed = decimal("a seed (1 to 4294967295)", seed, u32::MAX as usize)? as u32;
-    Ok(Asked { seed, count: decimal("a count (0 to 1000000)", count, MOST)?, bytes: arguments.has("--bytes") })
+    let most_seed = u32::MAX as usize;
+    let seed = decimal(&format!("a seed (1 to {most_seed})"), seed, most_seed)? as u32;
+    let count = decimal(&format!("a count (0 to {MOST})"), count, MOST)?;
+    Ok(Asked { seed, count, bytes: arguments.has("--bytes") })
 }
 
 fn decimal(expected: &str, word: &OsStr, most: usize) -> Result<usize, String> {
@@ -44,6 +46,7 @@ pub fn table(input: &Input) -> Step<Vec<u8>> {
             ""
         })
     })?;
+    // an image begins with the table
     Ok(begun.unit.image()[..TABLE_BYTES].to_vec())
 }
 
@@ -67,8 +70,9 @@ pub fn load(asked: &Asked, table: Option<&[u8]>) -> Result<Vec<u8>, String> {
     Ok((heading(asked) + &lines).into_bytes())
 }
 
-/// Whoever reads the script sees from what it was made.
+/// Whoever reads the script sees from what its requests were made; the subjects stand in it.
 fn heading(asked: &Asked) -> String {
     let Asked { seed, count: requests, .. } = asked;
-    format!("# {} from seed {seed}: circtool load {seed} {requests}\n", count(*requests, "request", "requests"))
+    let how_many = count(*requests, "request", "requests");
+    format!("# {how_many} from seed {seed}, made by 'circtool load {seed} {requests}'\n")
 }

@@ -49,7 +49,7 @@ fn loads() -> impl Iterator<Item = (u32, usize)> {
 fn the_script_and_the_bytes_of_a_load() {
     for (seed, count) in loads() {
         let requests_word = if count == 1 { "request" } else { "requests" };
-        let heading = format!("# {count} {requests_word} from seed {seed}: circtool load {seed} {count}\n");
+        let heading = format!("# {count} {requests_word} from seed {seed}, made by 'circtool load {seed} {count}'\n");
         let script = format!("{heading}\n{}", lines(seed, count));
         assert_eq!(String::from_utf8(written(seed, count, &[], b"")).unwrap(), script);
         assert_eq!(written(seed, count, &["--bytes"], b""), requests(seed, count), "seed {seed}, {count} requests");
@@ -59,10 +59,11 @@ fn the_script_and_the_bytes_of_a_load() {
 }
 
 #[test]
-fn a_load_is_made_again_from_the_first_line_of_its_script() {
+fn the_requests_are_made_again_by_the_first_line_of_their_script() {
     for (seed, count) in loads() {
         let script = String::from_utf8(written(seed, count, &["--table=-"], SUBJECTS.as_bytes())).unwrap();
-        let (_, command) = script.lines().next().unwrap().split_once(": circtool ").unwrap();
+        let (_, command) = script.lines().next().unwrap().split_once("'circtool ").unwrap();
+        let command = command.strip_suffix('\'').unwrap();
         let again = circtool(&command.split(' ').collect::<Vec<_>>(), b"");
         assert_eq!(out(&again).split_once("\n\n").unwrap().1, script.split_once("\n\n").unwrap().1, "{command}");
     }
@@ -70,7 +71,7 @@ fn a_load_is_made_again_from_the_first_line_of_its_script() {
 
 #[test]
 fn no_request_at_all() {
-    assert_eq!(written(7, 0, &[], b""), b"# 0 requests from seed 7: circtool load 7 0\n");
+    assert_eq!(written(7, 0, &[], b""), b"# 0 requests from seed 7, made by 'circtool load 7 0'\n");
     assert_eq!(written(7, 0, &["--bytes"], b""), b"");
     let table = circtool(&["asm"], SUBJECTS.as_bytes()).stdout;
     assert_eq!(written(7, 0, &["--table", "-", "--bytes"], SUBJECTS.as_bytes()), table);
@@ -216,7 +217,7 @@ fn a_table_that_run_does_not_take_is_told_as_run_tells_it() {
     // here run names flags that a load does not have
     let image = image(&load::rich(7, 20, 300));
     for (input, status, last) in [
-        (&image[..], 2, "  'circtool show' prints the state in an image; a run begins from a table\n"),
+        (&image[..], 2, "  'circtool show' prints the state in an image; a run and a load begin from a table\n"),
         (
             "\u{a0}s1 create o0".as_bytes(),
             1,

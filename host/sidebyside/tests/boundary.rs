@@ -8,8 +8,8 @@ use std::process::Command;
 
 const FOLDER: &str = env!("CARGO_TARGET_TMPDIR");
 
-/// What `smoke` prints before its loads. The line of `telling`: subject 1 releases r on object 0, which is live in the first image only, and a
-/// byte that is left.
+/// What `smoke` prints before its loads. The line of `telling`: subject 1 releases r on object 0, which is live in the first
+/// image only, and a byte that is left.
 const SMOKE: &str = "start 0\nask 0\nask 7\nask 0\nshort 13\nsave 0\nopen 0\nask 1\n\
     page 2 4 13 0\n01 rwa- ---- 0\nto 00 00 00 00 00\nee\n\
     begin 0\nrequest 0\nrequest 7\nrequest 0\nread 0\nshort 13\nthe same image 1\nraised 0 0\nlowered 14 14\n\

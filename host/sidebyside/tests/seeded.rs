@@ -157,7 +157,7 @@ fn different_seeds_give_different_loads_and_the_same_seed_the_same() {
 }
 
 #[test]
-fn the_state_never_comes_to_0() {
+fn the_second_implementation_never_draws_0_either() {
     for seed in [1, 2_463_534_242, u32::MAX] {
         let mut generator = Xorshift::new(seed).unwrap();
         assert!((0..1_000_000).all(|_| generator.draw() != 0), "seed {seed}");
