@@ -56,9 +56,12 @@ fn read(file: &str) -> String {
     std::fs::read_to_string(root().join(file)).unwrap_or_else(|error| panic!("{file}: {error}"))
 }
 
-/// Each function that is declared: with the bits of what it returns, which one form says before or behind it, and with its
-/// parameters. A name that stands where nothing is declared has no bits.
-fn declared(text: &str, bits: fn(&str, &str) -> Option<u8>, parameters: fn(&str) -> Vec<Parameter>) -> Functions {
+/// What a form says before and behind a name that it declares: the bits of what is returned, where that is a number. Nothing where the
+/// name stands and is not declared.
+type Bits = fn(&str, &str) -> Option<Option<u8>>;
+
+/// Each function that is declared, with the bits of what it returns and with its parameters.
+fn declared(text: &str, bits: Bits, parameters: fn(&str) -> Vec<Parameter>) -> Functions {
     let mut functions = Functions::new();
     for (at, _) in text.match_indices("circmon_") {
         let (before, rest) = text.split_at(at);
@@ -68,6 +71,7 @@ fn declared(text: &str, bits: fn(&str, &str) -> Option<u8>, parameters: fn(&str)
         }
         let (list, behind) = rest.split_once(')').expect("the end of the parameters");
         let Some(bits) = bits(before, behind) else { continue };
+        let bits = bits.unwrap_or_else(|| panic!("{name} returns no number of so many bits: {behind:.20}"));
         let parameters = list.split(',').map(str::trim).filter(|it| !it.is_empty()).flat_map(parameters).collect();
         let twice = functions.insert(name.to_string(), Signature { bits, parameters });
         assert!(twice.is_none(), "{name} stands twice");
@@ -76,27 +80,26 @@ fn declared(text: &str, bits: fn(&str, &str) -> Option<u8>, parameters: fn(&str)
 }
 
 /// `uint8_t circmon_read(..);`
-fn bits_in_c(before: &str, behind: &str) -> Option<u8> {
+fn bits_in_c(before: &str, behind: &str) -> Option<Option<u8>> {
     let bits = [("uint8_t ", 8), ("uint64_t ", 64)].into_iter().find(|(result, _)| before.ends_with(result))?.1;
-    assert!(behind.starts_with(';'), "include/circmon.h: ';' does not follow, but {behind:.20}");
-    Some(bits)
+    Some(behind.starts_with(';').then_some(bits))
 }
 
 /// `pub fn circmon_read(..) -> u8;`
-fn bits_in_rust(before: &str, behind: &str) -> Option<u8> {
+fn bits_in_rust(before: &str, behind: &str) -> Option<Option<u8>> {
     before.ends_with("pub fn ").then(|| returned(behind, ';'))
 }
 
 /// `#[no_mangle] pub extern "C" fn circmon_read(..) -> u8 `
-fn bits_in_rattle(before: &str, behind: &str) -> Option<u8> {
+fn bits_in_rattle(before: &str, behind: &str) -> Option<Option<u8>> {
     before.ends_with(EXPORTED).then(|| returned(behind, ' '))
 }
 
 const EXPORTED: &str = "#[no_mangle] pub extern \"C\" fn ";
 
-fn returned(behind: &str, end: char) -> u8 {
-    let width = behind.strip_prefix(" -> u").and_then(|it| it.split_once(end)).map(|(width, _)| width.parse());
-    width.and_then(Result::ok).unwrap_or_else(|| panic!("a number that is returned does not follow, but {behind:.20}"))
+/// ` -> u8`, and then this character.
+fn returned(behind: &str, end: char) -> Option<u8> {
+    behind.strip_prefix(" -> u")?.split_once(end)?.0.parse().ok()
 }
 
 /// `const uint8_t *image`
