@@ -114,7 +114,8 @@ fields-fail b e =
     (λ u. and-false (ltb (f .object) 64) _ u (λ t. object-above (ltb-false _ 64 t))
     (λ t. and-false (modeAllowed (f .kind) (f .mode)) _ t (λ r. mode-not-allowed (mode-fails _ _ r)) (λ r. unused-set (unused-fails f r))))))
 
-says-not-malformed : (b : List ℕ) (q : Request) → decode b ≡ Says q → MalformedBytes b → ⊥
+-- bytes that say a request are none of these
+pub says-not-malformed : (b : List ℕ) (q : Request) → decode b ≡ Says q → MalformedBytes b → ⊥
 says-not-malformed b q e w =
     let d = decode-says b q e in
     let f = fields b in

@@ -3,7 +3,7 @@
 use Prim.Native.Nat.{ℕ, zero, suc, _+_, _*_, _%_, _<_}
 use native.Mathlib.Nat.{mod-lt, zero-lt-suc}
 use native.Mathlib.Omega.{arith}
-use mathlib.Core.Path.{_≡_, refl, sym, ap, _∙_}
+use mathlib.Core.Path.{_≡_, refl, ap, _∙_}
 use mathlib.Core.Logic.{_≢_}
 use mathlib.Core.Bool.{Bool, true, false, _&&_, _||_}
 use mathlib.Core.List.{map}
@@ -11,15 +11,14 @@ use lib.Dec.{eqb, leb}
 use lib.ListN.{getD}
 use borrow.Author.Tests.{le-leb}
 use Rattle.model.specs.declared.Monitor.{Monitor}
-use Rattle.model.specs.declared.Decoded.{Decoded}
-use Rattle.model.specs.declared.Decoded.the-variants.{Malformed, Says}
+use Rattle.model.specs.declared.Decoded.the-variants.{Says}
 use Rattle.model.specs.Requests.{fields, modeAllowed, unusedZero, wellFormed, request, decode, pack}
 use Rattle.model.specs.Runs.{reply, replies, respond}
-use Rattle.model.proofs.Tests.{split, clash, and-both}
+use Rattle.model.proofs.Tests.{split, and-both}
 use Rattle.model.proofs.Packing.{FieldsFit, pack-length, fields-packed}
 use Rattle.model.proofs.Requests.{in-range, says-decode}
 use Rattle.refusals.proofs.FirstRefusal.{reply-2-exactly}
-use Rattle.refusals.proofs.Malformed.{malformed-exactly}
+use Rattle.refusals.proofs.Malformed.{says-not-malformed}
 use Rattle.test_load.specs.Generator.{draw}
 use Rattle.test_load.specs.Load.{kindDrawn, whereUsed, usesOther, usesLevel, modeDrawn, made, requestsFrom}
 
@@ -108,14 +107,7 @@ module _ (x : ℕ) where
 
   -- no monitor replies 2 to it
   pub made-never-2 : (m : Monitor) → reply (pack (made x)) m ≢ 2
-  made-never-2 m e = says-not-2 (sym made-says ∙ malformed-exactly (pack (made x)) .1 (reply-2-exactly (pack (made x)) m .0 e))
-    where
-      isSays : Decoded → Bool
-      isSays Malformed = false
-      isSays (Says q) = true
-
-      says-not-2 : Says (request (made x)) ≢ Malformed
-      says-not-2 p = clash (ap isSays p)
+  made-never-2 m e = says-not-malformed (pack (made x)) (request (made x)) made-says (reply-2-exactly (pack (made x)) m .0 e)
 
 -- nor at any place of a run of them, whatever the state
 pub run-never-2 : (n x : ℕ) (m : Monitor) (i : ℕ) → getD (replies (map pack (requestsFrom n x)) m) i 0 ≢ 2
