@@ -20,21 +20,10 @@ fn read(bytes: &[u8], at: usize, (first, width): (usize, usize)) -> u64 {
 
 /// The fields of a request by their names on the page.
 fn numbers(request: &Request) -> [(&'static str, u64); 8] {
-    let mode = |mode: reference::Mode| u64::from(mode.number());
-    let (kind, other, mode, level) = match request.kind {
-        Kind::Get(it) => (1, 0, mode(it), None),
-        Kind::Release(it) => (2, 0, mode(it), None),
-        Kind::Give(other, it) => (3, other, mode(it), None),
-        Kind::Rescind(other, it) => (4, other, mode(it), None),
-        Kind::Create { execute } => (5, 0, if execute { 4 } else { 0 }, None),
-        Kind::Delete => (6, 0, 0, None),
-        Kind::ChangeLevel(level) => (7, 0, 0, Some(level)),
-    };
-    let (class, needs) = level.map_or((0, 0), |it| (u64::from(it.class), u64::from(it.needs)));
-    let (actor, other, object) = (request.actor as u64, other as u64, request.object as u64);
     let named = ["kind", "actor", "other", "object", "mode", "class", "needs", "spare"];
-    let numbers = [kind, actor, other, object, mode, class, needs, 0];
-    std::array::from_fn(|at| (named[at], numbers[at]))
+    let numbers = sidebyside::fields(request);
+    // spare is none of them, and 0
+    std::array::from_fn(|at| (named[at], numbers.get(at).copied().unwrap_or(0)))
 }
 
 #[test]

@@ -1,8 +1,11 @@
-//! What the tests share: both monitors on one run, dominance, pairs of modes, the program `circmon`, C programs over the header, and a
-//! program with bytes on its standard input.
+//! What the tests share: both monitors on one run, dominance, pairs of modes, the fields of a request, the program `circmon`, C
+//! programs over the header, and a program with bytes on its standard input.
 
+mod fields;
 pub mod level;
 pub mod pair;
+
+pub use fields::fields;
 
 use circmon::{Rows, Unit, ROWS, ROW_BYTES};
 use load::{Random, Shape};

@@ -3,8 +3,8 @@
 
 use circmon::{Counted, Unit};
 use load::Random;
-use reference::{reply, write_load, Kind, Level, Monitor, Request, Xorshift};
-use sidebyside::{image, Count, SHAPES};
+use reference::{reply, write_load, Level, Monitor, Request, Xorshift};
+use sidebyside::{fields, image, Count, SHAPES};
 use std::collections::BTreeSet;
 
 /// Bytes before and behind a buffer, which no call may write.
@@ -98,22 +98,6 @@ fn said(draws: [u64; 7]) -> [u64; 7] {
     [kind, actor % 16, other, object % 64, mode, used(kind == 7, class % 16), used(kind == 7, needs % 65536)]
 }
 
-/// The same of a request that was read.
-fn numbers(request: &Request) -> [u64; 7] {
-    let none = Level { class: 0, needs: 0 };
-    let (kind, other, mode, level) = match request.kind {
-        Kind::Get(mode) => (1, 0, mode.number(), none),
-        Kind::Release(mode) => (2, 0, mode.number(), none),
-        Kind::Give(other, mode) => (3, other, mode.number(), none),
-        Kind::Rescind(other, mode) => (4, other, mode.number(), none),
-        Kind::Create { execute } => (5, 0, if execute { 4 } else { 0 }, none),
-        Kind::Delete => (6, 0, 0, none),
-        Kind::ChangeLevel(level) => (7, 0, 0, level),
-    };
-    let (actor, other, object) = (request.actor as u64, other as u64, request.object as u64);
-    [kind, actor, other, object, mode.into(), level.class.into(), level.needs.into()]
-}
-
 #[test]
 fn each_field_is_the_draw_that_the_text_names() {
     let mut met = [(); 7].map(|()| Count::default());
@@ -128,7 +112,7 @@ fn each_field_is_the_draw_that_the_text_names() {
                 state
             });
             let request = Request::decode(bytes).unwrap_or_else(|| panic!("seed {seed}, request {at}: malformed"));
-            let found = numbers(&request);
+            let found = fields(&request);
             assert_eq!(found, said(draws), "seed {seed}, request {at}");
             met.iter_mut().zip(found).for_each(|(count, number)| count.note(number as u8));
             pairs.insert((found[0], found[4]));
