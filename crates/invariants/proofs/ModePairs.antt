@@ -1,7 +1,7 @@
 -- The star test by the table of mode pairs; and a get: of every access that is held, the entry with the one that is wanted.
 -- Assumes nothing.
 use Prim.Native.Nat.{ℕ, _<_}
-use mathlib.Core.Path.{_≡_, refl, ap, _∙_, subst}
+use mathlib.Core.Path.{_≡_, refl, ap, subst}
 use mathlib.Core.Logic.{_↔_, _≢_, _⊎_, ⊎-elim, inl, inr}
 use mathlib.Core.Bool.{true}
 use mathlib.Core.List.{List}
@@ -10,20 +10,17 @@ use Rattle.model.specs.declared.Label.{Label}
 use Rattle.model.specs.declared.Label.the-variants.{Absent}
 use Rattle.model.specs.declared.Monitor.{Monitor}
 use Rattle.model.specs.declared.Mode.{Mode}
-use Rattle.model.specs.Modes.{has, add, needsLabel}
-use Rattle.model.specs.State.{noObject, objectAt, object, heldBy, withHeld}
+use Rattle.model.specs.Modes.{needsLabel}
+use Rattle.model.specs.State.{object}
 use Rattle.model.specs.Properties.{Holds, Star}
 use Rattle.model.specs.Rules.{starFor}
 use Rattle.model.specs.ModePairs.{entry, Kept, Tabled, KeptByHeld}
-use Rattle.model.proofs.Tests.{set-all, or-right}
-use Rattle.model.proofs.Modes.{sameMode, has-add, held-add}
 use Rattle.model.proofs.ModePairs.{entry-star, turned, same-object, star-table}
-use Rattle.model.proofs.After.{held-stored}
 use Rattle.invariants.specs.Access.{withAccess}
 use Rattle.invariants.specs.Sound.{Sound}
 use Rattle.invariants.proofs.Pairs.{PairsFor}
 use Rattle.invariants.proofs.Secure.{StarFor, star-out, star-in}
-use Rattle.invariants.proofs.Added.{holds-now}
+use Rattle.invariants.proofs.Added.{same-unheld, held-now, held-still, holds-now}
 
 -- ---- the test that the checks use
 
@@ -38,29 +35,14 @@ test-table s l = (
 -- ---- one access more
 
 module _ (m : Monitor) (S : Sound m) (s o : ℕ) (x : Mode) (s-below : s < 16) (o-below : o < 64) where
-  abbrev now : Object
-  now = withHeld (object m o) s (add x (heldBy (object m o) s))
-
   -- no label changes
   label-same : (p : ℕ) → object (withAccess m s o x) p .label ≡ object m p .label
-  label-same p = set-all (λ j ob. ob .label ≡ objectAt (m .objects) j .label) (m .objects) o now noObject (λ j. refl) refl p
-
-  -- what was held is held
-  held-still : (p : ℕ) (h : Mode) → Holds m s p h → Holds (withAccess m s o x) s p h
-  held-still p h =
-      set-all (λ j ob. has h (heldBy (objectAt (m .objects) j) s) ≡ true → has h (heldBy ob s) ≡ true) (m .objects) o now noObject (λ j e. e)
-      (λ e. ap (has h) (held-stored (object m o) (S .formed .objects-formed o) s _ s-below)
-      ∙ has-add h x _ (S .formed .objects-formed o .shape .held-fit s) ∙ or-right (sameMode h x) _ e) p
+  label-same p = ap (λ (ob : Object). ob .label) (same-unheld m s o x p)
 
   -- what is held was held, or is the access wanted
   held-or-wanted : (t p : ℕ) (y : Mode) → Holds (withAccess m s o x) t p y → Holds m t p y ⊎ ((t ≡ s) × (p ≡ o) × (y ≡ x))
-  held-or-wanted t p y =
-      set-all (λ j ob. has y (heldBy ob t) ≡ true → (has y (heldBy (objectAt (m .objects) j) t) ≡ true) ⊎ ((t ≡ s) × (j ≡ o) × (y ≡ x))) (m .objects) o now noObject
-      (λ j e. inl e)
-      (set-all (λ u k. has y k ≡ true → (has y (heldBy (object m o) u) ≡ true) ⊎ ((u ≡ s) × (o ≡ o) × (y ≡ x))) (object m o .held) s _ 0
-      (λ u e. inl e)
-      (λ w. held-add x y _ (S .formed .objects-formed o .shape .held-fit s) w (λ q. inr (refl, refl, q)) (λ q. inl q)) t)
-      p
+  held-or-wanted =
+      held-now m (S .formed) s o x (λ t p y. Holds m t p y ⊎ ((t ≡ s) × (p ≡ o) × (y ≡ x))) (inr (refl, refl, refl)) (λ t p y e. inl e)
 
   table-added : (needsLabel x ≡ true → object m o .label ≢ Absent) → KeptByHeld m s o x → Tabled (withAccess m s o x)
   table-added there K t p q y z g h =
@@ -80,7 +62,7 @@ module _ (m : Monitor) (S : Sound m) (s o : ℕ) (x : Mode) (s-below : s < 16) (
   pub star-added : (needsLabel x ≡ true → object m o .label ≢ Absent) → Star (withAccess m s o x) ↔ KeptByHeld m s o x
   star-added there = (
     λ T p h e.
-        let k = star-table (withAccess m s o x) .0 T s p o h x (held-still p h e) (holds-now m S s o x s-below o-below) in
+        let k = star-table (withAccess m s o x) .0 T s p o h x (held-still m (S .formed) s o x s p h e) (holds-now m S s o x s-below o-below) in
         subst (λ (l : Label). Kept (entry h x) (object m p .label) l) (label-same o)
         (subst (λ (l : Label). Kept (entry h x) l (object (withAccess m s o x) o .label)) (label-same p) k),
     λ K. star-table (withAccess m s o x) .1 (table-added there K),

@@ -1,11 +1,16 @@
--- A state with one access added ("adding that access").
+-- A state with one access added ("adding that access"), and a record without its accesses.
 -- Assumes nothing.
 use Prim.Native.Nat.{ℕ}
+use Rattle.model.specs.declared.Object.{Object}
 use Rattle.model.specs.declared.Monitor.{Monitor}
 use Rattle.model.specs.declared.Mode.{Mode}
 use Rattle.model.specs.Modes.{add}
-use Rattle.model.specs.State.{object, heldBy, withHeld, withObject}
+use Rattle.model.specs.State.{noModes, object, heldBy, withRows, withHeld, withObject}
 
 -- the state where subject s holds x on object o too, and all else is as it was
 abbrev pub withAccess : Monitor → ℕ → ℕ → Mode → Monitor
 withAccess m s o x = withObject m o (withHeld (object m o) s (add x (heldBy (object m o) s)))
+
+-- the record of an object as if nobody held an access to it
+abbrev pub unheld : Object → Object
+unheld ob = withRows ob (ob .rights) noModes
