@@ -1,3 +1,4 @@
--- Laws of sums, and what an order of a list is.
+-- Laws of sums, what an order of a list is, and elements by their places.
 pub mod Sums
 pub mod Orders
+pub mod Places

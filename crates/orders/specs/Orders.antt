@@ -2,7 +2,7 @@
 -- Assumes nothing.
 use Prim.Native.Nat.{ℕ}
 use mathlib.Core.Bool.{Bool}
-use mathlib.Core.List.{List, List·Permᴰ}
+use mathlib.Core.List.{List, [], _∷_, List·Permᴰ}
 use Rattle.bits.specs.Bits.{bit}
 use Rattle.orders.specs.Sums.{sumOver}
 
@@ -14,3 +14,8 @@ OrderOf xs ys = List·Permᴰ xs ys
 -- how often an element stands in a list, by a test for being the same
 abbrev pub timesIn : {A : Type 0} → (A → A → Bool) → A → List A → ℕ
 timesIn same x xs = sumOver xs (λ y. bit (same x y))
+
+-- what holds of each element
+abbrev pub Each : {A : Type 0} → (A → Type 0) → List A → Type 0
+Each P [] = Unit {0}
+Each P (x ∷ xs) = P x × Each P xs

@@ -1,0 +1,45 @@
+-- Elements of a list by their places: what holds of each, and orders that begin with those at one or two places.
+-- Assumes nothing.
+use Prim.Native.Nat.{ℕ, zero, suc, _<_}
+use native.Mathlib.Nat.{le-of-suc-le-suc, not-suc-le-zero}
+use native.Mathlib.Omega.{arith}
+use mathlib.Core.Path.{refl, subst}
+use mathlib.Core.List.{List, [], _∷_, List·Permᴰ·nil, List·Permᴰ·cons, List·Permᴰ·swap, List·Permᴰ·trans, Permᴰ·refl}
+use lib.ListN.{length, getD}
+use Rattle.orders.specs.Orders.{OrderOf, Each}
+
+-- what holds of each element holds of each in every order
+pub each-order : {A : Type 0} (P : A → Type 0) {xs ys : List A} → OrderOf xs ys → Each P xs → Each P ys
+each-order P List·Permᴰ·nil p = p
+each-order P (List·Permᴰ·cons e d) p = (subst P e (p .0), each-order P d (p .1))
+each-order P (List·Permᴰ·swap e f) p = (subst P f (p .1 .0), (subst P e (p .0), p .1 .1))
+each-order P (List·Permᴰ·trans d k) p = each-order P k (each-order P d p)
+
+module _ {A : Type 0} (d : A) where
+  pub each-at : (P : A → Type 0) (xs : List A) → Each P xs → (i : ℕ) → i < length xs → P (getD xs i d)
+  each-at P [] p i h = absurd (not-suc-le-zero h)
+  each-at P (x ∷ xs) p zero h = p .0
+  each-at P (x ∷ xs) p (suc i) h = each-at P xs (p .1) i (le-of-suc-le-suc h)
+
+  pub each-in : (P : A → Type 0) (xs : List A) → ((i : ℕ) → i < length xs → P (getD xs i d)) → Each P xs
+  each-in P [] h = tt
+  each-in P (x ∷ xs) h = (h 0 (omega arith), each-in P xs (λ i w. h (suc i) (omega arith)))
+
+  -- an order that begins with the element at a place
+  pub begin-at : (xs : List A) (j : ℕ) → j < length xs → (rest : List A) × OrderOf xs (getD xs j d ∷ rest)
+  begin-at [] j h = absurd (not-suc-le-zero h)
+  begin-at (x ∷ xs) zero h = (xs, Permᴰ·refl (x ∷ xs))
+  begin-at (x ∷ xs) (suc j) h =
+      let r = begin-at xs j (le-of-suc-le-suc h) in
+      (x ∷ r .0, List·Permᴰ·trans (List·Permᴰ·cons refl (r .1)) (List·Permᴰ·swap refl refl))
+
+  -- and one that begins with those at two places
+  pub begin-at-two : (xs : List A) (i j : ℕ) → i < j → j < length xs → (rest : List A) × OrderOf xs (getD xs i d ∷ getD xs j d ∷ rest)
+  begin-at-two [] i j w h = absurd (not-suc-le-zero h)
+  begin-at-two (x ∷ xs) i zero w h = absurd (not-suc-le-zero w)
+  begin-at-two (x ∷ xs) zero (suc j) w h =
+      let r = begin-at xs j (le-of-suc-le-suc h) in
+      (r .0, List·Permᴰ·cons refl (r .1))
+  begin-at-two (x ∷ xs) (suc i) (suc j) w h =
+      let r = begin-at-two xs i j (le-of-suc-le-suc w) (le-of-suc-le-suc h) in
+      (x ∷ r .0, List·Permᴰ·trans (List·Permᴰ·cons refl (r .1)) (List·Permᴰ·trans (List·Permᴰ·swap refl refl) (List·Permᴰ·cons refl (List·Permᴰ·swap refl refl))))
