@@ -8,11 +8,12 @@ use Rattle.model.specs.declared.Label.the-variants.{Absent, Present}
 use Rattle.model.specs.declared.Mode.{Mode}
 use Rattle.model.specs.declared.Mode.the-variants.{Read, Write, Append, Execute}
 use Rattle.model.specs.declared.Monitor.{Monitor}
+use Rattle.model.specs.Tests.{implies}
 use Rattle.model.specs.Levels.{Dominates, compare, levelDominates, dominates}
 use Rattle.model.specs.Modes.{observes, alters, needsLabel}
 use Rattle.model.specs.Properties.{Star}
-use Rattle.model.specs.ModePairs.{Asked, neither, wanted, held, both, entry, Kept, StarAsks, Tabled, asksWanted, asksHeld}
-use Rattle.model.proofs.Tests.{split, apart, clash, and-left, and-right, and-both, or-left, or-right, same-bool}
+use Rattle.model.specs.ModePairs.{Asked, neither, wanted, held, both, entry, Kept, StarAsks, Tabled, asksWanted, asksHeld, kept}
+use Rattle.model.proofs.Tests.{split, apart, clash, and-left, and-right, and-both, or-left, or-right, implies-in, implies-out, same-bool}
 use Rattle.model.proofs.Modes.{allModes, modes-out}
 use Rattle.model.proofs.Levels.{dominates-decides, dominates-refl}
 
@@ -81,6 +82,18 @@ kept-by neither p q = (λ k. (λ e. clash (sym e), λ e. clash (sym e)), λ h. t
 kept-by wanted p q = (λ k. (λ e. k, λ e. clash (sym e)), λ h. h .0 refl)
 kept-by held p q = (λ k. (λ e. clash (sym e), λ e. k), λ h. h .1 refl)
 kept-by both p q = (λ k. (λ e. k .0, λ e. k .1), λ h. (h .0 refl, h .1 refl))
+
+-- the test says it
+pub kept-decides : (a : Asked) (p q : Label) → (kept a p q ≡ true) ↔ Kept a p q
+unfolding kept
+kept-decides a p q =
+    let b = kept-by a p q in (
+      λ e. b .1 (
+        λ w. dominates-decides q p .0 (implies-out _ _ (and-left (implies (asksWanted a) (dominates q p)) _ e) w),
+        λ w. dominates-decides p q .0 (implies-out _ _ (and-right (implies (asksWanted a) (dominates q p)) _ e) w),
+      ),
+      λ k. and-both (implies-in _ _ (λ w. dominates-decides q p .1 (b .0 k .0 w))) (implies-in _ _ (λ w. dominates-decides p q .1 (b .0 k .1 w))),
+    )
 
 -- "each of its sixteen entries is proved to be what the star property asks of those two modes"
 pub entry-star : (x y : Mode) (p q : Label) → Kept (entry x y) p q ↔ StarAsks x y p q

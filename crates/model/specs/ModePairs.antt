@@ -3,12 +3,13 @@
 use Prim.Native.Nat.{ℕ}
 use mathlib.Core.Path.{_≡_}
 use mathlib.Core.Logic.{_⊎_}
-use mathlib.Core.Bool.{Bool, true, false}
+use mathlib.Core.Bool.{Bool, true, false, _&&_}
 use Rattle.model.specs.declared.Label.{Label}
 use Rattle.model.specs.declared.Mode.{Mode}
 use Rattle.model.specs.declared.Mode.the-variants.{Read, Write, Append, Execute}
 use Rattle.model.specs.declared.Monitor.{Monitor}
-use Rattle.model.specs.Levels.{Dominates}
+use Rattle.model.specs.Tests.{implies}
+use Rattle.model.specs.Levels.{Dominates, dominates}
 use Rattle.model.specs.Modes.{observes, alters}
 use Rattle.model.specs.State.{object}
 use Rattle.model.specs.Properties.{Holds}
@@ -73,3 +74,7 @@ asksHeld neither = false
 asksHeld wanted = false
 asksHeld held = true
 asksHeld both = true
+
+-- whether two labels keep what an entry asks, as a test
+unfoldable pub kept : Asked → Label → Label → Bool
+kept a p q = implies (asksWanted a) (dominates q p) && implies (asksHeld a) (dominates p q)

@@ -42,6 +42,19 @@ coded-bits wanted = refl
 coded-bits held = refl
 coded-bits both = refl
 
+-- read off again: the bit that names a label is there where the entry asks that label to dominate
+pub coded-wanted : (a : Asked) → not (eqb (bitAnd (coded a) (coded wanted)) 0) ≡ asksWanted a
+coded-wanted neither = refl
+coded-wanted wanted = refl
+coded-wanted held = refl
+coded-wanted both = refl
+
+pub coded-held : (a : Asked) → not (eqb (bitAnd (coded a) (coded held)) 0) ≡ asksHeld a
+coded-held neither = refl
+coded-held wanted = refl
+coded-held held = refl
+coded-held both = refl
+
 -- of a row the first where its mode observes, the second where it alters
 pub row-bits : (x : Mode) → rowAsks x ≡ bit (observes x) + 2 * bit (alters x)
 row-bits x = eqb-true _ _ (modes-out (λ x. eqb (rowAsks x) (bit (observes x) + 2 * bit (alters x))) refl x)

@@ -2,6 +2,7 @@
 mod lists;
 mod pairs;
 
+pub use pairs::labels_keep;
 ghost use mathlib.Core.Path.{_≡_};
 ghost use mathlib.Core.Bool.{not};
 ghost use Prim.Native.Nat.{_<_, _≤_};

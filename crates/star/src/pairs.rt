@@ -2,8 +2,11 @@
 ghost use mathlib.Core.Path.{_≡_};
 ghost use Rattle.model.specs.Modes.{anyObserves, anyAlters, anyNeedsLabel};
 ghost use Rattle.star.specs.ModePairs.{place, coded, rowAsks, ifAsking, modesAsking};
-ghost use Rattle.model.specs.ModePairs.{entry};
+ghost use Rattle.model.specs.ModePairs.{entry, kept};
 use labels::add;
+use labels::dominates;
+use labels::implies;
+use model::Label;
 use model::Mode;
 
 const NEITHER: u8 = 0;
@@ -96,4 +99,14 @@ pub fn table_asks(n: u8) -> bool
     ensures { λ r. ⌜ r ≡ anyNeedsLabel n ⌝ }
 {
     n & modes_asking(BOTH) != 0
+}
+
+// Whether two labels keep what the table asks: p of the object held in mode x, q of the object wanted in mode y.
+pub fn labels_keep(x: Mode, p: Label, y: Mode, q: Label) -> bool
+    ensures { λ r. ⌜ r ≡ kept (entry x y) p q ⌝ }
+{
+    let asked = entry(x, y);
+    let wanted = implies(asked & WANTED != 0, dominates(q, p));
+    let held = implies(asked & HELD != 0, dominates(p, q));
+    wanted & held
 }
