@@ -4,3 +4,4 @@ pub mod Calls
 pub mod UnitRuns
 pub mod Comparing
 pub mod Counts
+pub mod Orders

@@ -1,4 +1,5 @@
 // The monitor for C and Rust, on byte slices: each passes as a pointer and a length. include/circmon.h says what each does.
+mod clash;
 mod levels;
 mod loads;
 mod units;

@@ -1,0 +1,17 @@
+-- Whether the order of a list of gets matters, as one number for C.
+-- Assumes nothing.
+use Prim.Native.Nat.{ℕ, _+_, _*_, _%_, _^_}
+use Rattle.start_order.specs.declared.StartOrder.{StartOrder}
+use Rattle.start_order.specs.declared.StartOrder.the-variants.{Agree, Clash, NoGet, TooMany}
+
+-- a place, in 24 bits
+abbrev pub placeBits : ℕ → ℕ
+placeBits i = i % 2 ^ 24
+
+-- the header's "low byte 0 where all orders agree; 1 where places i < j clash (i in bits 8 to 31, j in bits 32 to 55); 2 where piece i is no
+-- well-formed get (i in bits 8 to 31); 3 where there are more than 4,096 pieces"
+unfoldable pub orderNumber : StartOrder → ℕ
+orderNumber Agree = 0
+orderNumber (Clash i j) = 1 + 256 * placeBits i + 2 ^ 32 * placeBits j
+orderNumber (NoGet i) = 2 + 256 * placeBits i
+orderNumber TooMany = 3

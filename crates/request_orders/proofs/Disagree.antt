@@ -1,0 +1,85 @@
+-- Where all orders of a list of gets agree, no two of them clash: the state that all leave holds both accesses.
+-- Assumes nothing.
+use Prim.Native.Nat.{ℕ, _<_}
+use mathlib.Core.Path.{_≡_, refl, sym, _∙_, subst}
+use mathlib.Core.Logic.{_≢_}
+use mathlib.Core.List.{List, [], _∷_, List·Permᴰ·swap, List·Permᴰ·trans}
+use Rattle.model.specs.declared.Monitor.{Monitor}
+use Rattle.model.specs.declared.Mode.{Mode}
+use Rattle.model.specs.declared.Request.the-variants.{Get}
+use Rattle.model.specs.declared.Decoded.the-variants.{Says}
+use Rattle.model.specs.declared.Response.{Response}
+use Rattle.model.specs.Properties.{Holds}
+use Rattle.model.specs.Requests.{decode}
+use Rattle.model.specs.Rules.{changed, step}
+use Rattle.model.specs.Runs.{respond, reply, after}
+use Rattle.model.proofs.Requests.{decode-range}
+use Rattle.invariants.specs.Access.{withAccess}
+use Rattle.invariants.specs.Sound.{Sound}
+use Rattle.invariants.proofs.Steps.{step-granted, step-all, sound-respond, sound-after, sound-afterwards}
+use Rattle.invariants.proofs.Added.{held-now, held-still, holds-now}
+use Rattle.images.proofs.Reached.{respond-says}
+use Rattle.orders.specs.Orders.{Each}
+use Rattle.orders.proofs.Places.{each-order, begin-at-two}
+use Rattle.request_orders.specs.StartOrder.{IsGet, OrdersAgree, Clash, NoClash}
+use Rattle.request_orders.proofs.Commuting.{says-granted}
+use Rattle.request_orders.proofs.Accesses.{SameButHeld, same-back, same-on, Within, pairs-by, added-same}
+use Rattle.request_orders.proofs.PairProperties.{PairProperty}
+
+-- a state that gets lead to from n: all else is the same, and no access is lost
+record OnlyGained (n k : Monitor) : Type 0 where
+  same : SameButHeld k n
+  more : Within n k
+
+gained-get : (s o : ℕ) (x : Mode) (n : Monitor) → Sound n → OnlyGained n (step (Get s o x) n .monitor)
+unfolding changed
+gained-get s o x n S =
+    step-all (OnlyGained n) (Get s o x) n (record { same = record { subjects = refl; objects = λ j. refl }; more = λ t p y a. a })
+    (λ g. record { same = added-same n s o x; more = held-still n (S .formed) s o x })
+
+gained-one : (b : List ℕ) → IsGet b → (n : Monitor) → Sound n → OnlyGained n (respond b n .monitor)
+gained-one b w n S = subst (λ (r : Response). OnlyGained n (r .monitor)) (sym (respond-says b _ n (w .3))) (gained-get (w .0) (w .1) (w .2) n S)
+
+gained-all : (bs : List (List ℕ)) → Each IsGet bs → (n : Monitor) → Sound n → OnlyGained n (after bs n)
+unfolding after
+gained-all [] p n S = record { same = record { subjects = refl; objects = λ j. refl }; more = λ t p y a. a }
+gained-all (b ∷ bs) p n S =
+    let one = gained-one b (p .0) n S in
+    let rest = gained-all bs (p .1) (respond b n .monitor) (sound-respond b n S) in
+    record { same = same-on (rest .same) (one .same); more = λ t o y a. rest .more t o y (one .more t o y a) }
+
+-- a get that is granted first holds to the end
+first-holds : (b : List ℕ) (bs : List (List ℕ)) (s o : ℕ) (x : Mode) (m : Monitor) → Sound m → Each IsGet bs → decode b ≡ Says (Get s o x) → reply b m < 2
+    → Holds (after (b ∷ bs) m) s o x
+unfolding after changed
+first-holds b bs s o x m S p d h =
+    gained-all bs p (respond b m .monitor) (sound-respond b m S) .more s o x
+    (subst (λ (r : Response). Holds (r .monitor) s o x)
+    (sym (respond-says b (Get s o x) m d ∙ step-granted (Get s o x) m (says-granted b (Get s o x) m d .0 h)))
+    (holds-now m S s o x (decode-range b _ d .0) (decode-range b _ d .1)))
+
+module _ (Property : Monitor → Type 0) (R : PairProperty Property) (m : Monitor) (S : Sound m) where
+  -- two gets that clash, each before the other: a state that both orders left would hold both accesses, and have the property
+  pub clash-apart : (b c : List ℕ) (rest : List (List ℕ)) → IsGet b → IsGet c → Each IsGet rest → Clash Property m b c
+      → after (b ∷ c ∷ rest) m ≢ after (c ∷ b ∷ rest) m
+  unfolding changed
+  clash-apart b c rest v w p K e =
+      let n = after (b ∷ c ∷ rest) m in
+      let B : OnlyGained m n = gained-all (b ∷ c ∷ rest) (v, (w, p)) m S in
+      let one = withAccess m (K .s) (K .p) (K .x) in
+      let both = withAccess one (K .t) (K .q) (K .y) in
+      let g = says-granted b (Get (K .s) (K .p) (K .x)) m (K .first) .0 (K .first-alone) in
+      let W = sound-afterwards (Get (K .s) (K .p) (K .x)) m (decode-range b _ (K .first)) S g .formed in
+      let held-first : Holds n (K .s) (K .p) (K .x) = first-holds b (c ∷ rest) _ _ _ m S (w, p) (K .first) (K .first-alone) in
+      let held-second : Holds n (K .t) (K .q) (K .y) =
+      subst (λ (l : Monitor). Holds l (K .t) (K .q) (K .y)) (sym e) (first-holds c (b ∷ rest) _ _ _ m S (v, p) (K .second) (K .second-alone)) in
+      let fewer : Within both n =
+      held-now one W (K .t) (K .q) (K .y) (Holds n) held-second (held-now m (S .formed) (K .s) (K .p) (K .x) (Holds n) held-first (B .more)) in
+      let E = same-on (B .same) (same-back (same-on (added-same one (K .t) (K .q) (K .y)) (added-same m (K .s) (K .p) (K .x)))) in
+      K .together (R .means both .1 (pairs-by (R .test) n both E fewer (R .means n .0 (R .kept n (sound-after (b ∷ c ∷ rest) m S)))))
+
+  pub agree-no-clash : (bs : List (List ℕ)) → Each IsGet bs → OrdersAgree bs m → NoClash Property bs m
+  agree-no-clash bs p agree i j h k K =
+      let r = begin-at-two [] bs i j h k in
+      let ps = each-order IsGet (r .1) p in
+      clash-apart _ _ (r .0) (ps .0) (ps .1 .0) (ps .1 .1) K (agree _ _ (r .1) (List·Permᴰ·trans (r .1) (List·Permᴰ·swap refl refl)))

@@ -1,0 +1,10 @@
+-- The theorems, in the order in which they stand on each other.
+pub mod Commuting
+pub mod Updates
+pub mod Accesses
+pub mod PairProperties
+pub mod Gets
+pub mod Together
+pub mod Disagree
+pub mod TwoGets
+pub mod StartOrder

@@ -1,0 +1,110 @@
+-- When the order of gets matters: the theorems of change request §6.
+-- Assumes nothing.
+use Prim.Native.Nat.{ℕ, _<_}
+use native.Mathlib.Omega.{arith}
+use mathlib.Core.Path.{_≡_, sym, ap, _∙_, subst}
+use mathlib.Core.Logic.{_↔_, _≢_}
+use mathlib.Core.List.{List, [], _∷_}
+use lib.ListN.{length, getD}
+use Rattle.model.specs.declared.Monitor.{Monitor}
+use Rattle.model.specs.declared.Mode.{Mode}
+use Rattle.model.specs.declared.Request.the-variants.{Get}
+use Rattle.model.specs.declared.Decoded.the-variants.{Says}
+use Rattle.model.specs.declared.Response.{Response}
+use Rattle.model.specs.declared.Decision.the-variants.{Granted}
+use Rattle.model.specs.Properties.{Star}
+use Rattle.model.specs.Decisions.{number, refuses}
+use Rattle.model.specs.Requests.{decode}
+use Rattle.model.specs.Rules.{changed, checks}
+use Rattle.model.specs.Runs.{respond, reply, after}
+use Rattle.model.specs.Beginnings.{Reached}
+use Rattle.model.proofs.Requests.{decode-range}
+use Rattle.invariants.specs.Access.{withAccess}
+use Rattle.invariants.specs.Sound.{Sound}
+use Rattle.invariants.proofs.Steps.{step-granted, step-refused}
+use Rattle.images.proofs.Reached.{sound-reached, respond-says}
+use Rattle.orders.specs.Orders.{Each}
+use Rattle.orders.proofs.Places.{each-at, each-in}
+use Rattle.request_orders.specs.StartOrder.{IsGet, OrdersAgree, Clash, NoClash}
+use Rattle.request_orders.proofs.Commuting.{Saying, says-granted, orders-agree}
+use Rattle.request_orders.proofs.PairProperties.{PairProperty, star-pairs}
+use Rattle.request_orders.proofs.Gets.{Getting, getting, Between, gets-commuting}
+use Rattle.request_orders.proofs.Together.{held-together}
+use Rattle.request_orders.proofs.TwoGets.{granted-after-first, refused-after-first}
+use Rattle.request_orders.proofs.Disagree.{clash-apart, agree-no-clash}
+
+-- ---- for any property of pairs of accesses
+
+module _ (Property : Monitor → Type 0) (R : PairProperty Property) (m : Monitor) (S : Sound m) (bs : List (List ℕ)) (p : Each IsGet bs) where
+  gets-at : (i : ℕ) → i < length bs → IsGet (getD bs i [])
+  gets-at = each-at [] IsGet bs p
+
+  no-clash-agree : NoClash Property bs m → OrdersAgree bs m
+  no-clash-agree N =
+      orders-agree m (Between bs m) (Getting bs) (gets-commuting Property R bs m S (held-together Property R bs m S N)) bs
+      (each-in [] (Saying (Getting bs)) bs
+      (λ i h.
+      let w = gets-at i h in
+      (Get (w .0) (w .1) (w .2), w .3, getting (w .0) (w .1) (w .2) (record { at = i; within = h; says = w .3 }))))
+
+  pub pairs-exactly : OrdersAgree bs m ↔ NoClash Property bs m
+  pairs-exactly = (agree-no-clash Property R m S bs p, no-clash-agree)
+
+-- "For every reached monitor and every list of gets, all orders of the list leave equal states exactly when no two gets in it, each granted
+-- if it came alone, would together break the star property."
+pub gets-agree-exactly : (m : Monitor) → Reached m → (bs : List (List ℕ)) → Each IsGet bs → OrdersAgree bs m ↔ NoClash Star bs m
+gets-agree-exactly m r bs p = pairs-exactly Star star-pairs m (sound-reached m r) bs p
+
+-- where two clash, the two orders that begin with them differ
+pub clash-orders-differ : (m : Monitor) → Reached m → (b c : List ℕ) (rest : List (List ℕ)) → Each IsGet (b ∷ c ∷ rest) → Clash Star m b c
+    → after (b ∷ c ∷ rest) m ≢ after (c ∷ b ∷ rest) m
+clash-orders-differ m r b c rest p = clash-apart Star star-pairs m (sound-reached m r) b c rest (p .0) (p .1 .0) (p .1 .1)
+
+-- ---- two gets by their replies
+
+module _ (m : Monitor) (S : Sound m) (b c : List ℕ) (s p : ℕ) (x : Mode) (t q : ℕ) (y : Mode) (says-first : decode b ≡ Says (Get s p x))
+    (says-second : decode c ≡ Says (Get t q y)) (first-alone : reply b m < 2) (second-alone : reply c m < 2) where
+  first-granted : checks (Get s p x) m ≡ Granted
+  first-granted = says-granted b (Get s p x) m says-first .0 first-alone
+
+  second-granted : checks (Get t q y) m ≡ Granted
+  second-granted = says-granted c (Get t q y) m says-second .0 second-alone
+
+  -- the state that the first leaves
+  after-first : respond b m .monitor ≡ withAccess m s p x
+  unfolding changed
+  after-first = ap (λ (r : Response). r .monitor) (respond-says b (Get s p x) m says-first ∙ step-granted (Get s p x) m first-granted)
+
+  -- where they would together break star, the second gets 9 there, and else it is granted
+  second-nine : (Star (withAccess (withAccess m s p x) t q y) → ⊥) → reply c (respond b m .monitor) ≡ 9
+  second-nine n =
+      let broken = refused-after-first m S s p x t q y (decode-range b _ says-first) (decode-range c _ says-second) first-granted second-granted n in
+      ap (reply c) after-first ∙ ap (λ (r : Response). number (r .decision)) (respond-says c (Get t q y) (withAccess m s p x) says-second)
+      ∙ ap (λ (r : Response). number (r .decision)) (step-refused (Get t q y) (withAccess m s p x) (ap refuses broken)) ∙ ap number broken
+
+  second-below : Star (withAccess (withAccess m s p x) t q y) → reply c (respond b m .monitor) < 2
+  second-below T =
+      subst (λ (n : Monitor). reply c n < 2) (sym after-first)
+      (says-granted c (Get t q y) (withAccess m s p x) says-second .1
+      (granted-after-first m S s p x t q y (decode-range b _ says-first) (decode-range c _ says-second) first-granted second-granted T))
+
+-- two gets clash where each gets 0 or 1 if it came alone, and the second gets 9 after the first
+pub clash-by-replies : (m : Monitor) → Reached m → (b c : List ℕ) → IsGet b → IsGet c
+    → Clash Star m b c ↔ ((reply b m < 2) × (reply c m < 2) × (reply c (respond b m .monitor) ≡ 9))
+clash-by-replies m r b c v w =
+    let S = sound-reached m r in (
+      λ K. (K .first-alone, K .second-alone, second-nine m S b c _ _ _ _ _ _ (K .first) (K .second) (K .first-alone) (K .second-alone) (K .together)),
+      λ h. record {
+        s = v .0;
+        p = v .1;
+        x = v .2;
+        t = w .0;
+        q = w .1;
+        y = w .2;
+        first = v .3;
+        second = w .3;
+        first-alone = h .0;
+        second-alone = h .1;
+        together = λ T. absurd (omega (arith, second-below m S b c _ _ _ _ _ _ (v .3) (w .3) (h .0) (h .1) T, h .2));
+      },
+    )

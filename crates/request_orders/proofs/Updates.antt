@@ -1,0 +1,63 @@
+-- What two gets do is the same in both orders: each is an update of one object's record, and that one of a set at one place.
+-- Assumes nothing.
+use Prim.Native.Nat.{ℕ, zero, suc, _<_}
+use mathlib.Core.Path.{_≡_, refl, ap}
+use mathlib.Core.Bool.{Bool, true}
+use mathlib.Core.List.{List, [], _∷_}
+use lib.ListN.{getD, set}
+use lib.Dec.{eqb}
+use borrow.Author.Tests.{eqb-true}
+use Rattle.model.specs.declared.Monitor.{Monitor}
+use Rattle.model.specs.declared.Mode.{Mode}
+use Rattle.model.specs.declared.Request.{Request}
+use Rattle.model.specs.declared.Request.the-variants.{Get}
+use Rattle.model.specs.Tests.{allBelow}
+use Rattle.model.specs.Modes.{has, add}
+use Rattle.model.specs.State.{noObject, object, WellFormed}
+use Rattle.model.specs.Rules.{target, changed, afterwards}
+use Rattle.model.proofs.Tests.{below-out}
+use Rattle.model.proofs.Modes.{allModes, modes-out}
+
+-- ---- two updates of one list
+
+-- the element at i becomes what f makes of it
+abbrev update : {A : Type 0} → (f : A → A) → A → List A → ℕ → List A
+update f d l i = set l i (f (getD l i d))
+
+-- two updates are the same in both orders, where their functions are at the element that both meet
+update-comm : {A : Type 0} (f g : A → A) (d : A) (l : List A) (i j : ℕ)
+    → (i ≡ j → f (g (getD l i d)) ≡ g (f (getD l i d))) → update f d (update g d l j) i ≡ update g d (update f d l i) j
+update-comm f g d [] i j h = refl
+update-comm f g d (x ∷ xs) zero zero h = ap (λ y. y ∷ xs) (h refl)
+update-comm f g d (x ∷ xs) zero (suc j) h = refl
+update-comm f g d (x ∷ xs) (suc i) zero h = refl
+update-comm f g d (x ∷ xs) (suc i) (suc j) h = ap (λ ys. x ∷ ys) (update-comm f g d xs i j (λ e. h (ap suc e)))
+
+-- ---- sets of modes, by a test over the sixteen sets
+
+test : (f : Mode → Mode → ℕ → Bool) → allModes (λ x. allModes (λ y. allBelow 16 (f x y))) ≡ true → (x y : Mode) (n : ℕ) → n < 16 → f x y n ≡ true
+test f e x y n h = below-out 16 (f x y) (modes-out (λ y. allBelow 16 (f x y)) (modes-out (λ x. allModes (λ y. allBelow 16 (f x y))) e x) y) n h
+
+add-comm : (x y : Mode) (n : ℕ) → n < 16 → add x (add y n) ≡ add y (add x n)
+unfolding has add
+add-comm x y n h = eqb-true _ _ (test (λ x y n. eqb (add x (add y n)) (add y (add x n))) refl x y n h)
+
+-- ---- states
+
+-- two requests are the same in both orders, where they are at the record that both meet
+objects-comm : (q r : Request) (m : Monitor)
+    → (target q ≡ target r → changed q (changed r (object m (target q))) ≡ changed r (changed q (object m (target q))))
+    → afterwards q (afterwards r m) ≡ afterwards r (afterwards q m)
+objects-comm q r m h =
+    let p = update-comm (changed q) (changed r) noObject (m .objects) (target q) (target r) h in
+    λ i. record { subjects = m .subjects; objects = p i }
+
+module _ (m : Monitor) (W : WellFormed m) where
+  pub gets-comm : (s o : ℕ) (x : Mode) (t p : ℕ) (y : Mode)
+      → afterwards (Get s o x) (afterwards (Get t p y) m) ≡ afterwards (Get t p y) (afterwards (Get s o x) m)
+  unfolding changed
+  gets-comm s o x t p y =
+      let ob = object m o in
+      let row = update-comm (add x) (add y) 0 (ob .held) s t (λ e. add-comm x y _ (W .objects-formed o .shape .held-fit s)) in
+      objects-comm (Get s o x) (Get t p y) m
+      (λ e i. record { live = ob .live; owner = ob .owner; label = ob .label; rights = ob .rights; held = row i })

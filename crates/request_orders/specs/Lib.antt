@@ -1,0 +1,2 @@
+-- What the theorems about orders of requests speak of, beside the definitions of `model` and `orders`.
+pub mod StartOrder

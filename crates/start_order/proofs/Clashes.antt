@@ -1,0 +1,126 @@
+-- The tests of one get and of two gets decide what change request §6 says of them, on every reached monitor.
+-- Assumes nothing.
+use Prim.Native.Nat.{ℕ, _<_, _≤_}
+use native.Mathlib.Omega.{arith}
+use mathlib.Core.Path.{_≡_, refl, sym, ap, ap₂, _∙_, subst}
+use mathlib.Core.Logic.{_↔_}
+use mathlib.Core.Bool.{Bool, true, false, not, _&&_}
+use mathlib.Core.List.{List}
+use lib.Dec.{eqb}
+use borrow.Author.Tests.{eqb-true, eq-eqb, leb-true, leb-false, lt-leb}
+use Rattle.model.specs.declared.Monitor.{Monitor}
+use Rattle.model.specs.declared.Mode.{Mode}
+use Rattle.model.specs.declared.Request.{Request}
+use Rattle.model.specs.declared.Request.the-variants.{Get, Release, Give, Rescind, Create, Delete, ChangeLevel}
+use Rattle.model.specs.declared.Decoded.{Decoded}
+use Rattle.model.specs.declared.Decoded.the-variants.{Malformed, Says}
+use Rattle.model.specs.declared.Response.{Response}
+use Rattle.model.specs.State.{object}
+use Rattle.model.specs.Properties.{Star}
+use Rattle.model.specs.ModePairs.{entry, kept}
+use Rattle.model.specs.Decisions.{number, refuses}
+use Rattle.model.specs.Requests.{decode}
+use Rattle.model.specs.Rules.{step}
+use Rattle.model.specs.Runs.{reply}
+use Rattle.model.specs.Beginnings.{Reached}
+use Rattle.model.proofs.Tests.{split, clash, apart, and-left, and-right, and-both, not-on}
+use Rattle.model.proofs.Requests.{decode-range}
+use Rattle.model.proofs.ModePairs.{kept-decides}
+use Rattle.invariants.specs.Access.{withAccess}
+use Rattle.images.proofs.Reached.{sound-reached, respond-says}
+use Rattle.request_orders.specs.StartOrder.{IsGet, Clash}
+use Rattle.request_orders.proofs.Commuting.{says-granted}
+use Rattle.request_orders.proofs.TwoGets.{together-by-table}
+use Rattle.start_order.specs.declared.wanted.Wanted.{Wanted}
+use Rattle.start_order.specs.declared.wanted.Wanted.the-variants.{Access, Nothing}
+use Rattle.start_order.specs.Answers.{wantedOf, wantedBy, wanted, isAccess, alone, breaks, clashes}
+
+-- ---- one get
+
+-- bytes that ask for an access say a get
+of-get : (q : Request) → isAccess (wantedOf q) ≡ true → (s : ℕ) × (o : ℕ) × (x : Mode) × (Says q ≡ Says (Get s o x))
+unfolding isAccess
+of-get (Get s o x) e = (s, o, x, refl)
+of-get (Release s o x) e = clash (sym e)
+of-get (Give s t o x) e = clash (sym e)
+of-get (Rescind s t o x) e = clash (sym e)
+of-get (Create s o c) e = clash (sym e)
+of-get (Delete s o) e = clash (sym e)
+of-get (ChangeLevel s o l) e = clash (sym e)
+
+by-get : (d : Decoded) → isAccess (wantedBy d) ≡ true → (s : ℕ) × (o : ℕ) × (x : Mode) × (d ≡ Says (Get s o x))
+unfolding isAccess
+by-get Malformed e = clash (sym e)
+by-get (Says q) e = of-get q e
+
+-- what a get asks for
+pub wanted-get : (b : List ℕ) (s o : ℕ) (x : Mode) → decode b ≡ Says (Get s o x) → wanted b ≡ Access s o x
+unfolding wanted
+wanted-get b s o x e = ap wantedBy e
+
+pub access-get : (b : List ℕ) → (isAccess (wanted b) ≡ true) ↔ IsGet b
+unfolding wanted isAccess
+access-get b = (by-get (decode b), λ g. ap (λ (d : Decoded). isAccess (wantedBy d)) (g .3))
+
+-- the test of a get that came alone is its reply, 0 or 1
+pub alone-reply : (m : Monitor) (b : List ℕ) (s o : ℕ) (x : Mode) → decode b ≡ Says (Get s o x) → (alone m (wanted b) ≡ true) ↔ (reply b m < 2)
+unfolding alone
+alone-reply m b s o x e =
+    let asked : alone m (wanted b) ≡ not (refuses (step (Get s o x) m .decision)) = ap (alone m) (wanted-get b s o x e) in
+    let said : reply b m ≡ number (step (Get s o x) m .decision) = ap (λ (r : Response). number (r .decision)) (respond-says b (Get s o x) m e) in (
+      λ t. let h : number (step (Get s o x) m .decision) < 2 = leb-false 2 _ (not-on _ (sym asked ∙ t)) in omega arith,
+      λ h. let k : number (step (Get s o x) m .decision) < 2 = omega (arith, h, said) in asked ∙ ap not (lt-leb 2 _ k),
+    )
+
+-- ---- two gets
+
+-- the test of two accesses
+breaks-at : (m : Monitor) (b c : List ℕ) (s p : ℕ) (x : Mode) (t q : ℕ) (y : Mode) → decode b ≡ Says (Get s p x) → decode c ≡ Says (Get t q y)
+    → breaks m (wanted b) (wanted c) ≡ (eqb s t && not (kept (entry x y) (object m p .label) (object m q .label)))
+unfolding breaks
+breaks-at m b c s p x t q y d e = ap₂ (breaks m) (wanted-get b s p x d) (wanted-get c t q y e)
+
+module _ (m : Monitor) (R : Reached m) (b c : List ℕ) (s p : ℕ) (x : Mode) (t q : ℕ) (y : Mode) (d : decode b ≡ Says (Get s p x))
+    (e : decode c ≡ Says (Get t q y)) (g : reply b m < 2) (h : reply c m < 2) where
+  -- "would together break the star property": the table of mode pairs says it
+  breaks-star : (breaks m (wanted b) (wanted c) ≡ true) ↔ (Star (withAccess (withAccess m s p x) t q y) → ⊥)
+  breaks-star =
+      let table = together-by-table m (sound-reached m R) s p x t q y (decode-range b _ d) (decode-range c _ e) (says-granted b _ m d .0 g) (says-granted c _ m e .0 h) in
+      let test = breaks-at m b c s p x t q y d e in
+      let decides = kept-decides (entry x y) (object m p .label) (object m q .label) in (
+        λ k T.
+            let both = sym test ∙ k in
+            let same = eqb-true s t (and-left (eqb s t) _ both) in
+            apart (decides .1 (table .0 T same)) (not-on _ (and-right (eqb s t) _ both)),
+        λ n. split (breaks m (wanted b) (wanted c)) (λ k. k)
+            (λ k. absurd (n (table .1 (λ same. decides .0
+            (split (kept (entry x y) (object m p .label) (object m q .label)) (λ w. w)
+            (λ w. apart (test ∙ and-both (eq-eqb s t same) (ap not w)) k)))))),
+      )
+
+-- the test of two gets is that they clash
+pub clashes-exactly : (m : Monitor) → Reached m → (b c : List ℕ) → IsGet b → IsGet c → (clashes m b c ≡ true) ↔ Clash Star m b c
+unfolding clashes
+clashes-exactly m R b c v w =
+    let first = alone-reply m b (v .0) (v .1) (v .2) (v .3) in
+    let second = alone-reply m c (w .0) (w .1) (w .2) (w .3) in (
+      λ k.
+          let g = first .0 (and-left (alone m (wanted b)) _ k) in
+          let later = and-right (alone m (wanted b)) _ k in
+          let h = second .0 (and-left (alone m (wanted c)) _ later) in
+          record {
+            s = v .0;
+            p = v .1;
+            x = v .2;
+            t = w .0;
+            q = w .1;
+            y = w .2;
+            first = v .3;
+            second = w .3;
+            first-alone = g;
+            second-alone = h;
+            together = breaks-star m R b c _ _ _ _ _ _ (v .3) (w .3) g h .0 (and-right (alone m (wanted c)) _ later);
+          },
+      λ K. and-both (first .1 (K .first-alone)) (and-both (second .1 (K .second-alone))
+          (breaks-star m R b c _ _ _ _ _ _ (K .first) (K .second) (K .first-alone) (K .second-alone) .1 (K .together))),
+    )

@@ -1,0 +1,32 @@
+-- What each answer says of a monitor and a list, once more and in the words of change request §6.
+-- Assumes nothing.
+use Prim.Native.Nat.{ℕ, _<_, _≤_}
+use mathlib.Core.Path.{_≡_}
+use mathlib.Core.Logic.{_⊎_}
+use mathlib.Core.List.{List, []}
+use lib.ListN.{length, getD}
+use Rattle.model.specs.declared.Monitor.{Monitor}
+use Rattle.model.specs.Properties.{Star}
+use Rattle.orders.specs.Orders.{Each}
+use Rattle.request_orders.specs.StartOrder.{IsGet, OrdersAgree, Clash}
+use Rattle.start_order.specs.declared.StartOrder.{StartOrder}
+use Rattle.start_order.specs.declared.StartOrder.the-variants.{Agree, Clash as Clashing, NoGet, TooMany}
+
+-- the piece at i is the first that is no get
+pub record FirstOther (bs : List (List ℕ)) (i : ℕ) : Type 0 where
+  pub within : i < length bs
+  pub no-get : IsGet (getD bs i []) → ⊥
+  pub gets-before : (k : ℕ) → k < i → IsGet (getD bs k [])
+
+-- the gets at i and j clash, and no two with a lesser first place, nor with the same and a lesser second
+pub record FirstClash (m : Monitor) (bs : List (List ℕ)) (i j : ℕ) : Type 0 where
+  pub ordered : i < j
+  pub within : j < length bs
+  pub clash : Clash Star m (getD bs i []) (getD bs j [])
+  pub least : (k l : ℕ) → k < l → l < length bs → Clash Star m (getD bs k []) (getD bs l []) → (i < k) ⊎ ((i ≡ k) × (j ≤ l))
+
+abbrev pub Means : Monitor → List (List ℕ) → StartOrder → Type 0
+Means m bs TooMany = 4096 < length bs
+Means m bs (NoGet i) = (length bs ≤ 4096) × FirstOther bs i
+Means m bs (Clashing i j) = (length bs ≤ 4096) × Each IsGet bs × FirstClash m bs i j
+Means m bs Agree = (length bs ≤ 4096) × Each IsGet bs × OrdersAgree bs m

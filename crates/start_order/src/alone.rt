@@ -1,0 +1,61 @@
+// Which gets are granted if they came alone.
+ghost use mathlib.Core.Path.{_≡_};
+ghost use Prim.Native.Nat.{_≤_};
+ghost use lib.ListN.{length};
+ghost use Rattle.bits.specs.Bits.{bit};
+ghost use Rattle.model.specs.Program.{pieces, pieceCount};
+ghost use Rattle.unit.specs.Rows.{rowCount, stateIn};
+ghost use Rattle.start_order.specs.Answers.{alone, Fits};
+ghost use Rattle.start_order.specs.Tried.{Tried};
+use crate::wanted::Wanted;
+use crate::wanted::wanted_at;
+use accesses::get;
+use unit::ROWS;
+use unit::flag;
+use unit::held_by;
+use unit::set_held;
+
+// The rows once more, for gets that are tried.
+pub fn copy_rows(unit: &[[u8; 16]], copy: &mut [[u8; 16]])
+    requires { do ⌜ (← ⟦unit.len()⟧) ≡ rowCount ⌝ }
+    requires { do ⌜ (← ⟦copy.len()⟧) ≡ rowCount ⌝ }
+    ensures { λ r. ⌜ now (copy .exit) ≡ now (unit .entry) ⌝ }
+{
+    let mut i = 0usize;
+    while i < ROWS {
+        copy[i] = unit[i];
+        i += 1;
+    }
+}
+
+// 1 where the get is granted on the unit as it is, else 0. It is carried out, and then the actor's set is what it was before.
+fn is_alone(unit: &mut [[u8; 16]], w: Wanted) -> u8
+    requires { do ⌜ (← ⟦unit.len()⟧) ≡ rowCount ⌝ }
+    requires { ⌜ Fits w ⌝ }
+    ensures answered { λ r. ⌜ r ≡ bit (alone (stateIn (now (unit .entry))) w) ⌝ }
+    ensures left { λ r. ⌜ now (unit .exit) ≡ now (unit .entry) ⌝ }
+{
+    match w {
+        Wanted::Nothing => 0,
+        Wanted::Access(s, o, x) => {
+            let had = held_by(unit, o, s);
+            let reply = get(unit, s, o, x);
+            set_held(unit, o, s, had);
+            flag(reply < 2)
+        }
+    }
+}
+
+// One byte for each piece: 1 where it is granted if it came alone.
+pub fn list_alone(unit: &mut [[u8; 16]], requests: &[u8], count: usize, list: &mut [u8])
+    requires { do ⌜ (← ⟦unit.len()⟧) ≡ rowCount ⌝ }
+    requires { ⌜ (count ≡ pieceCount (length (now requests))) × (count ≤ length (now list)) ⌝ }
+    ensures listed { λ r. ⌜ Tried (stateIn (now (unit .entry))) (pieces (now (requests .entry))) count (now (list .exit)) ⌝ }
+    ensures left { λ r. ⌜ now (unit .exit) ≡ now (unit .entry) ⌝ }
+{
+    let mut i = 0usize;
+    while i < count {
+        list[i] = is_alone(unit, wanted_at(requests, i));
+        i += 1;
+    }
+}
