@@ -13,7 +13,7 @@
  * property would break, of an image: is broken; 9 the star property would break, of an image: is broken; 10 another length;
  * 11 a stray bit in what is absent; 12 an absent subject owns, has a right or holds; 13 the buffer is too short; 14 the new
  * label does not dominate the one that the object has; 15 the seed of a load is 0.
- * circmon_compare has four numbers of its own. docs/FORMATS.md has the bytes.
+ * circmon_compare has four numbers of its own, and circmon_clash has four codes of its own. docs/FORMATS.md has the bytes.
  *
  * A function that returns a number with a count beside it returns both in 64 bits: the number in the low byte and the count,
  * cut to 56 bits, above it. Of what it returns, CIRCMON_NUMBER is the number and CIRCMON_COUNT the count. */
@@ -36,6 +36,15 @@ extern "C" {
 /* The two parts of a number with a count beside it. */
 #define CIRCMON_NUMBER(answer) ((uint8_t)((answer) & 0xFF))
 #define CIRCMON_COUNT(answer) ((uint64_t)(answer) >> 8)
+
+/* The codes of circmon_clash, which are no replies, and the parts of what it returns: the code, and the places that it names. */
+#define CIRCMON_ORDERS_AGREE 0
+#define CIRCMON_ORDERS_CLASH 1
+#define CIRCMON_ORDERS_NO_GET 2
+#define CIRCMON_ORDERS_TOO_MANY 3
+#define CIRCMON_ORDERS_CODE(answer) ((uint8_t)((answer) & 0xFF))
+#define CIRCMON_ORDERS_FIRST(answer) ((uint32_t)((uint64_t)(answer) >> 8 & 0xFFFFFF))
+#define CIRCMON_ORDERS_SECOND(answer) ((uint32_t)((uint64_t)(answer) >> 32 & 0xFFFFFF))
 
 /* The length of a buffer, in bytes. It has 64 bits on every machine, so that this header need not change with one. */
 typedef uint64_t circmon_size;
@@ -83,6 +92,21 @@ uint8_t circmon_save(const circmon_unit *unit, uint8_t *image, circmon_size imag
  * Returns 2 where the object is above 63; then 4 where it is not live; then 13 where the buffer has under 258 bytes; else 0.
  * A refusal leaves every byte of the buffer. The unit is only read. */
 uint8_t circmon_page(const circmon_unit *unit, uint8_t object, uint8_t *page, circmon_size page_len);
+
+/* ---- Start order: whether it matters in which order tasks take their accesses */
+
+/* Looks at a list of gets, cut into pieces of six bytes, a short last piece counted: do all orders of the list leave equal
+ * states, carried out on this unit? The same get may stand in it twice. Replies may differ between orders and do not count.
+ * Returns a code in the low byte, with the places of pieces above it, which count from 0:
+ * 3 CIRCMON_ORDERS_TOO_MANY: there are more than 4,096 pieces; no piece is looked at.
+ * 2 CIRCMON_ORDERS_NO_GET: the piece at place FIRST is no well-formed get, and every one before it is.
+ * 1 CIRCMON_ORDERS_CLASH: the gets at the places FIRST and SECOND are each granted if it came alone, and would together break
+ *   the star property: who of the two comes first is granted, and the other one is refused. FIRST is the lower place, the least
+ *   that there is, and SECOND the least for it.
+ * 0 CIRCMON_ORDERS_AGREE: none of these; all orders of the list leave equal states.
+ * What 0 and 1 say of orders is proved of a unit that was opened or started with 0 and then only asked; which code is returned
+ * is proved of every unit. The unit is only read. */
+uint64_t circmon_clash(const circmon_unit *unit, const uint8_t *requests, circmon_size requests_len);
 
 /* ---- Calls without a unit: on tables, images and lists of requests */
 

@@ -7,10 +7,12 @@
 mod counted;
 mod level;
 mod raw;
+mod start_order;
 mod unit;
 
 pub use counted::Counted;
 pub use level::{compare, Comparison, Level};
+pub use start_order::{StartOrder, MOST_GETS};
 pub use unit::{Rows, Unit, ROWS, ROW_BYTES, UNIT_BYTES};
 
 /// The proved library that is linked here, for programs in C over include/circmon.h. The build script puts it there.

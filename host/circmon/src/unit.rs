@@ -1,6 +1,6 @@
 //! A unit: the monitor that stays in memory.
 
-use crate::{raw, size, IMAGE_BYTES, OBJECTS, SUBJECTS};
+use crate::{raw, size, StartOrder, IMAGE_BYTES, OBJECTS, SUBJECTS};
 
 /// Bytes of a row: one for each subject.
 pub const ROW_BYTES: usize = SUBJECTS;
@@ -82,5 +82,12 @@ impl Unit {
     pub fn page(&self, object: u8, page: &mut [u8]) -> u8 {
         // Safety: the unit is whole and apart from the slice, whose pointer comes with its length.
         unsafe { raw::circmon_page(&self.rows, object, page.as_mut_ptr(), size(page)) }
+    }
+
+    /// Whether the order of these gets matters for the state that is left: pieces of six bytes, a short last one counted. What is
+    /// said of orders holds for a unit that was begun and then only asked.
+    pub fn clash(&self, requests: &[u8]) -> StartOrder {
+        // Safety: the unit is whole, nothing is written, and the pointer comes with the length of its slice.
+        StartOrder::new(unsafe { raw::circmon_clash(&self.rows, requests.as_ptr(), size(requests)) })
     }
 }
