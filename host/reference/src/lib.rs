@@ -13,6 +13,7 @@ mod program;
 mod record;
 mod request;
 mod star;
+mod start_order;
 
 pub use image::{IMAGE_BYTES, TABLE_BYTES};
 pub use level::{Comparison, Level};
@@ -25,6 +26,7 @@ pub use program::{program, MOST_REQUESTS};
 pub use record::{Object, OBJECTS, SUBJECTS};
 pub use request::{Kind, Request, REQUEST_BYTES};
 pub use star::Star;
+pub use start_order::{orders, Get, StartOrder, MOST_GETS};
 
 /// The numbers that requests, readings, writings and loads return.
 pub mod reply {
