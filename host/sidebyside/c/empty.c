@@ -16,6 +16,7 @@ int main(void) {
     printf(" %d", circmon_page(&unit, 0, NULL, 0));
     circmon_ask(&unit, create, sizeof create);
     printf(" %d\n", circmon_page(&unit, 0, NULL, 0));
+    printf("clash %d\n", (int)circmon_clash(&unit, NULL, 0));
     printf("begin %d", circmon_begin(NULL, 0, image, sizeof image));
     printf(" %d", circmon_begin(table, sizeof table, NULL, 0));
     printf(" %d\n", circmon_begin(table, sizeof table, image, sizeof image));

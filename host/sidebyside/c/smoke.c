@@ -54,6 +54,35 @@ static void raised(const uint8_t *image, circmon_size length) {
     printf(" %d\n", circmon_request(copy, sizeof copy, requests[2], sizeof requests[2]));
 }
 
+/* Subject 1 creates object 1 and gives it class 3 needs {0,1}, which is above the label of object 0. */
+static const uint8_t second[2][CIRCMON_REQUEST_BYTES] = {{0x50, 0x80, 0x08, 0, 0, 0}, {0x70, 0x80, 0x08, 0x30, 0, 0x30}};
+/* Subject 1 gets r on object 1, r on object 0 and a on object 0; the first and the last would together break star. */
+static const uint8_t gets[3][CIRCMON_REQUEST_BYTES] = {
+    {0x10, 0x80, 0x09, 0, 0, 0}, {0x10, 0x80, 0x01, 0, 0, 0}, {0x10, 0x80, 0x03, 0, 0, 0}};
+
+/* The code and the two places. */
+static void clash(const circmon_unit *unit, const uint8_t *list, circmon_size length) {
+    uint64_t found = circmon_clash(unit, list, length);
+    printf(" %d:%d:%d", CIRCMON_ORDERS_CODE(found), (int)CIRCMON_ORDERS_FIRST(found), (int)CIRCMON_ORDERS_SECOND(found));
+}
+
+/* Each code, of a unit that is only read. */
+static void start_orders(const uint8_t *image, circmon_size length) {
+    static const uint8_t many[CIRCMON_REQUEST_BYTES * 4096 + 1] = {0};
+    circmon_unit unit, kept;
+    circmon_open(&unit, image, length);
+    printf("second %d", circmon_ask(&unit, second[0], sizeof second[0]));
+    printf(" %d\n", circmon_ask(&unit, second[1], sizeof second[1]));
+    memcpy(&kept, &unit, sizeof kept);
+    printf("clash");
+    clash(&unit, gets[0], 2 * sizeof gets[0]);
+    clash(&unit, gets[0], sizeof gets);
+    clash(&unit, gets[0], sizeof gets - 1);
+    clash(&unit, many, sizeof many - 1);
+    clash(&unit, many, sizeof many);
+    printf(" %d\n", memcmp(&kept, &unit, sizeof kept) == 0);
+}
+
 /* The number and the count of a load into 13 bytes, in which two requests have room, and the bytes after it. */
 static void load_from(uint32_t seed) {
     uint8_t buffer[2 * CIRCMON_REQUEST_BYTES + 1];
@@ -73,6 +102,7 @@ int main(void) {
     on_an_image(image, sizeof image);
     printf("the same image %d\n", memcmp(saved, image, sizeof image) == 0);
     raised(image, sizeof image);
+    start_orders(image, sizeof image);
     printf("replay %d\n", circmon_replay(table, sizeof table, requests[0], sizeof requests, replies, sizeof replies));
     printf("replies %d %d %d %d\n", replies[0], replies[1], replies[2], replies[3]);
     memset(telling, 0xEE, sizeof telling);

@@ -1,9 +1,11 @@
-//! What the tests share: both monitors on one run, dominance, pairs of modes, the fields of a request, the program `circmon`, C
-//! programs over the header, and a program with bytes on its standard input.
+//! What the tests share: both monitors on one run, dominance, pairs of modes, orders of gets, the fields of a request, what the
+//! rows of a unit say, the program `circmon`, C programs over the header, and a program with bytes on its standard input.
 
 mod fields;
 pub mod level;
 pub mod pair;
+pub mod rows;
+pub mod start_order;
 
 pub use fields::fields;
 

@@ -1,15 +1,12 @@
-//! Units with any bytes in them. What the rows say is computed here once more, from docs/FORMATS.md: byte 0 of the rest of an
-//! object's record is 1 where it is live, byte 1 is its owner, byte 2 is 1 where a level stands in bytes 3 to 5.
+//! Units with any bytes in them. What the rows say is computed here once more, from docs/FORMATS.md (`sidebyside::rows`).
 
 use circmon::{Rows, Unit, IMAGE_BYTES, OBJECTS, SUBJECTS};
 use load::Random;
 use reference::{reply, Level, Monitor, Object};
+use sidebyside::rows::{level_in, CLEARANCES, HELD, REST};
 use sidebyside::{image, random_rows, shape, Count, REPLIES};
 
 const LEFT: u8 = 0xEE;
-const HELD: usize = OBJECTS;
-const REST: usize = 2 * OBJECTS;
-const CLEARANCES: usize = 3 * OBJECTS;
 
 /// The image as bits, the first of the highest weight. A number that does not fit a field gives its low bits.
 #[derive(Default)]
@@ -30,10 +27,6 @@ impl Bits {
     fn bytes(&self) -> Vec<u8> {
         self.0.chunks(8).map(|bits| bits.iter().fold(0, |byte, &bit| byte << 1 | u8::from(bit))).collect()
     }
-}
-
-fn level_in(row: &[u8; 16]) -> Option<Level> {
-    (row[2] == 1).then(|| Level { class: row[3], needs: u16::from_be_bytes([row[4], row[5]]) })
 }
 
 /// The image of the state that the rows say, with what an object that is not live has.

@@ -202,16 +202,19 @@ fn the_archive_defines_these_functions_and_no_others() {
     assert_eq!(symbols, names, "{text}");
 }
 
+/// The numbers that the header names, whose names begin so or not. What takes an argument is no number.
+fn numbers<'a>(header: &'a str, start: &str, wanted: bool) -> BTreeMap<&'a str, usize> {
+    let named = header.lines().filter_map(|line| line.strip_prefix("#define CIRCMON_")?.split_once(' '));
+    let named = named.filter(|(name, _)| !name.contains('(') && name.starts_with(start) == wanted);
+    named.map(|(name, number)| (name, number.parse().unwrap())).collect()
+}
+
+/// How the names of the codes of `circmon_clash` begin; every other number is a size.
+const CODES: &str = "ORDERS_";
+
 #[test]
 fn the_sizes_of_the_header_are_those_of_the_bindings() {
     let text = read("include/circmon.h");
-    let sizes: BTreeMap<&str, usize> = text
-        .lines()
-        .filter_map(|line| line.strip_prefix("#define CIRCMON_")?.split_once(' '))
-        // what takes an argument is no size
-        .filter(|(name, _)| !name.contains('('))
-        .map(|(name, number)| (name, number.parse().unwrap()))
-        .collect();
     let expected = [
         ("TABLE_BYTES", circmon::TABLE_BYTES),
         ("IMAGE_BYTES", circmon::IMAGE_BYTES),
@@ -220,13 +223,26 @@ fn the_sizes_of_the_header_are_those_of_the_bindings() {
         ("UNIT_BYTES", circmon::UNIT_BYTES),
         ("PAGE_BYTES", circmon::PAGE_BYTES),
     ];
-    assert_eq!(sizes, BTreeMap::from(expected));
+    assert_eq!(numbers(&text, CODES, false), BTreeMap::from(expected));
     let rows = format!("uint8_t row[{}][{}];", circmon::ROWS, circmon::ROW_BYTES);
     assert!(text.contains(&rows), "{rows}");
     assert!(text.contains("typedef uint64_t circmon_size;"));
     assert_eq!((reference::TABLE_BYTES, reference::IMAGE_BYTES), (circmon::TABLE_BYTES, circmon::IMAGE_BYTES));
     assert_eq!(reference::PAGE_BYTES, circmon::PAGE_BYTES);
     assert_eq!((reference::SUBJECTS, reference::OBJECTS), (circmon::SUBJECTS, circmon::OBJECTS));
+    assert_eq!(reference::MOST_GETS, circmon::MOST_GETS);
+    assert!(text.contains("3 CIRCMON_ORDERS_TOO_MANY: there are more than 4,096 pieces") && circmon::MOST_GETS == 4096);
+}
+
+/// What the header's codes say, by calls that get each of them: the places are in `c/smoke.c`.
+#[test]
+fn the_codes_of_the_header_are_those_that_the_bindings_name() {
+    let text = read("include/circmon.h");
+    let codes = [("ORDERS_AGREE", 0), ("ORDERS_CLASH", 1), ("ORDERS_NO_GET", 2), ("ORDERS_TOO_MANY", 3)];
+    assert_eq!(numbers(&text, CODES, true), BTreeMap::from(codes));
+    for (name, code) in codes {
+        assert!(text.contains(&format!(" * {code} CIRCMON_{name}: ")), "the comment of circmon_clash says {name}");
+    }
 }
 
 /// That the text declares a function as the header does, and with any of these words replaced does not.
@@ -264,5 +280,14 @@ fn what_is_not_so_would_be_seen() {
     check_edits(
         "uint64_t circmon_load(uint32_t seed, uint8_t *requests, circmon_size requests_len);",
         &[("uint64_t", "uint8_t"), ("uint32_t", "uint16_t"), ("uint8_t *requests", "const uint8_t *requests")],
+    );
+    check_edits(
+        "uint64_t circmon_clash(const circmon_unit *unit, const uint8_t *requests, circmon_size requests_len);",
+        &[
+            ("uint64_t", "uint8_t"),
+            ("const circmon_unit", "circmon_unit"),
+            ("const uint8_t *requests", "uint8_t *requests"),
+            (", circmon_size requests_len", ""),
+        ],
     );
 }
