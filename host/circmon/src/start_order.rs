@@ -44,10 +44,7 @@ mod tests {
         }
         for (first, second) in [(0, 1), (0, 4095), (255, 256), (4094, 4095)] {
             let word = 1 + (first << 8) + (second << 32);
-            assert_eq!(
-                StartOrder::new(word),
-                StartOrder::Clash { first: first as usize, second: second as usize }
-            );
+            assert_eq!(StartOrder::new(word), StartOrder::Clash { first: first as usize, second: second as usize });
         }
     }
 }

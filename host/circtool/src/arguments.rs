@@ -1,5 +1,6 @@
 //! The words of the command line.
 
+use crate::words::count;
 use std::ffi::{OsStr, OsString};
 use std::os::unix::ffi::OsStrExt;
 
@@ -74,7 +75,7 @@ impl Arguments {
     fn count_files(&self, takes: &Takes) -> Result<(), String> {
         let found = self.files.len();
         if found < takes.least_files {
-            return Err(format!("expected {} files, found {found}", takes.least_files));
+            return Err(format!("expected {}, found {found}", count(takes.least_files, "file", "files")));
         }
         match self.files.get(takes.most_files) {
             Some(file) => Err(format!("unexpected '{}'", file.to_string_lossy())),

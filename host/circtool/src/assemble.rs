@@ -16,13 +16,15 @@ pub struct Assembled {
     pub lines: Vec<usize>,
     /// the line that gives the table by its bytes
     pub table_line: Option<usize>,
+    /// the first line that enrols a subject
+    pub subject_line: Option<usize>,
 }
 
 /// What the lines up to here have said.
 #[derive(Default)]
 struct Assembly {
     subjects: [Option<Level>; SUBJECTS],
-    any_subject: bool,
+    subject_line: Option<usize>,
     /// the table by its bytes
     table: Option<Vec<u8>>,
     table_line: Option<usize>,
@@ -63,7 +65,7 @@ impl Assembly {
     fn whole(self) -> Assembled {
         let mut bytes = self.table.unwrap_or_else(|| View::table(&self.subjects).to_vec());
         bytes.extend(self.requests);
-        Assembled { bytes, lines: self.lines, table_line: self.table_line }
+        Assembled { bytes, lines: self.lines, table_line: self.table_line, subject_line: self.subject_line }
     }
 
     fn add(&mut self, line: &Line, bytes: &[u8]) {
@@ -93,7 +95,7 @@ impl Assembly {
         if self.table.is_some() {
             return Err(line.error("expected no subject, since table-bytes gives the whole table".to_string()));
         }
-        self.any_subject = true;
+        self.subject_line = self.subject_line.or(Some(line.number));
         line.keyword("subject")?;
         let twice = line.error("this subject stands twice".to_string());
         let subject = line.take("a subject number (0 to 15)", |word| number(word, SUBJECTS - 1))?;
@@ -105,7 +107,7 @@ impl Assembly {
     }
 
     fn table_bytes(&mut self, line: &mut Line) -> Result<(), ScriptError> {
-        if self.any_subject || self.any_request || self.table.is_some() {
+        if self.subject_line.is_some() || self.any_request || self.table.is_some() {
             return Err(line.error("table-bytes gives the whole table and stands first, once".to_string()));
         }
         self.table = Some(Vec::new());

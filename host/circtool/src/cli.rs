@@ -6,6 +6,7 @@ use crate::compare::{compare, Comparison, Named};
 use crate::disassemble::disassemble;
 use crate::explain::explain;
 use crate::input::{assembled, form, is_text, read, Form, Input};
+use crate::orders::{orders, Gets, Orders};
 use crate::outcome::{bad_usage, refused, trouble, Outcome, Step, REFUSED, TROUBLE};
 use crate::paint::Paint;
 use crate::show::show;
@@ -69,6 +70,7 @@ fn subcommand(name: &str, words: &[OsString], standard_input: &mut dyn Read, pai
         "show" => show_image(&arguments, standard_input, paint),
         "page" => pages(&arguments, standard_input, paint),
         "load" => load_requests(&arguments, standard_input),
+        "orders" => orders_of_gets(&arguments, standard_input, paint),
         _ => compare_images(&arguments, standard_input, paint),
     };
     result.unwrap_or_else(|outcome| outcome)
@@ -84,6 +86,7 @@ fn takes(name: &str) -> Takes {
         // two words that are no files: the seed and the count
         "load" => (&["--bytes"], &["--table"], 0, 2),
         "compare" => (&[], &[], 2, 2),
+        "orders" => (&["--bytes"], &[], 1, 2),
         _ => (&[], &[], 0, 1),
     };
     Takes { flags, with_file, least_files, most_files }
@@ -207,6 +210,21 @@ fn compare_images(arguments: &Arguments, standard_input: &mut dyn Read, paint: P
         Comparison::Equal(text) => Ok(Outcome::fine(text)),
         Comparison::Different(text) => Ok(Outcome { out: text.into_bytes(), err: String::new(), status: REFUSED }),
         Comparison::Trouble(text) => Err(trouble(text)),
+    }
+}
+
+fn orders_of_gets(arguments: &Arguments, standard_input: &mut dyn Read, paint: Paint) -> Step<Outcome> {
+    let (image, gets) = (&arguments.files[0], arguments.files.get(1).map(OsString::as_os_str));
+    if image == "-" && gets.is_none_or(|file| file == "-") {
+        return Err(trouble("circtool orders: standard input is the image or the gets, not both\n".to_string()));
+    }
+    let image = read(Some(image), standard_input).map_err(trouble)?;
+    let gets = read(gets, standard_input).map_err(trouble)?;
+    let gets = Gets::new(&gets, arguments.has("--bytes")).map_err(trouble)?;
+    match orders(&Named { name: &image.name, bytes: &image.bytes }, &gets, paint) {
+        Orders::Agree(text) => Ok(Outcome::fine(text)),
+        Orders::Matter(text) => Ok(Outcome { out: text.into_bytes(), err: String::new(), status: REFUSED }),
+        Orders::Trouble(text) => Err(trouble(text)),
     }
 }
 

@@ -1,7 +1,7 @@
 //! What `--help` prints.
 
 pub const GENERAL: &str = "\
-circtool: scripts, explanations, states, access pages, test loads and comparisons for the monitor circmon
+circtool: scripts, explanations, states, access pages, test loads, comparisons and orders for the monitor circmon
 
 Usage: circtool SUBCOMMAND [OPTIONS] [FILE]
 
@@ -13,15 +13,16 @@ Usage: circtool SUBCOMMAND [OPTIONS] [FILE]
   page     the access page of an object in an image
   load     a test load from a seed, as a script or as bytes
   compare  two images: equal, or where they differ and which requests show it
+  orders   a list of gets: whether their order matters for the state that they leave
   help     this text, or that of a subcommand
 
 'circtool help SUBCOMMAND' says more. --version prints the version.
 Where no file or '-' is given, standard input is read; 'page' with objects needs the image or '-' before them, and
 'load' reads only what --table names.
-Every reply, acceptance, page, load and comparison of two levels comes from the proved library.
+Every reply, acceptance, page, load, comparison of two levels and answer on orders comes from the proved library.
 
-Exit status: 0 fine; 1 a table, image or load is refused, an object is not live, or two images differ; 2 usage, or input
-that cannot be read.
+Exit status: 0 fine; 1 a table, image or load is refused, an object is not live, two images differ, or the order of gets
+matters; 2 usage, or input that cannot be read.
 ";
 
 pub const ASM: &str = "\
@@ -164,6 +165,28 @@ Example: circtool compare before.img after.img
 Exit status: 0 equal; 1 different; 2 trouble: usage, a file that cannot be read, or an image that is refused.
 ";
 
+pub const ORDERS: &str = "\
+Usage: circtool orders [--bytes] IMAGE [SCRIPT]
+
+Says whether it matters in which order gets come, as after a power return, when tasks take accesses in the order in
+which they wake: whether all orders of the gets in SCRIPT leave equal states, from the state in IMAGE on. Replies may
+differ between orders and are not compared. The same get may stand in it twice.
+
+Where the order matters, two gets are named with their lines: each is granted if it came alone, and together they would
+break the star property. It says which label would have to dominate which and how they compare, and of the two orders
+that begin with these gets their replies and where the states that they leave differ. Where there are no two such gets,
+all orders leave equal states. Both are proved.
+
+SCRIPT has one get on a line, as 's1 get r o0', and no subject, since the image says who is enrolled.
+
+  --bytes   SCRIPT is bytes, six for each get, without a table
+
+Example: circtool orders wake-up.img examples/wake-up-gets.circ
+
+Exit status: 0 the order does not matter; 1 it does; 2 trouble: usage, a file that cannot be read, an image that is
+refused, errors in the script, a request that is no get, or more than 4,096 gets.
+";
+
 /// The help of a subcommand.
 pub fn of(subcommand: &str) -> Option<&'static str> {
     Some(match subcommand {
@@ -175,6 +198,7 @@ pub fn of(subcommand: &str) -> Option<&'static str> {
         "page" => PAGE,
         "load" => LOAD,
         "compare" => COMPARE,
+        "orders" => ORDERS,
         _ => return None,
     })
 }

@@ -1,6 +1,6 @@
-//! What the command `circtool` is made of. Every reply, acceptance, page, load and comparison of two levels comes from
-//! the proved library through the crate `circmon`; what stands here reads bytes and scripts, finds the words for them, and
-//! prints.
+//! What the command `circtool` is made of. Every reply, acceptance, page, load, comparison of two levels and answer on the order
+//! of gets comes from the proved library through the crate `circmon`; what stands here reads bytes and scripts, finds the words
+//! for them, and prints.
 
 mod arguments;
 pub mod assemble;
@@ -20,6 +20,7 @@ pub mod layout;
 pub mod level;
 mod load;
 pub mod mode;
+pub mod orders;
 pub mod outcome;
 pub mod page;
 pub mod paint;

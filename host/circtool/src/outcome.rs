@@ -1,7 +1,7 @@
 //! What a call prints and returns.
 
 pub const FINE: u8 = 0;
-/// a refused table, image or load, an object without a page, or two images that differ
+/// a refused table, image or load, an object without a page, two images that differ, or gets whose order matters
 pub const REFUSED: u8 = 1;
 /// usage, or input that cannot be read
 pub const TROUBLE: u8 = 2;

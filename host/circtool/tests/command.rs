@@ -185,7 +185,7 @@ fn compare_ends_as_cmp_does() {
 fn help_and_version() {
     let general = circtool(&["--help"], b"");
     ended(&general, 0);
-    for name in ["asm", "dis", "explain", "run", "show", "page", "load", "compare"] {
+    for name in ["asm", "dis", "explain", "run", "show", "page", "load", "compare", "orders"] {
         assert!(out(&general).contains(&format!("\n  {name} ")), "{name} is in the general help");
         let help = circtool(&[name, "--help"], b"");
         ended(&help, 0);
@@ -194,7 +194,7 @@ fn help_and_version() {
         }
         assert!(out(&help).lines().all(|line| line.chars().count() <= 120), "{name}");
     }
-    for name in ["asm", "dis", "explain", "run", "show", "page", "load", "compare"] {
+    for name in ["asm", "dis", "explain", "run", "show", "page", "load", "compare", "orders"] {
         assert_eq!(out(&circtool(&["help", name], b"")), out(&circtool(&[name, "--help"], b"")));
     }
     for words in [vec!["help"], vec!["-h"]] {

@@ -121,7 +121,7 @@ fn every_document_in_a_fresh_clone() {
 #[test]
 fn the_page_of_circtool_shows_each_subcommand() {
     let shown = commands(&std::fs::read_to_string(root().join("docs/CIRCTOOL.md")).unwrap());
-    for name in ["asm", "dis", "explain", "run", "show", "page", "load", "compare", "help"] {
+    for name in ["asm", "dis", "explain", "run", "show", "page", "load", "compare", "orders", "help"] {
         let calls = |it: &Shown| {
             it.command.split([' ', ';', '|']).collect::<Vec<_>>().windows(2).any(|two| two == ["./circtool", name])
         };

@@ -241,7 +241,7 @@ fn a_lowered_label_is_named_with_the_old_one() {
 }
 
 /// The replies that each example is written to show.
-const EXAMPLES: [(&str, &[u8]); 6] = [
+const EXAMPLES: [(&str, &[u8]); 8] = [
     ("four-answers", &[0, 0, 0, 0, 0, 0, 0, 0, 0, 0, 0, 8, 8, 8, 8, 8, 8, 0, 0, 9, 0, 9, 0, 0]),
     ("lobby-display", &[0, 0, 0, 0, 7, 7, 7, 0, 8, 8, 0, 14, 8]),
     ("marked-run", &[0, 7, 0, 1, 0, 0, 0, 0, 9, 0, 8, 0, 9, 6, 0, 1]),
@@ -249,6 +249,9 @@ const EXAMPLES: [(&str, &[u8]); 6] = [
     ("seeded-load", &[]),
     ("slot-again", &[0, 0, 0, 0, 0, 4, 0, 7, 0, 6, 6, 6, 0]),
     ("star-conflict", &[0, 0, 0, 0, 0, 9, 0, 0, 9, 0, 0, 0, 9, 14]),
+    // gets without subjects, for `orders`
+    ("wake-up-gets", &[3, 3, 3, 3, 3]),
+    ("wake-up", &[0, 0, 0, 0, 0, 0, 0, 0]),
 ];
 
 /// The replies in the rows of what explain prints: a row begins with its step.

@@ -116,8 +116,9 @@ static size_t depth(void *(*work)(void *)) {
 int main(void) {
     const struct { const char *name; void *(*work)(void *); } rows[] = {
         {"circmon_open", open_unit}, {"circmon_start", start}, {"circmon_ask", ask}, {"circmon_save", save},
-        {"circmon_page", page}, {"circmon_clash", clash}, {"circmon_begin", begin}, {"circmon_read", reading}, {"circmon_request", level}, {"circmon_replay", replay},
-        {"circmon_distinguish", distinguish}, {"circmon_compare", compare}, {"circmon_load", load}};
+        {"circmon_page", page}, {"circmon_clash", clash}, {"circmon_begin", begin}, {"circmon_read", reading},
+        {"circmon_request", level}, {"circmon_replay", replay}, {"circmon_distinguish", distinguish}, {"circmon_compare", compare},
+        {"circmon_load", load}};
     depth(nothing);
     for (size_t i = 0; i < sizeof rows / sizeof *rows; i++) {
         fill();

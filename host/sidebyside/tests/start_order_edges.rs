@@ -1,5 +1,5 @@
-//! Start order at its edges: every length to 13 bytes, pieces that are no gets at every place, as many pieces as are looked at and
-//! one more, and units with any bytes in them, for which the rule about two gets is computed here a third time.
+//! Start order at its edges: every length to 13 bytes, pieces that are no gets at every place, as many pieces as are looked at
+//! and one more, and units with any bytes in them, for which the rule about two gets is computed here a third time.
 
 use circmon::{StartOrder, Unit, MOST_GETS, OBJECTS, SUBJECTS};
 use load::Random;
