@@ -57,7 +57,7 @@ static void raised(const uint8_t *image, circmon_size length) {
 /* Subject 1 creates object 1 and gives it class 3 needs {0,1}, which is above the label of object 0. */
 static const uint8_t second[2][CIRCMON_REQUEST_BYTES] = {{0x50, 0x80, 0x08, 0, 0, 0}, {0x70, 0x80, 0x08, 0x30, 0, 0x30}};
 /* Subject 1 gets r on object 1, r on object 0 and a on object 0; the first and the last would together break star. */
-static const uint8_t gets[3][CIRCMON_REQUEST_BYTES] = {
+static const uint8_t wanted[3][CIRCMON_REQUEST_BYTES] = {
     {0x10, 0x80, 0x09, 0, 0, 0}, {0x10, 0x80, 0x01, 0, 0, 0}, {0x10, 0x80, 0x03, 0, 0, 0}};
 
 /* The code and the two places. */
@@ -75,9 +75,9 @@ static void start_orders(const uint8_t *image, circmon_size length) {
     printf(" %d\n", circmon_ask(&unit, second[1], sizeof second[1]));
     memcpy(&kept, &unit, sizeof kept);
     printf("clash");
-    clash(&unit, gets[0], 2 * sizeof gets[0]);
-    clash(&unit, gets[0], sizeof gets);
-    clash(&unit, gets[0], sizeof gets - 1);
+    clash(&unit, wanted[0], 2 * sizeof wanted[0]);
+    clash(&unit, wanted[0], sizeof wanted);
+    clash(&unit, wanted[0], sizeof wanted - 1);
     clash(&unit, many, sizeof many - 1);
     clash(&unit, many, sizeof many);
     printf(" %d\n", memcmp(&kept, &unit, sizeof kept) == 0);

@@ -19,7 +19,7 @@ static uint8_t replies[PIECES];
 static uint8_t told[CIRCMON_DISTINGUISH_BYTES];
 static uint8_t text[CIRCMON_PAGE_BYTES];
 static uint8_t made[PIECES * CIRCMON_REQUEST_BYTES];
-static uint8_t gets[PIECES][CIRCMON_REQUEST_BYTES];
+static uint8_t wanted[PIECES][CIRCMON_REQUEST_BYTES];
 static volatile uint8_t answer;
 
 /* The six bytes of a request: kind 4 bits, actor 5, other 5, object 7, mode 3, class 4, needs 16, spare 4. */
@@ -50,7 +50,7 @@ static void draw(void) {
 /* Gets of one subject on objects that it writes, which are granted alone and agree: so every pair is looked at. */
 static void draw_gets(void) {
     for (int i = 0; i < PIECES; i++) {
-        request(gets[i], 1, SUBJECTS - 1, 0, (uint64_t)(SUBJECTS - 1 + SUBJECTS * (i % 4)), 2, 0);
+        request(wanted[i], 1, SUBJECTS - 1, 0, (uint64_t)(SUBJECTS - 1 + SUBJECTS * (i % 4)), 2, 0);
     }
 }
 
@@ -76,7 +76,7 @@ static void *open_unit(void *unused) { answer = circmon_open(&unit, image, sizeo
 static void *start(void *unused) { answer = circmon_start(&unit, table, sizeof table); return unused; }
 static void *save(void *unused) { answer = circmon_save(&unit, written, sizeof written); return unused; }
 static void *page(void *unused) { answer = circmon_page(&unit, OBJECTS - 1, text, sizeof text); return unused; }
-static void *clash(void *unused) { answer = (uint8_t)circmon_clash(&unit, gets[0], sizeof gets); return unused; }
+static void *clash(void *unused) { answer = (uint8_t)circmon_clash(&unit, wanted[0], sizeof wanted); return unused; }
 static void *begin(void *unused) { answer = circmon_begin(table, sizeof table, written, sizeof written); return unused; }
 static void *reading(void *unused) { answer = circmon_read(image, sizeof image); return unused; }
 static void *level(void *unused) { answer = circmon_request(image, sizeof image, requests[3 * OBJECTS], CIRCMON_REQUEST_BYTES); return unused; }
