@@ -1,6 +1,6 @@
 /* A unit in C: it starts from an enrolment table, answers requests in memory, writes the access page of an object, saves its
- * state as an image and opens it again; a request on an image alone; two levels compared; and a test load. docs/EMBEDDING.md
- * builds and runs it. */
+ * state as an image and opens it again; the order of two gets; a request on an image alone; two levels compared; and a test
+ * load. docs/EMBEDDING.md builds and runs it. */
 #include "circmon.h"
 #include <stdio.h>
 #include <string.h>
@@ -20,6 +20,25 @@ static const struct {
 };
 static const char *const answers[] = {"equal", "above", "below", "apart"};
 static const uint8_t release[CIRCMON_REQUEST_BYTES] = {0x20, 0x80, 0x01, 0x00, 0x00, 0x00};
+/* s1 creates o1 and labels it class 0 needs {}. */
+static const uint8_t make_o1[2][CIRCMON_REQUEST_BYTES] = {{0x50, 0x80, 0x08}, {0x70, 0x80, 0x08}};
+/* s1 gets r on o0 and a on o1. */
+static const uint8_t wanted[2][CIRCMON_REQUEST_BYTES] = {{0x10, 0x80, 0x01}, {0x10, 0x80, 0x0B}};
+
+/* After a power return s1 takes both accesses: does it matter which of them comes first? */
+static void start_order(circmon_unit *unit) {
+    uint64_t answer;
+    circmon_ask(unit, release, sizeof release);
+    circmon_ask(unit, make_o1[0], sizeof make_o1[0]);
+    circmon_ask(unit, make_o1[1], sizeof make_o1[1]);
+    answer = circmon_clash(unit, wanted[0], sizeof wanted);
+    printf("order of s1 gets r on o0 and s1 gets a on o1: %d", CIRCMON_ORDERS_CODE(answer));
+    if (CIRCMON_ORDERS_CODE(answer) == CIRCMON_ORDERS_CLASH) {
+        printf(", those at the places %d and %d are never both granted", (int)CIRCMON_ORDERS_FIRST(answer),
+               (int)CIRCMON_ORDERS_SECOND(answer));
+    }
+    printf("\n");
+}
 
 int main(void) {
     circmon_unit unit, again;
@@ -39,6 +58,7 @@ int main(void) {
     printf("save: %d\n", circmon_save(&unit, saved, sizeof saved));
     printf("open: %d\n", circmon_open(&again, saved, sizeof saved));
     printf("the two units are %s\n", memcmp(&unit, &again, sizeof unit) == 0 ? "equal" : "different");
+    start_order(&again);
     /* without a unit: the image is read, checked and written by the call */
     memcpy(image, saved, sizeof image);
     printf("s1 releases r on o0, on an image: %d\n", circmon_request(image, sizeof image, release, sizeof release));
