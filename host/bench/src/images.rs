@@ -2,26 +2,27 @@
 //! beside the second implementation.
 
 use crate::loads::{prepare, shape};
-use crate::timing::{each, median, ROUNDS};
+use crate::timing::{each, median, print_head, print_row, ROUNDS};
 use circmon::Unit;
 use load::Random;
 use reference::{Kind, Mode, Monitor, Request, IMAGE_BYTES, OBJECTS, PAGE_BYTES, REQUEST_BYTES};
+
+/// How often each work is repeated in a round.
+const REPEAT: usize = 200;
 
 /// The microseconds of the proved monitor and of the second implementation, taken in turns.
 fn row(work: &str, proved: &mut dyn FnMut(), reference: &mut dyn FnMut()) {
     let (mut ours, mut theirs) = (Vec::new(), Vec::new());
     for _ in 0..ROUNDS {
-        ours.push(each(proved));
-        theirs.push(each(reference));
+        ours.push(each(REPEAT, proved));
+        theirs.push(each(REPEAT, reference));
     }
-    let (ours, theirs) = (median(ours), median(theirs));
-    println!("{work:<40} {ours:>9.2} {theirs:>9.2} {:>7.2}", theirs / ours);
+    print_row(work, median(ours), median(theirs));
 }
 
 /// Beginnings from a table, begun as a unit and begun as an image, and the states with so many objects.
 pub fn images() {
-    println!("images: microseconds, and the ratio to the second implementation");
-    println!("{:<40} {:>9} {:>9} {:>7}", "work", "circmon", "reference", "ratio");
+    print_head("images: microseconds, and the ratio to the second implementation");
     tables();
     for (objects, dense) in [(4, false), (16, false), (64, false), (4, true), (16, true), (64, true)] {
         let (monitor, _) = prepare(&mut Random::new(7), objects, dense);

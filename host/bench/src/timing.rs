@@ -16,8 +16,18 @@ pub fn time(work: impl FnOnce()) -> f64 {
     start.elapsed().as_secs_f64()
 }
 
-/// Microseconds for one of many repetitions.
-pub fn each(work: &mut dyn FnMut()) -> f64 {
-    let repeat = 200;
+/// Microseconds for one of so many repetitions.
+pub fn each(repeat: usize, work: &mut dyn FnMut()) -> f64 {
     time(|| (0..repeat).for_each(|_| work())) / repeat as f64 * 1e6
+}
+
+/// The heading of rows of times, behind a line that says what they are.
+pub fn print_head(what: &str) {
+    println!("{what}");
+    println!("{:<40} {:>9} {:>9} {:>7}", "work", "circmon", "reference", "ratio");
+}
+
+/// The microseconds of the proved monitor and of the second implementation, and their ratio.
+pub fn print_row(work: &str, ours: f64, theirs: f64) {
+    println!("{work:<40} {ours:>9.2} {theirs:>9.2} {:>7.2}", theirs / ours);
 }
