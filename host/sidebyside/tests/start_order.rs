@@ -16,7 +16,7 @@ const fn level(class: u8, needs: u16) -> Option<Level> {
 }
 
 /// The labels of three objects: of two of them equal, above, below, apart, and absent.
-const LABELS: [[Option<Level>; 3]; 9] = [
+const LABELS: [[Option<Level>; 3]; 10] = [
     [MIDDLE, MIDDLE, MIDDLE],
     [MIDDLE, MIDDLE, HIGH],
     [LOW, MIDDLE, HIGH],
@@ -26,6 +26,8 @@ const LABELS: [[Option<Level>; 3]; 9] = [
     [LOW, MIDDLE, None],
     [APART, HIGH, None],
     [MIDDLE, None, None],
+    // above by the class alone, and by a need alone
+    [MIDDLE, level(2, 1), level(1, 3)],
 ];
 
 const fn get(actor: usize, object: usize, mode: Mode) -> Get {
