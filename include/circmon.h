@@ -101,8 +101,8 @@ uint8_t circmon_page(const circmon_unit *unit, uint8_t object, uint8_t *page, ci
  * 3 CIRCMON_ORDERS_TOO_MANY: there are more than 4,096 pieces; no piece is looked at.
  * 2 CIRCMON_ORDERS_NO_GET: the piece at place FIRST is no well-formed get, and every one before it is.
  * 1 CIRCMON_ORDERS_CLASH: the gets at the places FIRST and SECOND are each granted if it came alone, and would together break
- *   the star property: who of the two comes first is granted, and the other one is refused. FIRST is the lower place, the least
- *   that there is, and SECOND the least for it.
+ *   the star property: no order grants both, and not all orders leave equal states. FIRST is the lower place, the least that
+ *   there is, and SECOND the least for it.
  * 0 CIRCMON_ORDERS_AGREE: none of these; all orders of the list leave equal states.
  * What 0 and 1 say of orders is proved of a unit that was opened or started with 0 and then only asked; which code is returned
  * is proved of every unit. The unit is only read. */

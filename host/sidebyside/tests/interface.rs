@@ -234,9 +234,9 @@ fn the_sizes_of_the_header_are_those_of_the_bindings() {
     assert!(text.contains("3 CIRCMON_ORDERS_TOO_MANY: there are more than 4,096 pieces") && circmon::MOST_GETS == 4096);
 }
 
-/// What the header's codes say, by calls that get each of them: the places are in `c/smoke.c`.
+/// The bindings read the same numbers (`StartOrder`), and `c/smoke.c` gets each of them by the macros of the header.
 #[test]
-fn the_codes_of_the_header_are_those_that_the_bindings_name() {
+fn the_codes_of_an_order_stand_in_the_header_with_what_they_say() {
     let text = read("include/circmon.h");
     let codes = [("ORDERS_AGREE", 0), ("ORDERS_CLASH", 1), ("ORDERS_NO_GET", 2), ("ORDERS_TOO_MANY", 3)];
     assert_eq!(numbers(&text, CODES, true), BTreeMap::from(codes));
