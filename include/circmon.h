@@ -37,7 +37,7 @@ extern "C" {
 #define CIRCMON_NUMBER(answer) ((uint8_t)((answer) & 0xFF))
 #define CIRCMON_COUNT(answer) ((uint64_t)(answer) >> 8)
 
-/* The codes of circmon_clash, which are no replies, and the parts of what it returns: the code, and the places that it names. */
+/* The codes of circmon_clash, which are no replies, and the parts of what it returns: the code and the places named. */
 #define CIRCMON_ORDERS_AGREE 0
 #define CIRCMON_ORDERS_CLASH 1
 #define CIRCMON_ORDERS_NO_GET 2
