@@ -59,24 +59,29 @@ first-holds b bs s o x m S p d h =
     (holds-now m S s o x (decode-range b _ d .0) (decode-range b _ d .1)))
 
 module _ (Property : Monitor → Type 0) (R : PairProperty Property) (m : Monitor) (S : Sound m) where
-  -- two gets that clash, each before the other: a state that both orders left would hold both accesses, and have the property
-  pub clash-apart : (b c : List ℕ) (rest : List (List ℕ)) → IsGet b → IsGet c → Each IsGet rest → Clash Property m b c
-      → after (b ∷ c ∷ rest) m ≢ after (c ∷ b ∷ rest) m
+  -- two gets that clash: no list of gets leads to a state that holds both accesses, since it would have the property
+  pub never-both : (b c : List ℕ) (K : Clash Property m b c) (ds : List (List ℕ)) → Each IsGet ds
+      → Holds (after ds m) (K .s) (K .p) (K .x) → Holds (after ds m) (K .t) (K .q) (K .y) → ⊥
   unfolding changed
-  clash-apart b c rest v w p K e =
-      let n = after (b ∷ c ∷ rest) m in
-      let B : OnlyGained m n = gained-all (b ∷ c ∷ rest) (v, (w, p)) m S in
+  never-both b c K ds p held-first held-second =
+      let n = after ds m in
+      let B : OnlyGained m n = gained-all ds p m S in
       let one = withAccess m (K .s) (K .p) (K .x) in
       let both = withAccess one (K .t) (K .q) (K .y) in
       let g = says-granted b (Get (K .s) (K .p) (K .x)) m (K .first) .0 (K .first-alone) in
       let W = sound-afterwards (Get (K .s) (K .p) (K .x)) m (decode-range b _ (K .first)) S g .formed in
-      let held-first : Holds n (K .s) (K .p) (K .x) = first-holds b (c ∷ rest) _ _ _ m S (w, p) (K .first) (K .first-alone) in
-      let held-second : Holds n (K .t) (K .q) (K .y) =
-      subst (λ (l : Monitor). Holds l (K .t) (K .q) (K .y)) (sym e) (first-holds c (b ∷ rest) _ _ _ m S (v, p) (K .second) (K .second-alone)) in
       let fewer : Within both n =
       held-now one W (K .t) (K .q) (K .y) (Holds n) held-second (held-now m (S .formed) (K .s) (K .p) (K .x) (Holds n) held-first (B .more)) in
       let E = same-on (B .same) (same-back (same-on (added-same one (K .t) (K .q) (K .y)) (added-same m (K .s) (K .p) (K .x)))) in
-      K .together (R .means both .1 (pairs-by (R .test) n both E fewer (R .means n .0 (R .kept n (sound-after (b ∷ c ∷ rest) m S)))))
+      K .together (R .means both .1 (pairs-by (R .test) n both E fewer (R .means n .0 (R .kept n (sound-after ds m S)))))
+
+  -- each before the other: a state that both orders left would hold both
+  pub clash-apart : (b c : List ℕ) (rest : List (List ℕ)) → IsGet b → IsGet c → Each IsGet rest → Clash Property m b c
+      → after (b ∷ c ∷ rest) m ≢ after (c ∷ b ∷ rest) m
+  clash-apart b c rest v w p K e =
+      never-both b c K (b ∷ c ∷ rest) (v, (w, p))
+      (first-holds b (c ∷ rest) _ _ _ m S (w, p) (K .first) (K .first-alone))
+      (subst (λ (l : Monitor). Holds l (K .t) (K .q) (K .y)) (sym e) (first-holds c (b ∷ rest) _ _ _ m S (v, p) (K .second) (K .second-alone)))
 
   pub agree-no-clash : (bs : List (List ℕ)) → Each IsGet bs → OrdersAgree bs m → NoClash Property bs m
   agree-no-clash bs p agree i j h k K =

@@ -12,7 +12,7 @@ use Rattle.model.specs.declared.Request.the-variants.{Get}
 use Rattle.model.specs.declared.Decoded.the-variants.{Says}
 use Rattle.model.specs.declared.Response.{Response}
 use Rattle.model.specs.declared.Decision.the-variants.{Granted}
-use Rattle.model.specs.Properties.{Star}
+use Rattle.model.specs.Properties.{Star, Holds}
 use Rattle.model.specs.Decisions.{number, refuses}
 use Rattle.model.specs.Requests.{decode}
 use Rattle.model.specs.Rules.{changed, checks}
@@ -31,7 +31,7 @@ use Rattle.request_orders.proofs.PairProperties.{PairProperty, star-pai
 use Rattle.request_orders.proofs.Gets.{Getting, getting, Between, gets-commuting}
 use Rattle.request_orders.proofs.Together.{held-together}
 use Rattle.request_orders.proofs.TwoGets.{granted-after-first, refused-after-first}
-use Rattle.request_orders.proofs.Disagree.{clash-apart, agree-no-clash}
+use Rattle.request_orders.proofs.Disagree.{never-both, clash-apart, agree-no-clash}
 
 -- ---- for any property of pairs of accesses
 
@@ -59,6 +59,11 @@ gets-agree-exactly m r bs p = pairs-exactly Star star-pairs m (sound-reached m r
 pub clash-orders-differ : (m : Monitor) → Reached m → (b c : List ℕ) (rest : List (List ℕ)) → Each IsGet (b ∷ c ∷ rest) → Clash Star m b c
     → after (b ∷ c ∷ rest) m ≢ after (c ∷ b ∷ rest) m
 clash-orders-differ m r b c rest p = clash-apart Star star-pairs m (sound-reached m r) b c rest (p .0) (p .1 .0) (p .1 .1)
+
+-- and no list of gets, in whatever order, leads to a state that holds both accesses
+pub clash-never-both : (m : Monitor) → Reached m → (b c : List ℕ) (K : Clash Star m b c) (ds : List (List ℕ)) → Each IsGet ds
+    → Holds (after ds m) (K .s) (K .p) (K .x) → Holds (after ds m) (K .t) (K .q) (K .y) → ⊥
+clash-never-both m r b c K ds p = never-both Star star-pairs m (sound-reached m r) b c K ds p
 
 -- ---- two gets by their replies
 
