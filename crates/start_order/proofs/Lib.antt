@@ -4,3 +4,4 @@ pub mod Trying
 pub mod Searching
 pub mod Clashes
 pub mod Meaning
+pub mod Examples
