@@ -7,3 +7,4 @@ pub mod Pages
 pub mod Comparing
 pub mod Counts
 pub mod Labels
+pub mod StartOrders

@@ -4,4 +4,5 @@ pub mod Trying
 pub mod Searching
 pub mod Clashes
 pub mod Meaning
+pub mod AnyMonitor
 pub mod Examples

@@ -36,7 +36,7 @@ module _ (bs : List (List ℕ)) where
   get-before : (k : ℕ) → k < firstOther bs → IsGet (getD bs k [])
   get-before k h = access-get (getD bs k []) .0 (not-off _ (other-means .none k h))
 
-  other-found : firstOther bs < length bs → FirstOther bs (firstOther bs)
+  pub other-found : firstOther bs < length bs → FirstOther bs (firstOther bs)
   other-found h =
       record {
         within = h;
@@ -44,7 +44,7 @@ module _ (bs : List (List ℕ)) where
         gets-before = get-before;
       }
 
-  all-gets : length bs ≤ firstOther bs → Each IsGet bs
+  pub all-gets : length bs ≤ firstOther bs → Each IsGet bs
   all-gets h = each-in [] IsGet bs (λ k w. get-before k (omega arith))
 
 -- ---- the first two gets that clash
@@ -115,10 +115,10 @@ answer-means m R bs =
     (λ v. (few, G, none-agree m R bs G (ltb-false _ _ v)))))
 
 -- no two answers mean what is so at once
-other-not-all : {P : Type 0} (bs : List (List ℕ)) (i : ℕ) → FirstOther bs i → Each IsGet bs → P
+pub other-not-all : {P : Type 0} (bs : List (List ℕ)) (i : ℕ) → FirstOther bs i → Each IsGet bs → P
 other-not-all bs i F G = absurd (F .no-get (each-at [] IsGet bs G i (F .within)))
 
-others-same : (bs : List (List ℕ)) (i k : ℕ) → FirstOther bs i → FirstOther bs k → i ≡ k
+pub others-same : (bs : List (List ℕ)) (i k : ℕ) → FirstOther bs i → FirstOther bs k → i ≡ k
 others-same bs i k F G =
     ⊎-elim (λ (w : i ≤ k). ⊎-elim (λ (e : i ≡ k). e) (λ (v : i < k). absurd (F .no-get (G .gets-before i v))) (eq-or-lt-of-le w))
     (λ (w : k < i). absurd (G .no-get (F .gets-before k w))) (le-or-lt i k)
@@ -158,48 +158,3 @@ module _ (m : Monitor) (R : Reached m) (bs : List (List ℕ)) where
     λ e. subst (Means m bs) e (answer-means m R bs),
     λ h. means-one (startOrder bs m) r (answer-means m R bs) h,
   )
-
--- ---- what is said before any get is tried, of every monitor
-
--- an answer about gets is of gets alone, and not of too many
-GetsAlone : List (List ℕ) → StartOrder → Type 0
-GetsAlone bs TooMany = 4096 < length bs
-GetsAlone bs (NoGet i) = (length bs ≤ 4096) × FirstOther bs i
-GetsAlone bs (Clashing i j) = (length bs ≤ 4096) × Each IsGet bs
-GetsAlone bs Agree = (length bs ≤ 4096) × Each IsGet bs
-
-first-looks : (m : Monitor) (bs : List (List ℕ)) → GetsAlone bs (startOrder bs m)
-unfolding startOrder firstClash GetsAlone
-first-looks m bs =
-    cond-all (GetsAlone bs) (ltb mostPieces (length bs)) TooMany _
-    (λ e. ltb-true mostPieces (length bs) e)
-    (λ e.
-    let few : length bs ≤ 4096 = ltb-false mostPieces (length bs) e in
-    cond-all (GetsAlone bs) (ltb (firstOther bs) (length bs)) (NoGet (firstOther bs)) _
-    (λ w. (few, other-found bs (ltb-true _ _ w)))
-    (λ w.
-    let G = all-gets bs (ltb-false _ _ w) in
-    cond-all (GetsAlone bs) (ltb (firstWith m bs) (length bs)) (Clashing (firstWith m bs) (partner m bs (firstWith m bs))) Agree (λ v. (few, G)) (λ v. (few, G))))
-
-module _ (m : Monitor) (bs : List (List ℕ)) where
-  -- "more than 4,096 pieces, before any is looked at"
-  pub too-many-exactly : (startOrder bs m ≡ TooMany) ↔ (4096 < length bs)
-  unfolding GetsAlone
-  too-many-exactly = (λ e. subst (GetsAlone bs) e (first-looks m bs), λ h. go (startOrder bs m) (first-looks m bs) h)
-    where
-      go : (r : StartOrder) → GetsAlone bs r → 4096 < length bs → r ≡ TooMany
-      go TooMany p h = refl
-      go (NoGet i) p h = absurd (omega (arith, h, p .0))
-      go (Clashing i j) p h = absurd (omega (arith, h, p .0))
-      go Agree p h = absurd (omega (arith, h, p .0))
-
-  -- "the first piece that is no well-formed get, a short last one among them"
-  pub no-get-exactly : (i : ℕ) → (startOrder bs m ≡ NoGet i) ↔ ((length bs ≤ 4096) × FirstOther bs i)
-  unfolding GetsAlone
-  no-get-exactly i = (λ e. subst (GetsAlone bs) e (first-looks m bs), λ h. go (startOrder bs m) (first-looks m bs) h)
-    where
-      go : (r : StartOrder) → GetsAlone bs r → (length bs ≤ 4096) × FirstOther bs i → r ≡ NoGet i
-      go TooMany p h = absurd (omega (arith, p, h .0))
-      go (NoGet k) p h = ap NoGet (others-same bs k i (p .1) (h .1))
-      go (Clashing k l) p h = other-not-all bs i (h .1) (p .1)
-      go Agree p h = other-not-all bs i (h .1) (p .1)
