@@ -10,7 +10,7 @@ use model::Mode;
 use model::Request;
 
 // The fields of 48 bits that were read as one number: kind 4 bits, actor 5, other subject 5, object 7, mode 3, class 4, needs 16, spare 4.
-fn fields_of(word: u64) -> Fields
+pub fn fields_of(word: u64) -> Fields
     ensures { λ r. ⌜ r ≡ fieldsOfWord word ⌝ }
 {
     Fields {
@@ -48,7 +48,7 @@ fn unused_zero(f: Fields) -> bool
         & (((f.kind == 7) | no_level) & (f.spare == 0))
 }
 
-fn well_formed(f: Fields) -> bool
+pub fn well_formed(f: Fields) -> bool
     ensures { λ r. ⌜ r ≡ wellFormed f ⌝ }
 {
     let allowed = mode_allowed(f.kind, f.mode);
@@ -59,7 +59,7 @@ fn well_formed(f: Fields) -> bool
 
 // ---- the request
 
-fn mode_of(x: u8) -> Mode
+pub fn mode_of(x: u8) -> Mode
     ensures { λ r. ⌜ r ≡ modeOf x ⌝ }
 {
     match x {

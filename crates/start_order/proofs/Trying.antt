@@ -1,14 +1,15 @@
--- What a piece asks for is in range; and a get that is carried out on the rows and taken back.
+-- What the fields of a piece ask for, and that it is in range; a get that is carried out on the rows and taken back.
 -- Assumes nothing.
 use Prim.Native.Nat.{ℕ, _<_}
 use mathlib.Core.Path.{_≡_, refl, sym, ap, _∙_}
-use mathlib.Core.Bool.{Bool, not}
+use mathlib.Core.Bool.{true, false, cond, not, _&&_}
 use mathlib.Core.List.{List, []}
 use lib.ListN.{length, set}
-use lib.Dec.{leb, ltb}
+use lib.Dec.{leb, ltb, eqb}
 use lib.Seq.{set-getD}
 use borrow.Author.Tests.{leb-true, leb-false, lt-ltb, le-ltb}
 use Rattle.bits.specs.Bits.{bit}
+use Rattle.model.specs.declared.Fields.{Fields}
 use Rattle.model.specs.declared.Mode.{Mode}
 use Rattle.model.specs.declared.Request.{Request}
 use Rattle.model.specs.declared.Request.the-variants.{Get, Release, Give, Rescind, Create, Delete, ChangeLevel}
@@ -16,17 +17,20 @@ use Rattle.model.specs.declared.Decoded.{Decoded}
 use Rattle.model.specs.declared.Decoded.the-variants.{Malformed, Says}
 use Rattle.model.specs.State.{object, heldBy}
 use Rattle.model.specs.Decisions.{number, refuses}
-use Rattle.model.specs.Requests.{decode, InRange}
+use Rattle.model.specs.Requests.{modeOf, wellFormed, creation, request, decodeFields, decode, InRange}
 use Rattle.model.specs.Rules.{step}
-use Rattle.model.proofs.Tests.{split, cond-all}
+use Rattle.model.specs.Runs.{carryOut, respond, reply}
+use Rattle.model.proofs.Tests.{split, clash, and-left, and-right, and-false, cond-all, cond-true, cond-false}
 use Rattle.model.proofs.Requests.{decode-range}
 use Rattle.unit.specs.Rows.{Rows, rowCount, heldRow, rowAt, stateIn}
 use Rattle.unit.specs.Stored.{setHeld}
 use Rattle.unit.proofs.Readings.{read-held}
 use Rattle.kinds.specs.Carried.{stores, carried}
 use Rattle.kinds.proofs.Effects.{held-back}
-use Rattle.start_order.specs.declared.wanted.Wanted.the-variants.{Access}
-use Rattle.start_order.specs.Answers.{wantedOf, wantedBy, wanted, Fits, alone}
+use Rattle.asking.specs.Asked.{askedSaid, asked}
+use Rattle.start_order.specs.declared.wanted.Wanted.{Wanted}
+use Rattle.start_order.specs.declared.wanted.Wanted.the-variants.{Access, Nothing}
+use Rattle.start_order.specs.Answers.{wantedOf, wantedBy, wanted, isAccess, Fits, alone}
 
 -- ---- what is asked for
 
@@ -50,22 +54,78 @@ pub wanted-fits : (b : List ℕ) → Fits (wanted b)
 unfolding wanted
 wanted-fits b = by-fits b (decode b) refl
 
+-- fields that are well formed and of kind 1 ask for an access, and no others
+pub fields-get : (f : Fields) → (wellFormed f && eqb (f .kind) 1) ≡ true → Access (f .actor) (f .object) (modeOf (f .mode)) ≡ wantedBy (decodeFields f)
+unfolding decodeFields request
+fields-get f e =
+    sym (ap wantedBy (cond-true (wellFormed f) (Says (request f)) Malformed (and-left (wellFormed f) _ e))
+    ∙ ap wantedOf (cond-true (eqb (f .kind) 1) (Get (f .actor) (f .object) (modeOf (f .mode))) _ (and-right (wellFormed f) _ e)))
+
+pub fields-other : (f : Fields) → (wellFormed f && eqb (f .kind) 1) ≡ false → Nothing ≡ wantedBy (decodeFields f)
+unfolding decodeFields request
+fields-other f e =
+    and-false (wellFormed f) _ e
+    (λ w. sym (ap wantedBy (cond-false (wellFormed f) (Says (request f)) Malformed w)))
+    (λ w. sym (cond-all (λ (d : Decoded). wantedBy d ≡ Nothing) (wellFormed f) (Says (request f)) Malformed
+    (λ t. ap wantedOf (cond-false (eqb (f .kind) 1) _ _ w) ∙ others) (λ t. refl)))
+  where
+    others : wantedOf (cond (eqb (f .kind) 2) (Release (f .actor) (f .object) (modeOf (f .mode)))
+        (cond (eqb (f .kind) 3) (Give (f .actor) (f .other) (f .object) (modeOf (f .mode)))
+        (cond (eqb (f .kind) 4) (Rescind (f .actor) (f .other) (f .object) (modeOf (f .mode)))
+        (cond (eqb (f .kind) 5) (Create (f .actor) (f .object) (creation (eqb (f .mode) 4)))
+        (cond (eqb (f .kind) 6) (Delete (f .actor) (f .object))
+        (ChangeLevel (f .actor) (f .object) (record { class = f .class; needs = f .needs }))))))) ≡ Nothing
+    others =
+        let none : Request → Type 0 = λ q. wantedOf q ≡ Nothing in
+        cond-all none (eqb (f .kind) 2) _ _ (λ t. refl)
+        (λ t. cond-all none (eqb (f .kind) 3) _ _ (λ t. refl)
+        (λ t. cond-all none (eqb (f .kind) 4) _ _ (λ t. refl)
+        (λ t. cond-all none (eqb (f .kind) 5) _ _ (λ t. refl)
+        (λ t. cond-all none (eqb (f .kind) 6) _ _ (λ t. refl) (λ t. refl)))))
+
+-- bytes that ask for an access say its get
+getFor : Wanted → Request
+getFor (Access s o x) = Get s o x
+getFor Nothing = Delete 0 0
+
+of-says : (q : Request) (s o : ℕ) (x : Mode) → wantedOf q ≡ Access s o x → q ≡ Get s o x
+unfolding getFor isAccess
+of-says (Get t p y) s o x e = ap getFor e
+of-says (Release t p y) s o x e = clash (sym (ap isAccess e))
+of-says (Give t u p y) s o x e = clash (sym (ap isAccess e))
+of-says (Rescind t u p y) s o x e = clash (sym (ap isAccess e))
+of-says (Create t p c) s o x e = clash (sym (ap isAccess e))
+of-says (Delete t p) s o x e = clash (sym (ap isAccess e))
+of-says (ChangeLevel t p l) s o x e = clash (sym (ap isAccess e))
+
+by-says : (d : Decoded) (s o : ℕ) (x : Mode) → wantedBy d ≡ Access s o x → d ≡ Says (Get s o x)
+unfolding isAccess
+by-says Malformed s o x e = clash (sym (ap isAccess e))
+by-says (Says q) s o x e = ap Says (of-says q s o x e)
+
+pub wanted-says : (b : List ℕ) (s o : ℕ) (x : Mode) → wanted b ≡ Access s o x → decode b ≡ Says (Get s o x)
+unfolding wanted
+wanted-says b s o x e = by-says (decode b) s o x e
+
 -- ---- a get on the rows, and its set put back
 
 granted-below : (k : ℕ) → ltb k 2 ≡ not (leb 2 k)
 granted-below k = split (leb 2 k) (λ e. le-ltb k 2 (leb-true 2 k e) ∙ sym (ap not e)) (λ e. lt-ltb k 2 (leb-false 2 k e) ∙ sym (ap not e))
 
-module _ (u : Rows) (s o : ℕ) (x : Mode) where
+module _ (u : Rows) (b : List ℕ) (s o : ℕ) (x : Mode) (e : wanted b ≡ Access s o x) where
   -- granted where the reply is below 2
-  pub tried-alone : (r : ℕ) → r ≡ number (step (Get s o x) (stateIn u) .decision) → bit (ltb r 2) ≡ bit (alone (stateIn u) (Access s o x))
-  unfolding alone
-  tried-alone r e = ap (λ (k : ℕ). bit (ltb k 2)) e ∙ ap bit (granted-below (number (step (Get s o x) (stateIn u) .decision)))
+  pub tried-alone : (r : ℕ) → r ≡ reply b (stateIn u) → bit (ltb r 2) ≡ bit (alone (stateIn u) (wanted b))
+  unfolding alone respond
+  tried-alone r k =
+      let d = step (Get s o x) (stateIn u) .decision in
+      ap (λ (n : ℕ). bit (ltb n 2)) (k ∙ ap (λ (c : Decoded). number (carryOut c (stateIn u) .decision)) (wanted-says b s o x e))
+      ∙ ap bit (granted-below (number d)) ∙ sym (ap (λ (w : Wanted). bit (alone (stateIn u) w)) e)
 
   -- the rows are as they were, whether it was granted or not
-  pub taken-back : length u ≡ rowCount → o < 64 → (w : Rows) → w ≡ carried (Get s o x) u → setHeld w o s (heldBy (object (stateIn u) o) s) ≡ u
-  unfolding carried stores
-  taken-back n h w e =
-      ap (λ (v : Rows). setHeld v o s (heldBy (object (stateIn u) o) s)) e
+  pub taken-back : length u ≡ rowCount → o < 64 → (w : Rows) → w ≡ asked b u → setHeld w o s (heldBy (object (stateIn u) o) s) ≡ u
+  unfolding asked carried stores
+  taken-back n h w k =
+      ap (λ (v : Rows). setHeld v o s (heldBy (object (stateIn u) o) s)) (k ∙ ap (λ (d : Decoded). askedSaid d u) (wanted-says b s o x e))
       ∙ cond-all (λ (v : Rows). setHeld v o s (heldBy (object (stateIn u) o) s) ≡ u) (refuses (step (Get s o x) (stateIn u) .decision)) u _
       (λ r. ap (setHeld u o s) (sym (read-held u o h s)) ∙ ap (set u (heldRow o)) (set-getD (rowAt u (heldRow o)) s 0) ∙ set-getD u (heldRow o) [])
       (λ r. held-back u n o h s _)

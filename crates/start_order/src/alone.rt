@@ -5,11 +5,12 @@ ghost use lib.ListN.{length};
 ghost use Rattle.bits.specs.Bits.{bit};
 ghost use Rattle.model.specs.Program.{pieces, pieceCount};
 ghost use Rattle.unit.specs.Rows.{rowCount, stateIn};
-ghost use Rattle.start_order.specs.Answers.{alone, Fits};
+ghost use Rattle.start_order.specs.Answers.{wanted, alone};
 ghost use Rattle.start_order.specs.Tried.{Tried};
 use crate::wanted::Wanted;
-use crate::wanted::wanted_at;
-use accesses::get;
+use crate::wanted::access_in;
+use crate::wanted::piece;
+use asking::ask;
 use unit::ROWS;
 use unit::flag;
 use unit::held_by;
@@ -28,18 +29,18 @@ pub fn copy_rows(unit: &[[u8; 16]], copy: &mut [[u8; 16]])
     }
 }
 
-// 1 where the get is granted on the unit as it is, else 0. It is carried out, and then the actor's set is what it was before.
-fn is_alone(unit: &mut [[u8; 16]], w: Wanted) -> u8
+// 1 where the piece is a get that is granted on the unit as it is, else 0. It is carried out, and then the actor's set is what it was before.
+fn is_alone(unit: &mut [[u8; 16]], piece: &[u8]) -> u8
     requires { do ⌜ (← ⟦unit.len()⟧) ≡ rowCount ⌝ }
-    requires { ⌜ Fits w ⌝ }
-    ensures answered { λ r. ⌜ r ≡ bit (alone (stateIn (now (unit .entry))) w) ⌝ }
+    ensures answered { λ r. ⌜ r ≡ bit (alone (stateIn (now (unit .entry))) (wanted (now (piece .entry)))) ⌝ }
     ensures left { λ r. ⌜ now (unit .exit) ≡ now (unit .entry) ⌝ }
 {
-    match w {
+    let get = access_in(piece);
+    match get {
         Wanted::Nothing => 0,
         Wanted::Access(s, o, x) => {
             let had = held_by(unit, o, s);
-            let reply = get(unit, s, o, x);
+            let reply = ask(unit, piece);
             set_held(unit, o, s, had);
             flag(reply < 2)
         }
@@ -55,7 +56,7 @@ pub fn list_alone(unit: &mut [[u8; 16]], requests: &[u8], count: usize, list: &m
 {
     let mut i = 0usize;
     while i < count {
-        list[i] = is_alone(unit, wanted_at(requests, i));
+        list[i] = is_alone(unit, piece(requests, i));
         i += 1;
     }
 }

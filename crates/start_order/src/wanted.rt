@@ -1,16 +1,19 @@
 // What a piece of the requests asks for.
 ghost use mathlib.Core.Path.{_≡_};
+ghost use mathlib.Core.List.{[]};
 ghost use Prim.Native.Nat.{_<_};
 ghost use lib.ListN.{length, getD};
-ghost use mathlib.Core.List.{[]};
+ghost use Rattle.model.specs.Requests.{decodeFields};
 ghost use Rattle.model.specs.Program.{pieces, pieceCount};
 ghost use Rattle.unit.specs.Rows.{rowCount, stateIn};
-ghost use Rattle.start_order.specs.Answers.{wantedOf, wantedBy, wanted, isAccess, breaks, Fits};
+ghost use Rattle.start_order.specs.Answers.{wantedBy, wanted, isAccess, breaks, Fits};
+use bits::read_word;
 use bits::smaller;
-use decoding::decode;
-use model::Decoded;
+use decoding::fields_of;
+use decoding::mode_of;
+use decoding::well_formed;
+use model::Fields;
 use model::Mode;
-use model::Request;
 use star::labels_keep;
 use unit::label_of;
 
@@ -20,27 +23,36 @@ pub enum Wanted {
     Nothing,
 }
 
-fn wanted_of(q: Request) -> Wanted
-    ensures { λ r. ⌜ r ≡ wantedOf q ⌝ }
+// The piece at place i: six bytes, or fewer at the end.
+pub fn piece(requests: &[u8], i: usize) -> &[u8]
+    requires { ⌜ i < pieceCount (length (now requests)) ⌝ }
+    ensures { λ r. ⌜ now r ≡ getD (pieces (now (requests .entry))) i [] ⌝ }
 {
-    match q {
-        Request::Get(s, o, x) => Wanted::Access(s, o, x),
-        Request::Release(s, o, x) => Wanted::Nothing,
-        Request::Give(s, t, o, x) => Wanted::Nothing,
-        Request::Rescind(s, t, o, x) => Wanted::Nothing,
-        Request::Create(s, o, how) => Wanted::Nothing,
-        Request::Delete(s, o) => Wanted::Nothing,
-        Request::ChangeLevel(s, o, level) => Wanted::Nothing,
+    let at = i * 6;
+    let end = smaller(at + 6, requests.len());
+    &requests[at..end]
+}
+
+fn access_of(f: Fields) -> Wanted
+    ensures { λ r. ⌜ r ≡ wantedBy (decodeFields f) ⌝ }
+{
+    let x = mode_of(f.mode);
+    if well_formed(f) & (f.kind == 1) {
+        Wanted::Access(f.actor, f.object, x)
+    } else {
+        Wanted::Nothing
     }
 }
 
-fn wanted_by(said: Decoded) -> Wanted
-    ensures { λ r. ⌜ r ≡ wantedBy said ⌝ }
+// What a piece asks for. The fields are looked at here and not by `decoding::decode`, which is made for its one caller, `ask`: called from
+// here too, it is compiled apart from that, and every request takes longer.
+pub fn access_in(b: &[u8]) -> Wanted
+    ensures { λ r. ⌜ r ≡ wanted (now (b .entry)) ⌝ }
 {
-    match said {
-        Decoded::Malformed => Wanted::Nothing,
-        Decoded::Says(q) => wanted_of(q),
+    if b.len() != 6 {
+        return Wanted::Nothing;
     }
+    access_of(fields_of(read_word(b)))
 }
 
 // What the piece at place i asks for.
@@ -48,9 +60,7 @@ pub fn wanted_at(requests: &[u8], i: usize) -> Wanted
     requires { ⌜ i < pieceCount (length (now requests)) ⌝ }
     ensures { λ r. ⌜ r ≡ wanted (getD (pieces (now (requests .entry))) i []) ⌝ }
 {
-    let at = i * 6;
-    let end = smaller(at + 6, requests.len());
-    wanted_by(decode(&requests[at..end]))
+    access_in(piece(requests, i))
 }
 
 pub fn is_access(w: Wanted) -> bool

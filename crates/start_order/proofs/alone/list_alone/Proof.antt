@@ -1,15 +1,14 @@
 -- `start_order::alone::list_alone` meets its contract.
 -- Assumes nothing.
-use Prim.Native.Nat.{_-_}
+use Prim.Native.Nat.{ℕ, _-_}
 use native.Mathlib.Omega.{arith}
-use mathlib.Core.Path.{_≡_, refl, sym, ap, ap₂, _∙_, subst}
+use mathlib.Core.Path.{_≡_, refl, ap, ap₂, _∙_}
+use mathlib.Core.List.{List}
 use lib.ListN.{length, length-set}
 use Rattle.bits.specs.Bits.{bit}
 use Rattle.model.specs.Program.{pieces}
 use Rattle.unit.specs.Rows.{Rows, stateIn}
-use Rattle.start_order.specs.declared.wanted.Wanted.{Wanted}
-use Rattle.start_order.specs.Answers.{Fits, alone}
-use Rattle.start_order.proofs.Trying.{wanted-fits}
+use Rattle.start_order.specs.Answers.{wanted, alone}
 use Rattle.start_order.proofs.Searching.{counted, Listing, listed-more}
 use borrow.Author.Needs.{needs}
 use Rattle.start_order.proofs.alone.list_alone.Statement.{statement}
@@ -24,13 +23,13 @@ abbrev μ-loop : tie.MeasureT-loop
 loop-holds : tie.Need-loop-holds Inv-loop μ-loop
 loop-holds c = record { bound = omega arith; rows = refl; size = refl; so-far = λ k h. absurd (omega arith) }
 
-wanted-at-requires : tie.Need-wanted-at-requires Inv-loop μ-loop
-wanted-at-requires c κs = omega (arith, c .before .loop-test .taken, c .before .before .before .before .before .pre .1 .0)
+piece-requires : tie.Need-piece-requires Inv-loop μ-loop
+piece-requires c κs = omega (arith, c .before .loop-test .taken, c .before .before .before .before .before .pre .1 .0)
 
 is-alone-requires : tie.Need-is-alone-requires Inv-loop μ-loop
 is-alone-requires c κs =
     let start = c .before .before .before .before .before .before in
-    (ap length (c .before .before .before .loop .inv .rows) ∙ start .pre .0, subst Fits (sym (c .wanted-at .ensures)) (wanted-fits _))
+    ap length (c .before .before .before .loop .inv .rows) ∙ start .pre .0
 
 slice-write-list : tie.Need-slice-write-list Inv-loop μ-loop
 slice-write-list c = omega (arith, c .before .before .before .before .loop-test .taken, c .before .before .before .before .before .loop .inv .size, c .before .before .before .before .before .before .before .before .pre .1 .1)
@@ -47,13 +46,13 @@ loop-again c =
     let loop = c .before .before .before .before .before .loop in
     let tested = c .before .before .before .before .loop-test .taken in
     let tried = c .before .is-alone in
-    let asked = c .before .before .wanted-at .ensures in
+    let asked = c .before .before .piece .ensures in
     record {
       bound = omega (arith, tested);
       rows = tried .ensures .1 ∙ loop .inv .rows;
       size = length-set (loop .list) (loop .i) (tried .result) ∙ loop .inv .size;
       so-far = listed-more (stateIn (start .args .unit .now)) (pieces (start .args .requests .now)) (loop .i) (loop .list) _ (omega (arith, tested, loop .inv .size, start .pre .1 .1)) (loop .inv .so-far)
-          (tried .ensures .0 ∙ ap₂ (λ (u : Rows) (w : Wanted). bit (alone (stateIn u) w)) (loop .inv .rows) asked);
+          (tried .ensures .0 ∙ ap₂ (λ (u : Rows) (b : List ℕ). bit (alone (stateIn u) (wanted b))) (loop .inv .rows) asked);
     }
 
 same-length : tie.Need-same-length Inv-loop μ-loop
@@ -82,7 +81,7 @@ list-alone-spec =
     Inv-loop
     μ-loop
     loop-holds
-    wanted-at-requires
+    piece-requires
     is-alone-requires
     slice-write-list
     add-i
