@@ -1,19 +1,17 @@
 -- The tests of one get and of two gets decide what change request §6 says of them, on every reached monitor.
 -- Assumes nothing.
-use Prim.Native.Nat.{ℕ, _<_, _≤_}
+use Prim.Native.Nat.{ℕ, _<_}
 use native.Mathlib.Omega.{arith}
-use mathlib.Core.Path.{_≡_, refl, sym, ap, ap₂, _∙_, subst}
+use mathlib.Core.Path.{_≡_, refl, sym, ap, ap₂, _∙_}
 use mathlib.Core.Logic.{_↔_}
-use mathlib.Core.Bool.{Bool, true, false, not, _&&_}
+use mathlib.Core.Bool.{true, not, _&&_}
 use mathlib.Core.List.{List}
 use lib.Dec.{eqb}
-use borrow.Author.Tests.{eqb-true, eq-eqb, leb-true, leb-false, lt-leb}
+use borrow.Author.Tests.{eqb-true, eq-eqb, leb-false, lt-leb}
 use Rattle.model.specs.declared.Monitor.{Monitor}
 use Rattle.model.specs.declared.Mode.{Mode}
-use Rattle.model.specs.declared.Request.{Request}
-use Rattle.model.specs.declared.Request.the-variants.{Get, Release, Give, Rescind, Create, Delete, ChangeLevel}
-use Rattle.model.specs.declared.Decoded.{Decoded}
-use Rattle.model.specs.declared.Decoded.the-variants.{Malformed, Says}
+use Rattle.model.specs.declared.Request.the-variants.{Get}
+use Rattle.model.specs.declared.Decoded.the-variants.{Says}
 use Rattle.model.specs.declared.Response.{Response}
 use Rattle.model.specs.State.{object}
 use Rattle.model.specs.Properties.{Star}
@@ -33,34 +31,25 @@ use Rattle.request_orders.proofs.Commuting.{says-granted}
 use Rattle.request_orders.proofs.TwoGets.{together-by-table}
 use Rattle.start_order.specs.declared.wanted.Wanted.{Wanted}
 use Rattle.start_order.specs.declared.wanted.Wanted.the-variants.{Access, Nothing}
-use Rattle.start_order.specs.Answers.{wantedOf, wantedBy, wanted, isAccess, alone, breaks, clashes}
+use Rattle.start_order.specs.Answers.{wantedBy, wanted, isAccess, alone, breaks, clashes}
+use Rattle.start_order.proofs.Trying.{wanted-says}
 
 -- ---- one get
-
--- bytes that ask for an access say a get
-of-get : (q : Request) → isAccess (wantedOf q) ≡ true → (s : ℕ) × (o : ℕ) × (x : Mode) × (Says q ≡ Says (Get s o x))
-unfolding isAccess
-of-get (Get s o x) e = (s, o, x, refl)
-of-get (Release s o x) e = clash (sym e)
-of-get (Give s t o x) e = clash (sym e)
-of-get (Rescind s t o x) e = clash (sym e)
-of-get (Create s o c) e = clash (sym e)
-of-get (Delete s o) e = clash (sym e)
-of-get (ChangeLevel s o l) e = clash (sym e)
-
-by-get : (d : Decoded) → isAccess (wantedBy d) ≡ true → (s : ℕ) × (o : ℕ) × (x : Mode) × (d ≡ Says (Get s o x))
-unfolding isAccess
-by-get Malformed e = clash (sym e)
-by-get (Says q) e = of-get q e
 
 -- what a get asks for
 pub wanted-get : (b : List ℕ) (s o : ℕ) (x : Mode) → decode b ≡ Says (Get s o x) → wanted b ≡ Access s o x
 unfolding wanted
 wanted-get b s o x e = ap wantedBy e
 
+-- bytes that ask for an access say a get, and no others do
+access-in : (b : List ℕ) (w : Wanted) → wanted b ≡ w → isAccess w ≡ true → IsGet b
+unfolding isAccess
+access-in b (Access s o x) e t = (s, o, x, wanted-says b s o x e)
+access-in b Nothing e t = clash (sym t)
+
 pub access-get : (b : List ℕ) → (isAccess (wanted b) ≡ true) ↔ IsGet b
-unfolding wanted isAccess
-access-get b = (by-get (decode b), λ g. ap (λ (d : Decoded). isAccess (wantedBy d)) (g .3))
+unfolding isAccess
+access-get b = (access-in b (wanted b) refl, λ g. ap isAccess (wanted-get b (g .0) (g .1) (g .2) (g .3)))
 
 -- the test of a get that came alone is its reply, 0 or 1
 pub alone-reply : (m : Monitor) (b : List ℕ) (s o : ℕ) (x : Mode) → decode b ≡ Says (Get s o x) → (alone m (wanted b) ≡ true) ↔ (reply b m < 2)

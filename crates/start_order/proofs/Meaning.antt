@@ -3,25 +3,24 @@
 use Prim.Native.Nat.{ℕ, _<_, _≤_}
 use native.Mathlib.Nat.{eq-or-lt-of-le}
 use native.Mathlib.Omega.{arith}
-use mathlib.Core.Path.{_≡_, refl, sym, ap, ap₂, _∙_, subst}
+use mathlib.Core.Path.{_≡_, refl, sym, ap, ap₂, subst}
 use mathlib.Core.Logic.{_↔_, _⊎_, inl, inr, ⊎-elim}
-use mathlib.Core.Bool.{true, false, _&&_}
+use mathlib.Core.Bool.{true}
 use mathlib.Core.List.{List, []}
 use lib.ListN.{length, getD}
 use lib.Dec.{ltb}
-use borrow.Author.Tests.{ltb-true, ltb-false, lt-ltb, le-ltb}
+use borrow.Author.Tests.{ltb-true, ltb-false, lt-ltb}
 use Rattle.model.specs.declared.Monitor.{Monitor}
 use Rattle.model.specs.Properties.{Star}
 use Rattle.model.specs.Beginnings.{Reached}
-use Rattle.model.proofs.Tests.{split, apart, cond-all, and-left, and-right, and-both, not-on, not-off, le-or-lt}
+use Rattle.model.proofs.Tests.{apart, cond-all, and-left, and-right, and-both, not-on, not-off, le-or-lt}
 use Rattle.orders.specs.Orders.{Each}
 use Rattle.orders.proofs.Places.{each-at, each-in}
-use Rattle.request_orders.specs.StartOrder.{IsGet, OrdersAgree, Clash, NoClash}
+use Rattle.request_orders.specs.StartOrder.{IsGet, OrdersAgree, Clash}
 use Rattle.request_orders.proofs.StartOrder.{gets-agree-exactly}
 use Rattle.start_order.specs.declared.StartOrder.{StartOrder}
 use Rattle.start_order.specs.declared.StartOrder.the-variants.{Agree, Clash as Clashing, NoGet, TooMany}
-use Rattle.start_order.specs.First.{firstBelow}
-use Rattle.start_order.specs.Answers.{wanted, isAccess, clashes, mostPieces, firstOther, partner, firstWith, firstClash, startOrder}
+use Rattle.start_order.specs.Answers.{mostPieces, firstOther, partner, firstWith, firstClash, startOrder}
 use Rattle.start_order.specs.Meaning.{FirstOther, FirstClash, Means}
 use Rattle.start_order.proofs.First.{First, first-means}
 use Rattle.start_order.proofs.Searching.{isOther, isPartner, hasPartner}

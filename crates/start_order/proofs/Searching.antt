@@ -18,7 +18,6 @@ use Rattle.model.proofs.Tests.{split, cond-true, cond-false}
 use Rattle.turns.proofs.Runs.{length-pieces}
 use Rattle.unit.specs.Rows.{Rows, rowCount, rowAt, stateIn}
 use Rattle.start_order.specs.Answers.{wanted, isAccess, alone, breaks, clashes, mostPieces, firstOther, partner, firstWith, firstClash, startOrder}
-use Rattle.start_order.specs.declared.StartOrder.{StartOrder}
 use Rattle.start_order.specs.declared.StartOrder.the-variants.{Agree, Clash, NoGet, TooMany}
 use Rattle.start_order.specs.Tried.{Listed, Tried}
 use Rattle.start_order.proofs.First.{NoneBelow, found-first, ended-first}

@@ -1,6 +1,6 @@
 -- `start_order::start_order` meets its contract.
 -- Assumes nothing.
-use mathlib.Core.Path.{ap, _∙_, subst}
+use mathlib.Core.Path.{_∙_, subst}
 use Rattle.model.specs.Program.{pieces}
 use Rattle.unit.specs.Rows.{Rows, stateIn}
 use Rattle.start_order.specs.Tried.{Tried}

@@ -1,10 +1,10 @@
 -- `start_order::search::clashes_at` meets its contract.
 -- Assumes nothing.
 use native.Mathlib.Omega.{arith}
-use mathlib.Core.Path.{_≡_, sym, ap, ap₂, _∙_, subst}
+use mathlib.Core.Path.{sym, ap, _∙_, subst}
 use mathlib.Core.Bool.{Bool, _&&_}
 use mathlib.Core.List.{[]}
-use lib.ListN.{length, getD}
+use lib.ListN.{getD}
 use Rattle.model.specs.Program.{pieces}
 use Rattle.unit.specs.Rows.{stateIn}
 use Rattle.turns.proofs.Runs.{length-pieces}

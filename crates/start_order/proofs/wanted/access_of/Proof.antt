@@ -3,7 +3,6 @@
 use mathlib.Core.Path.{sym, ap, _∙_}
 use mathlib.Core.Bool.{Bool, _&&_}
 use lib.Dec.{eqb}
-use Rattle.model.specs.declared.Mode.{Mode}
 use Rattle.start_order.specs.declared.wanted.Wanted.the-variants.{Access}
 use Rattle.start_order.proofs.Trying.{fields-get, fields-other}
 use borrow.Author.Needs.{needs}
