@@ -63,6 +63,36 @@ pub fn beginning_with(first: usize, second: usize, count: usize) -> Vec<usize> {
     [first, second].into_iter().chain(others).collect()
 }
 
+/// What lists of gets of enrolled subjects on live objects meet, if there are enough of them.
+pub const LISTS_MET: [&str; 26] = [
+    "agree",
+    "clash at 0 and 1",
+    "clash at later places",
+    "clash of r and w",
+    "clash of r and a",
+    "clash of w and r",
+    "clash of w and w",
+    "clash of w and a",
+    "clash of a and r",
+    "clash of a and w",
+    "the same get twice",
+    "the same get twice, agree",
+    "the same get twice, clash at 0 and 1",
+    "the same get twice, clash at later places",
+    "granted alone: r",
+    "granted alone: w",
+    "granted alone: a",
+    "granted alone: e",
+    "already held: r",
+    "already held: w",
+    "already held: a",
+    "already held: e",
+    "refused alone with 6",
+    "refused alone with 7",
+    "refused alone with 8",
+    "refused alone with 9",
+];
+
 /// How often each thing was met, by its name.
 #[derive(Default, Debug)]
 pub struct Met(BTreeMap<String, usize>);

@@ -2,7 +2,7 @@
 
 use circmon::StartOrder;
 use reference::{orders, reply, Get, Kind, Level, Mode, Monitor, Request};
-use sidebyside::start_order::{after_order, agree, answer, bytes, Met};
+use sidebyside::start_order::{after_order, agree, answer, bytes, Met, LISTS_MET};
 use sidebyside::{image, Both};
 
 const LOW: Option<Level> = level(0, 0);
@@ -98,37 +98,7 @@ fn check(both: &Both, lists: &[Vec<Get>], met: &mut Met) {
 
 /// What every list over the states meets; only gets of which the star property says something stand in a clash.
 fn check_met(met: &Met) {
-    met.check(
-        300,
-        &[
-            "agree",
-            "clash at 0 and 1",
-            "clash at later places",
-            "clash of r and w",
-            "clash of r and a",
-            "clash of w and r",
-            "clash of w and w",
-            "clash of w and a",
-            "clash of a and r",
-            "clash of a and w",
-            "the same get twice",
-            "the same get twice, agree",
-            "the same get twice, clash at 0 and 1",
-            "the same get twice, clash at later places",
-            "granted alone: r",
-            "granted alone: w",
-            "granted alone: a",
-            "granted alone: e",
-            "already held: r",
-            "already held: w",
-            "already held: a",
-            "already held: e",
-            "refused alone with 6",
-            "refused alone with 7",
-            "refused alone with 8",
-            "refused alone with 9",
-        ],
-    );
+    met.check(300, &LISTS_MET);
     for not_asked in ["r and r", "a and a", "e and r", "r and e", "e and w", "w and e", "e and a", "a and e", "e and e"]
     {
         assert_eq!(met.of(&format!("clash of {not_asked}")), 0, "{met:#?}");

@@ -4,7 +4,7 @@
 use circmon::{StartOrder, Unit};
 use load::{Random, Shape};
 use reference::{Get, Kind, Mode, Monitor, Request, OBJECTS, SUBJECTS};
-use sidebyside::start_order::{after_order, agree, answer, beginning_with, bytes, shuffled, Met};
+use sidebyside::start_order::{after_order, agree, answer, beginning_with, bytes, shuffled, Met, LISTS_MET};
 use sidebyside::{drawn, image, shape, Both, RUNS};
 
 /// So many requests in a run, and lists after so many of them.
@@ -162,42 +162,6 @@ fn a_million_gets_in_lists_along_runs() {
     }
     println!("{all} gets: {met:#?}");
     assert!(all >= 1_000_000, "{all}");
-    check_met(&met);
-}
-
-fn check_met(met: &Met) {
-    met.check(
-        1000,
-        &[
-            "agree",
-            "clash at 0 and 1",
-            "clash at later places",
-            "no get",
-            "the same get twice",
-            "the same get twice, agree",
-            "the same get twice, clash at 0 and 1",
-            "the same get twice, clash at later places",
-            "granted alone: r",
-            "granted alone: w",
-            "granted alone: a",
-            "granted alone: e",
-            "already held: r",
-            "already held: w",
-            "already held: a",
-            "already held: e",
-            "refused alone with 3",
-            "refused alone with 4",
-            "refused alone with 6",
-            "refused alone with 7",
-            "refused alone with 8",
-            "refused alone with 9",
-            "clash of r and w",
-            "clash of r and a",
-            "clash of w and r",
-            "clash of w and w",
-            "clash of w and a",
-            "clash of a and r",
-            "clash of a and w",
-        ],
-    );
+    met.check(1000, &LISTS_MET);
+    met.check(1000, &["no get", "refused alone with 3", "refused alone with 4"]);
 }
