@@ -53,12 +53,25 @@ read-number code i j c h k =
 read-parts : (n code i j : ℕ) → n ≡ code + 256 * i + 2 ^ 32 * j → code < 4 → i < 2 ^ 24 → j < 2 ^ 24 → answerIn n ≡ byCode code i j
 read-parts n code i j e c h k = ap answerIn e ∙ read-number code i j c h k
 
+-- computed: each code, two places and one
+pub each-order-number : (orderNumber Agree ≡ 0) × (orderNumber (Clash 1 2) ≡ 0x200000101) × (orderNumber (NoGet 4095) ≡ 0xFFF02) × (orderNumber TooMany ≡ 3)
+unfolding orderNumber
+each-order-number = (refl, refl, refl, refl)
+
+-- no code but 0 to 3
+pub code-below-4 : (r : StartOrder) → orderNumber r % 256 < 4
+unfolding orderNumber
+code-below-4 Agree = omega arith
+code-below-4 (Clash i j) = omega arith
+code-below-4 (NoGet i) = omega arith
+code-below-4 TooMany = omega arith
+
 -- the answer is read off its number, and the number fits in 64 bits
 pub number-read : (r : StartOrder) → PlacesFit r → (answerIn (orderNumber r) ≡ r) × (orderNumber r < 2 ^ 64)
 unfolding orderNumber
 number-read Agree f = (read-parts 0 0 0 0 (omega arith) (omega arith) (omega arith) (omega arith), omega arith)
 number-read (Clash i j) f = (
-  read-parts (orderNumber (Clash i j)) 1 i j (omega (arith, f .0, f .1)) (omega arith) (omega (arith, f .0)) (omega (arith, f .1)),
+  read-parts (orderNumber (Clash i j)) 1 i j (omega (arith, f .0, f .1)) (omega arith) (omega (arith, f .0, f .1)) (omega (arith, f .1)),
   omega (arith, f .0, f .1),
 )
 number-read (NoGet i) f = (read-parts (orderNumber (NoGet i)) 2 i 0 (omega (arith, f)) (omega arith) (omega (arith, f)) (omega arith), omega (arith, f))

@@ -22,7 +22,7 @@ fn order_number(found: StartOrder) -> u64
     }
 }
 
-// The first two gets of a row of requests that clash.
+// Whether the order of a row of gets matters, as one number.
 #[no_mangle]
 pub extern "C" fn circmon_clash(unit: &[[u8; 16]; ROWS], requests: &[u8]) -> u64
     ensures { λ r. ⌜ r ≡ orderNumber (startOrder (pieces (now (requests .entry))) (stateIn (now (unit .entry)))) ⌝ }

@@ -1,9 +1,11 @@
 -- Where all orders of a list of gets agree, no two of them clash: the state that all leave holds both accesses.
 -- Assumes nothing.
-use Prim.Native.Nat.{ℕ, _<_}
-use mathlib.Core.Path.{_≡_, refl, sym, _∙_, subst}
+use Prim.Native.Nat.{ℕ, zero, suc, _<_}
+use native.Mathlib.Nat.{le-of-suc-le-suc, not-suc-le-zero}
+use mathlib.Core.Path.{_≡_, refl, sym, ap, _∙_, subst}
 use mathlib.Core.Logic.{_≢_}
 use mathlib.Core.List.{List, [], _∷_, List·Permᴰ·swap, List·Permᴰ·trans}
+use lib.ListN.{length, getD}
 use Rattle.model.specs.declared.Monitor.{Monitor}
 use Rattle.model.specs.declared.Mode.{Mode}
 use Rattle.model.specs.declared.Request.the-variants.{Get}
@@ -12,7 +14,7 @@ use Rattle.model.specs.declared.Response.{Response}
 use Rattle.model.specs.Properties.{Holds}
 use Rattle.model.specs.Requests.{decode}
 use Rattle.model.specs.Rules.{changed, step}
-use Rattle.model.specs.Runs.{respond, reply, after}
+use Rattle.model.specs.Runs.{respond, reply, after, replies}
 use Rattle.model.proofs.Requests.{decode-range}
 use Rattle.invariants.specs.Access.{withAccess}
 use Rattle.invariants.specs.Sound.{Sound}
@@ -58,6 +60,15 @@ first-holds b bs s o x m S p d h =
     (sym (respond-says b (Get s o x) m d ∙ step-granted (Get s o x) m (says-granted b (Get s o x) m d .0 h)))
     (holds-now m S s o x (decode-range b _ d .0) (decode-range b _ d .1)))
 
+-- and so does one that is granted at any place
+granted-holds : (bs : List (List ℕ)) → Each IsGet bs → (n : Monitor) → Sound n → (i : ℕ) → i < length bs → (s o : ℕ) (x : Mode)
+    → decode (getD bs i []) ≡ Says (Get s o x) → getD (replies bs n) i 2 < 2 → Holds (after bs n) s o x
+unfolding after replies
+granted-holds [] p n S i h s o x d g = absurd (not-suc-le-zero h)
+granted-holds (b ∷ bs) p n S zero h s o x d g = first-holds b bs s o x n S (p .1) d g
+granted-holds (b ∷ bs) p n S (suc i) h s o x d g =
+    granted-holds bs (p .1) (respond b n .monitor) (sound-respond b n S) i (le-of-suc-le-suc h) s o x d g
+
 module _ (Property : Monitor → Type 0) (R : PairProperty Property) (m : Monitor) (S : Sound m) where
   -- two gets that clash: no list of gets leads to a state that holds both accesses, since it would have the property
   pub never-both : (b c : List ℕ) (K : Clash Property m b c) (ds : List (List ℕ)) → Each IsGet ds
@@ -74,6 +85,14 @@ module _ (Property : Monitor → Type 0) (R : PairProperty Property) (m : Monito
       held-now one W (K .t) (K .q) (K .y) (Holds n) held-second (held-now m (S .formed) (K .s) (K .p) (K .x) (Holds n) held-first (B .more)) in
       let E = same-on (B .same) (same-back (same-on (added-same one (K .t) (K .q) (K .y)) (added-same m (K .s) (K .p) (K .x)))) in
       K .together (R .means both .1 (pairs-by (R .test) n both E fewer (R .means n .0 (R .kept n (sound-after ds m S)))))
+
+  -- so they are not both granted, at whatever places of a list of gets they stand
+  pub not-both-granted : (b c : List ℕ) → Clash Property m b c → (ds : List (List ℕ)) → Each IsGet ds → (i j : ℕ) → i < length ds → j < length ds
+      → getD ds i [] ≡ b → getD ds j [] ≡ c → getD (replies ds m) i 2 < 2 → getD (replies ds m) j 2 < 2 → ⊥
+  not-both-granted b c K ds p i j h k e f g l =
+      never-both b c K ds p
+      (granted-holds ds p m S i h (K .s) (K .p) (K .x) (ap decode e ∙ K .first) g)
+      (granted-holds ds p m S j k (K .t) (K .q) (K .y) (ap decode f ∙ K .second) l)
 
   -- each before the other: a state that both orders left would hold both
   pub clash-apart : (b c : List ℕ) (rest : List (List ℕ)) → IsGet b → IsGet c → Each IsGet rest → Clash Property m b c

@@ -1,4 +1,5 @@
 -- The theorems, in the order in which they stand on each other.
+pub mod ByteOrders
 pub mod Commuting
 pub mod Updates
 pub mod Accesses

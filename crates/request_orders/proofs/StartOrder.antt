@@ -2,7 +2,7 @@
 -- Assumes nothing.
 use Prim.Native.Nat.{ℕ, _<_}
 use native.Mathlib.Omega.{arith}
-use mathlib.Core.Path.{_≡_, sym, ap, _∙_, subst}
+use mathlib.Core.Path.{_≡_, refl, sym, ap, _∙_, subst}
 use mathlib.Core.Logic.{_↔_, _≢_}
 use mathlib.Core.List.{List, [], _∷_}
 use lib.ListN.{length, getD}
@@ -16,7 +16,7 @@ use Rattle.model.specs.Properties.{Star, Holds}
 use Rattle.model.specs.Decisions.{number, refuses}
 use Rattle.model.specs.Requests.{decode}
 use Rattle.model.specs.Rules.{changed, checks}
-use Rattle.model.specs.Runs.{respond, reply, after}
+use Rattle.model.specs.Runs.{respond, reply, after, replies}
 use Rattle.model.specs.Beginnings.{Reached}
 use Rattle.model.proofs.Requests.{decode-range}
 use Rattle.invariants.specs.Access.{withAccess}
@@ -27,11 +27,12 @@ use Rattle.orders.specs.Orders.{Each}
 use Rattle.orders.proofs.Places.{each-at, each-in}
 use Rattle.request_orders.specs.StartOrder.{IsGet, OrdersAgree, Clash, NoClash}
 use Rattle.request_orders.proofs.Commuting.{Saying, says-granted, orders-agree}
+use Rattle.request_orders.proofs.Updates.{gets-comm}
 use Rattle.request_orders.proofs.PairProperties.{PairProperty, star-pairs}
 use Rattle.request_orders.proofs.Gets.{Getting, getting, Between, gets-commuting}
 use Rattle.request_orders.proofs.Together.{held-together}
 use Rattle.request_orders.proofs.TwoGets.{granted-after-first, refused-after-first}
-use Rattle.request_orders.proofs.Disagree.{never-both, clash-apart, agree-no-clash}
+use Rattle.request_orders.proofs.Disagree.{never-both, not-both-granted, clash-apart, agree-no-clash}
 
 -- ---- for any property of pairs of accesses
 
@@ -65,6 +66,33 @@ pub clash-never-both : (m : Monitor) → Reached m → (b c : List ℕ) (K : Cla
     → Holds (after ds m) (K .s) (K .p) (K .x) → Holds (after ds m) (K .t) (K .q) (K .y) → ⊥
 clash-never-both m r b c K ds p = never-both Star star-pairs m (sound-reached m r) b c K ds p
 
+-- so in no list of gets, in whatever order, are both granted
+pub clash-not-both-granted : (m : Monitor) → Reached m → (b c : List ℕ) → Clash Star m b c → (ds : List (List ℕ)) → Each IsGet ds
+    → (i j : ℕ) → i < length ds → j < length ds → getD ds i [] ≡ b → getD ds j [] ≡ c → getD (replies ds m) i 2 < 2 → getD (replies ds m) j 2 < 2 → ⊥
+clash-not-both-granted m r = not-both-granted Star star-pairs m (sound-reached m r)
+
+-- a get does not clash with itself: "A list that holds the same get twice is included"
+pub never-itself : (m : Monitor) → Reached m → (b : List ℕ) → IsGet b → Clash Star m b b → ⊥
+never-itself m r b g K = clash-orders-differ m r b b [] (g, (g, tt)) K refl
+
+-- which of two is called the first does not matter
+pub clash-turned : (m : Monitor) → Reached m → (b c : List ℕ) → Clash Star m b c → Clash Star m c b
+unfolding changed
+clash-turned m r b c K =
+    record {
+      s = K .t;
+      p = K .q;
+      x = K .y;
+      t = K .s;
+      q = K .p;
+      y = K .x;
+      first = K .second;
+      second = K .first;
+      first-alone = K .second-alone;
+      second-alone = K .first-alone;
+      together = λ T. K .together (subst Star (gets-comm m (sound-reached m r .formed) (K .s) (K .p) (K .x) (K .t) (K .q) (K .y)) T);
+    }
+
 -- ---- two gets by their replies
 
 module _ (m : Monitor) (S : Sound m) (b c : List ℕ) (s p : ℕ) (x : Mode) (t q : ℕ) (y : Mode) (says-first : decode b ≡ Says (Get s p x))
@@ -93,7 +121,7 @@ module _ (m : Monitor) (S : Sound m) (b c : List ℕ) (s p : ℕ) (x : Mode) (t 
       (says-granted c (Get t q y) (withAccess m s p x) says-second .1
       (granted-after-first m S s p x t q y (decode-range b _ says-first) (decode-range c _ says-second) first-granted second-granted T))
 
--- two gets clash where each gets 0 or 1 if it came alone, and the second gets 9 after the first
+-- two gets clash exactly where each gets 0 or 1 if it came alone, and the second gets 9 after the first
 pub clash-by-replies : (m : Monitor) → Reached m → (b c : List ℕ) → IsGet b → IsGet c
     → Clash Star m b c ↔ ((reply b m < 2) × (reply c m < 2) × (reply c (respond b m .monitor) ≡ 9))
 clash-by-replies m r b c v w =

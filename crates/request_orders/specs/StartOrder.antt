@@ -2,8 +2,10 @@
 -- Assumes nothing.
 use Prim.Native.Nat.{ℕ, _<_}
 use mathlib.Core.Path.{_≡_}
-use mathlib.Core.List.{List, []}
+use mathlib.Core.Bool.{Bool, true, false, _&&_}
+use mathlib.Core.List.{List, [], _∷_}
 use lib.ListN.{length, getD}
+use lib.Dec.{eqb}
 use Rattle.model.specs.declared.Monitor.{Monitor}
 use Rattle.model.specs.declared.Mode.{Mode}
 use Rattle.model.specs.declared.Request.the-variants.{Get}
@@ -17,7 +19,15 @@ use Rattle.orders.specs.Orders.{OrderOf}
 abbrev pub IsGet : List ℕ → Type 0
 IsGet b = (s : ℕ) × (o : ℕ) × (x : Mode) × (decode b ≡ Says (Get s o x))
 
--- "all orders of the list leave equal states"; an order is every permutation (`OrderOf`)
+-- two byte strings are the same
+abbrev pub sameBytes : List ℕ → List ℕ → Bool
+sameBytes [] [] = true
+sameBytes [] (y ∷ ys) = false
+sameBytes (x ∷ xs) [] = false
+sameBytes (x ∷ xs) (y ∷ ys) = eqb x y && sameBytes xs ys
+
+-- "all orders of the list leave equal states"; the orders are all permutations, which are the lists in which each byte string stands
+-- equally often (`byte-orders`)
 abbrev pub OrdersAgree : List (List ℕ) → Monitor → Type 0
 OrdersAgree bs m = (cs ds : List (List ℕ)) → OrderOf bs cs → OrderOf bs ds → after cs m ≡ after ds m
 

@@ -1,4 +1,4 @@
--- What is answered of every monitor, also of one that no run reaches: too many pieces, one that is no get, and that places are below 4,096.
+-- What is answered of every monitor, also of one that no run reaches: too many pieces, one that is no get, and where places are.
 -- Assumes nothing.
 use Prim.Native.Nat.{ℕ, _<_, _≤_}
 use native.Mathlib.Omega.{arith}
@@ -9,7 +9,7 @@ use lib.ListN.{length}
 use lib.Dec.{ltb}
 use borrow.Author.Tests.{ltb-true, ltb-false}
 use Rattle.model.specs.declared.Monitor.{Monitor}
-use Rattle.model.proofs.Tests.{cond-all}
+use Rattle.model.proofs.Tests.{cond-all, and-left}
 use Rattle.orders.specs.Orders.{Each}
 use Rattle.request_orders.specs.StartOrder.{IsGet}
 use Rattle.start_order.specs.declared.StartOrder.{StartOrder}
@@ -17,36 +17,36 @@ use Rattle.start_order.specs.declared.StartOrder.the-variants.{Agree, Cl
 use Rattle.start_order.specs.Answers.{mostPieces, firstOther, partner, firstWith, firstClash, startOrder}
 use Rattle.start_order.specs.Meaning.{FirstOther, PlacesFit}
 use Rattle.start_order.proofs.First.{first-means}
-use Rattle.start_order.proofs.Searching.{hasPartner}
+use Rattle.start_order.proofs.Searching.{isPartner, hasPartner}
 use Rattle.start_order.proofs.Meaning.{other-found, all-gets, other-not-all, others-same}
 
 -- an answer about gets is of gets alone, and not of too many
-GetsAlone : List (List ℕ) → StartOrder → Type 0
-GetsAlone bs TooMany = 4096 < length bs
-GetsAlone bs (NoGet i) = (length bs ≤ 4096) × FirstOther bs i
-GetsAlone bs (Clashing i j) = (length bs ≤ 4096) × Each IsGet bs
-GetsAlone bs Agree = (length bs ≤ 4096) × Each IsGet bs
+GetsOnly : List (List ℕ) → StartOrder → Type 0
+GetsOnly bs TooMany = 4096 < length bs
+GetsOnly bs (NoGet i) = (length bs ≤ 4096) × FirstOther bs i
+GetsOnly bs (Clashing i j) = (length bs ≤ 4096) × Each IsGet bs
+GetsOnly bs Agree = (length bs ≤ 4096) × Each IsGet bs
 
-first-looks : (m : Monitor) (bs : List (List ℕ)) → GetsAlone bs (startOrder bs m)
-unfolding startOrder firstClash GetsAlone
+first-looks : (m : Monitor) (bs : List (List ℕ)) → GetsOnly bs (startOrder bs m)
+unfolding startOrder firstClash GetsOnly
 first-looks m bs =
-    cond-all (GetsAlone bs) (ltb mostPieces (length bs)) TooMany _
+    cond-all (GetsOnly bs) (ltb mostPieces (length bs)) TooMany _
     (λ e. ltb-true mostPieces (length bs) e)
     (λ e.
     let few : length bs ≤ 4096 = ltb-false mostPieces (length bs) e in
-    cond-all (GetsAlone bs) (ltb (firstOther bs) (length bs)) (NoGet (firstOther bs)) _
+    cond-all (GetsOnly bs) (ltb (firstOther bs) (length bs)) (NoGet (firstOther bs)) _
     (λ w. (few, other-found bs (ltb-true _ _ w)))
     (λ w.
     let G = all-gets bs (ltb-false _ _ w) in
-    cond-all (GetsAlone bs) (ltb (firstWith m bs) (length bs)) (Clashing (firstWith m bs) (partner m bs (firstWith m bs))) Agree (λ v. (few, G)) (λ v. (few, G))))
+    cond-all (GetsOnly bs) (ltb (firstWith m bs) (length bs)) (Clashing (firstWith m bs) (partner m bs (firstWith m bs))) Agree (λ v. (few, G)) (λ v. (few, G))))
 
 module _ (m : Monitor) (bs : List (List ℕ)) where
   -- "more than 4,096 pieces, before any is looked at"
   pub too-many-exactly : (startOrder bs m ≡ TooMany) ↔ (4096 < length bs)
-  unfolding GetsAlone
-  too-many-exactly = (λ e. subst (GetsAlone bs) e (first-looks m bs), λ h. go (startOrder bs m) (first-looks m bs) h)
+  unfolding GetsOnly
+  too-many-exactly = (λ e. subst (GetsOnly bs) e (first-looks m bs), λ h. go (startOrder bs m) (first-looks m bs) h)
     where
-      go : (r : StartOrder) → GetsAlone bs r → 4096 < length bs → r ≡ TooMany
+      go : (r : StartOrder) → GetsOnly bs r → 4096 < length bs → r ≡ TooMany
       go TooMany p h = refl
       go (NoGet i) p h = absurd (omega (arith, h, p .0))
       go (Clashing i j) p h = absurd (omega (arith, h, p .0))
@@ -54,10 +54,10 @@ module _ (m : Monitor) (bs : List (List ℕ)) where
 
   -- "the first piece that is no well-formed get, a short last one among them"
   pub no-get-exactly : (i : ℕ) → (startOrder bs m ≡ NoGet i) ↔ ((length bs ≤ 4096) × FirstOther bs i)
-  unfolding GetsAlone
-  no-get-exactly i = (λ e. subst (GetsAlone bs) e (first-looks m bs), λ h. go (startOrder bs m) (first-looks m bs) h)
+  unfolding GetsOnly
+  no-get-exactly i = (λ e. subst (GetsOnly bs) e (first-looks m bs), λ h. go (startOrder bs m) (first-looks m bs) h)
     where
-      go : (r : StartOrder) → GetsAlone bs r → (length bs ≤ 4096) × FirstOther bs i → r ≡ NoGet i
+      go : (r : StartOrder) → GetsOnly bs r → (length bs ≤ 4096) × FirstOther bs i → r ≡ NoGet i
       go TooMany p h = absurd (omega (arith, p, h .0))
       go (NoGet k) p h = ap NoGet (others-same bs k i (p .1) (h .1))
       go (Clashing k l) p h = other-not-all bs i (h .1) (p .1)
@@ -74,7 +74,8 @@ places-fit m bs =
     (λ w. let within : firstOther bs < length bs = ltb-true _ _ w in omega arith)
     (λ w. cond-all PlacesFit (ltb (firstWith m bs) (length bs)) (Clashing (firstWith m bs) (partner m bs (firstWith m bs))) Agree
     (λ v.
-    let first : firstWith m bs < length bs = ltb-true _ _ v in
-    let second : partner m bs (firstWith m bs) < length bs = ltb-true _ _ (first-means (length bs) (hasPartner m bs) .passes first) in
-    (omega arith, omega arith))
+    let i = firstWith m bs in
+    let j = partner m bs i in
+    let second : j < length bs = ltb-true j (length bs) (first-means (length bs) (hasPartner m bs) .passes (ltb-true _ _ v)) in
+    (ltb-true i j (and-left (ltb i j) _ (first-means (length bs) (isPartner m bs i) .passes second)), omega arith))
     (λ v. tt)))

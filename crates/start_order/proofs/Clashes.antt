@@ -52,7 +52,7 @@ unfolding isAccess
 access-get b = (access-in b (wanted b) refl, λ g. ap isAccess (wanted-get b (g .0) (g .1) (g .2) (g .3)))
 
 -- the test of a get that came alone is its reply, 0 or 1
-pub alone-reply : (m : Monitor) (b : List ℕ) (s o : ℕ) (x : Mode) → decode b ≡ Says (Get s o x) → (alone m (wanted b) ≡ true) ↔ (reply b m < 2)
+alone-reply : (m : Monitor) (b : List ℕ) (s o : ℕ) (x : Mode) → decode b ≡ Says (Get s o x) → (alone m (wanted b) ≡ true) ↔ (reply b m < 2)
 unfolding alone
 alone-reply m b s o x e =
     let asked : alone m (wanted b) ≡ not (refuses (step (Get s o x) m .decision)) = ap (alone m) (wanted-get b s o x e) in
@@ -61,7 +61,26 @@ alone-reply m b s o x e =
       λ h. let k : number (step (Get s o x) m .decision) < 2 = omega (arith, h, said) in asked ∙ ap not (lt-leb 2 _ k),
     )
 
+alone-access : (m : Monitor) (w : Wanted) → alone m w ≡ true → isAccess w ≡ true
+unfolding alone isAccess
+alone-access m (Access s o x) t = refl
+alone-access m Nothing t = clash (sym t)
+
+-- "granted if it came alone": of bytes that say a get and are replied 0 or 1, and of no others
+pub alone-exactly : (m : Monitor) (b : List ℕ) → (alone m (wanted b) ≡ true) ↔ (IsGet b × (reply b m < 2))
+alone-exactly m b = (
+  λ t. let g = access-get b .0 (alone-access m (wanted b) t) in (g, alone-reply m b (g .0) (g .1) (g .2) (g .3) .0 t),
+  λ h. alone-reply m b (h .0 .0) (h .0 .1) (h .0 .2) (h .0 .3) .1 (h .1),
+)
+
 -- ---- two gets
+
+-- only two accesses break anything
+pub breaks-accesses : (m : Monitor) (v w : Wanted) → breaks m v w ≡ true → (isAccess v ≡ true) × (isAccess w ≡ true)
+unfolding breaks isAccess
+breaks-accesses m Nothing w e = clash (sym e)
+breaks-accesses m (Access s p x) Nothing e = clash (sym e)
+breaks-accesses m (Access s p x) (Access t q y) e = (refl, refl)
 
 -- the test of two accesses
 breaks-at : (m : Monitor) (b c : List ℕ) (s p : ℕ) (x : Mode) (t q : ℕ) (y : Mode) → decode b ≡ Says (Get s p x) → decode c ≡ Says (Get t q y)
@@ -87,29 +106,30 @@ module _ (m : Monitor) (R : Reached m) (b c : List ℕ) (s p : ℕ) (x : Mode) (
             (λ w. apart (test ∙ and-both (eq-eqb s t same) (ap not w)) k)))))),
       )
 
--- the test of two gets is that they clash
-pub clashes-exactly : (m : Monitor) → Reached m → (b c : List ℕ) → IsGet b → IsGet c → (clashes m b c ≡ true) ↔ Clash Star m b c
+-- the test of two byte strings is that they are gets that clash
+pub clashes-exactly : (m : Monitor) → Reached m → (b c : List ℕ) → (clashes m b c ≡ true) ↔ Clash Star m b c
 unfolding clashes
-clashes-exactly m R b c v w =
-    let first = alone-reply m b (v .0) (v .1) (v .2) (v .3) in
-    let second = alone-reply m c (w .0) (w .1) (w .2) (w .3) in (
-      λ k.
-          let g = first .0 (and-left (alone m (wanted b)) _ k) in
-          let later = and-right (alone m (wanted b)) _ k in
-          let h = second .0 (and-left (alone m (wanted c)) _ later) in
-          record {
-            s = v .0;
-            p = v .1;
-            x = v .2;
-            t = w .0;
-            q = w .1;
-            y = w .2;
-            first = v .3;
-            second = w .3;
-            first-alone = g;
-            second-alone = h;
-            together = breaks-star m R b c _ _ _ _ _ _ (v .3) (w .3) g h .0 (and-right (alone m (wanted c)) _ later);
-          },
-      λ K. and-both (first .1 (K .first-alone)) (and-both (second .1 (K .second-alone))
-          (breaks-star m R b c _ _ _ _ _ _ (K .first) (K .second) (K .first-alone) (K .second-alone) .1 (K .together))),
-    )
+clashes-exactly m R b c = (
+  λ k.
+      let later = and-right (alone m (wanted b)) _ k in
+      let first = alone-exactly m b .0 (and-left (alone m (wanted b)) _ k) in
+      let second = alone-exactly m c .0 (and-left (alone m (wanted c)) _ later) in
+      let v = first .0 in
+      let w = second .0 in
+      record {
+        s = v .0;
+        p = v .1;
+        x = v .2;
+        t = w .0;
+        q = w .1;
+        y = w .2;
+        first = v .3;
+        second = w .3;
+        first-alone = first .1;
+        second-alone = second .1;
+        together = breaks-star m R b c _ _ _ _ _ _ (v .3) (w .3) (first .1) (second .1) .0 (and-right (alone m (wanted c)) _ later);
+      },
+  λ K. and-both (alone-exactly m b .1 ((K .s, K .p, K .x, K .first), K .first-alone))
+      (and-both (alone-exactly m c .1 ((K .t, K .q, K .y, K .second), K .second-alone))
+      (breaks-star m R b c _ _ _ _ _ _ (K .first) (K .second) (K .first-alone) (K .second-alone) .1 (K .together))),
+)

@@ -60,7 +60,7 @@ module _ (m : Monitor) (R : Reached m) (bs : List (List ℕ)) (G : Each IsGet bs
 
   -- two that clash: the second is a partner of the first
   clash-partner : (k l : ℕ) → k < l → l < length bs → Clash Star m (getD bs k []) (getD bs l []) → isPartner m bs k l ≡ true
-  clash-partner k l a b K = and-both (lt-ltb k l a) (clashes-exactly m R _ _ (gets-at k (omega arith)) (gets-at l b) .1 K)
+  clash-partner k l a b K = and-both (lt-ltb k l a) (clashes-exactly m R _ _ .1 K)
 
   -- so the first of them has a partner, no later than the second
   clash-within : (k l : ℕ) → k < l → l < length bs → Clash Star m (getD bs k []) (getD bs l []) → partner m bs k ≤ l
@@ -84,7 +84,7 @@ module _ (m : Monitor) (R : Reached m) (bs : List (List ℕ)) (G : Each IsGet bs
       record {
         ordered = ordered;
         within = within;
-        clash = clashes-exactly m R _ _ (gets-at i h) (gets-at j within) .0 (and-right (ltb i j) _ passes);
+        clash = clashes-exactly m R _ _ .0 (and-right (ltb i j) _ passes);
         least = λ k l a b K. ⊎-elim
             (λ (e : i ≡ k). inr (e, subst (λ (n : ℕ). partner m bs n ≤ l) (sym e) (clash-within k l a b K)))
             (λ (w : i < k). inl w) (eq-or-lt-of-le (clash-with k l a b K));

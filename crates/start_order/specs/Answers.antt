@@ -45,7 +45,7 @@ unfoldable pub isAccess : Wanted → Bool
 isAccess (Access s o x) = true
 isAccess Nothing = false
 
--- a subject and an object that there are
+-- the numbers of a subject below 16 and of an object below 64
 unfoldable pub Fits : Wanted → Type 0
 Fits (Access s o x) = (s < subjectCount) × (o < objectCount)
 Fits Nothing = Unit {0}
@@ -77,11 +77,11 @@ mostPieces = 4096
 abbrev pub firstOther : List (List ℕ) → ℕ
 firstOther bs = firstBelow (length bs) (λ i. not (isAccess (wanted (getD bs i []))))
 
--- of the first get behind i that clashes with the one at i
+-- the place of the first get behind i that clashes with the one at i, or the length
 abbrev pub partner : Monitor → List (List ℕ) → ℕ → ℕ
 partner m bs i = firstBelow (length bs) (λ j. ltb i j && clashes m (getD bs i []) (getD bs j []))
 
--- and of the first get that has such a partner
+-- the place of the first get that has such a partner, or the length
 abbrev pub firstWith : Monitor → List (List ℕ) → ℕ
 firstWith m bs = firstBelow (length bs) (λ i. ltb (partner m bs i) (length bs))
 

@@ -31,9 +31,9 @@ Means m bs (NoGet i) = (length bs ≤ 4096) × FirstOther bs i
 Means m bs (Clashing i j) = (length bs ≤ 4096) × Each IsGet bs × FirstClash m bs i j
 Means m bs Agree = (length bs ≤ 4096) × Each IsGet bs × OrdersAgree bs m
 
--- the places that an answer names are below 4,096
+-- the places that an answer names are below 4,096, and the first of two is the lower one
 abbrev pub PlacesFit : StartOrder → Type 0
 PlacesFit TooMany = Unit {0}
 PlacesFit (NoGet i) = i < 4096
-PlacesFit (Clashing i j) = (i < 4096) × (j < 4096)
+PlacesFit (Clashing i j) = (i < j) × (j < 4096)
 PlacesFit Agree = Unit {0}
