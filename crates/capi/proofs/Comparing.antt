@@ -9,7 +9,8 @@ use Rattle.model.specs.declared.Comparison.{Comparison}
 use Rattle.model.specs.declared.Comparison.the-variants.{Equal, Above, Below, Apart}
 use Rattle.model.specs.Levels.{LevelDominates, compare}
 use Rattle.model.proofs.Comparisons.{compare-means, equal-exactly}
-use Rattle.capi.specs.Comparing.{comparisonNumber, handed, compared}
+use Rattle.numbers.specs.Comparing.{comparisonNumber}
+use Rattle.capi.specs.Comparing.{handed, compared}
 
 -- the answer that a number stands for
 abbrev answerOf : ℕ → Comparison

@@ -13,7 +13,7 @@ use Rattle.model.specs.Requests.{requestSize}
 use Rattle.model.proofs.Decisions.{number-small}
 use Rattle.test_load.specs.Load.{loading, loadCount}
 use Rattle.test_load.proofs.Filling.{zero-refused, seed-taken, count-taken}
-use Rattle.capi.specs.Counts.{withCount}
+use Rattle.numbers.specs.Counts.{withCount}
 
 module _ (n count : ℕ) (h : n < 256) where
   -- the number is the low byte

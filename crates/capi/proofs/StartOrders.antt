@@ -32,7 +32,7 @@ use Rattle.start_order.specs.Meaning.{FirstClash, Means, PlacesFit}
 use Rattle.start_order.proofs.Meaning.{answer-exactly}
 use Rattle.start_order.proofs.AnyMonitor.{places-fit}
 use Rattle.start_order.proofs.Examples.{made, read-1, append-0}
-use Rattle.capi.specs.Orders.{orderNumber, byCode, answerIn}
+use Rattle.numbers.specs.Orders.{orderNumber, byCode, answerIn}
 use Rattle.capi.specs.UnitRuns.{unitAfter}
 use Rattle.capi.proofs.UnitRuns.{after-says}
 

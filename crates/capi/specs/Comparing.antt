@@ -1,17 +1,9 @@
--- The comparison of two levels as C has it (change request §2; its numbers are the interface's).
+-- The comparison of two levels as C has it (change request §2).
 -- Assumes nothing.
 use Prim.Native.Nat.{ℕ}
 use Rattle.model.specs.declared.Level.{Level}
-use Rattle.model.specs.declared.Comparison.{Comparison}
-use Rattle.model.specs.declared.Comparison.the-variants.{Equal, Above, Below, Apart}
 use Rattle.model.specs.Levels.{compare}
-
--- "equal, above (only A dominates), below (only B does) or apart (neither)"
-abbrev pub comparisonNumber : Comparison → ℕ
-comparisonNumber Equal = 0
-comparisonNumber Above = 1
-comparisonNumber Below = 2
-comparisonNumber Apart = 3
+use Rattle.numbers.specs.Comparing.{comparisonNumber}
 
 -- a class and a set of needs as they are handed over, also a class above 15
 abbrev pub handed : ℕ → ℕ → Level

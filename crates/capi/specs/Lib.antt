@@ -3,5 +3,3 @@ pub mod Boundary
 pub mod Calls
 pub mod UnitRuns
 pub mod Comparing
-pub mod Counts
-pub mod Orders

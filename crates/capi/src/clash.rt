@@ -3,24 +3,10 @@ ghost use mathlib.Core.Path.{_≡_};
 ghost use Rattle.model.specs.Program.{pieces};
 ghost use Rattle.unit.specs.Rows.{stateIn};
 ghost use Rattle.start_order.specs.Answers.{startOrder};
-ghost use Rattle.capi.specs.Orders.{orderNumber};
-use start_order::StartOrder;
+ghost use Rattle.numbers.specs.Orders.{orderNumber};
+use numbers::order_number;
 use start_order::start_order;
 use unit::ROWS;
-
-// The answer in the low byte, the first place in the 24 bits above it and the second in the 24 above these.
-fn order_number(found: StartOrder) -> u64
-    ensures { λ r. ⌜ r ≡ orderNumber found ⌝ }
-{
-    match found {
-        StartOrder::Agree => 0,
-        StartOrder::Clash(i, j) => {
-            1 + 256 * (i as u64 % (1 << 24)) + (1 << 32) * (j as u64 % (1 << 24))
-        }
-        StartOrder::NoGet(i) => 2 + 256 * (i as u64 % (1 << 24)),
-        StartOrder::TooMany => 3,
-    }
-}
 
 // Whether the order of a row of gets matters, as one number.
 #[no_mangle]

@@ -1,20 +1,9 @@
 // Two levels without a unit: how one compares with the other.
 ghost use mathlib.Core.Path.{_≡_};
-ghost use Rattle.capi.specs.Comparing.{comparisonNumber, compared};
+ghost use Rattle.capi.specs.Comparing.{compared};
 use labels::compare;
-use model::Comparison;
 use model::Level;
-
-fn comparison_number(c: Comparison) -> u8
-    ensures { λ r. ⌜ r ≡ comparisonNumber c ⌝ }
-{
-    match c {
-        Comparison::Equal => 0,
-        Comparison::Above => 1,
-        Comparison::Below => 2,
-        Comparison::Apart => 3,
-    }
-}
+use numbers::comparison_number;
 
 // How the level a compares with b, each as a class and a set of needs.
 #[no_mangle]

@@ -1,17 +1,11 @@
-// Test loads from a seed, and a number that is returned with a count beside it.
+// Test loads from a seed.
 ghost use mathlib.Core.Path.{_≡_};
 ghost use Rattle.model.specs.Decisions.{number};
 ghost use Rattle.test_load.specs.Load.{loading, loadCount, loaded};
-ghost use Rattle.capi.specs.Counts.{withCount};
+ghost use Rattle.numbers.specs.Counts.{withCount};
 use labels::number;
+use numbers::with_count;
 use test_load::fill;
-
-// The number in the low byte and the count above it, in the 56 bits that are left.
-fn with_count(number: u8, count: usize) -> u64
-    ensures { λ r. ⌜ r ≡ withCount number count ⌝ }
-{
-    number as u64 + 256 * (count as u64 % (1 << 56))
-}
 
 // As many whole requests from the seed as the buffer has room for.
 #[no_mangle]

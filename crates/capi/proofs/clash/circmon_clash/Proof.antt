@@ -1,7 +1,7 @@
 -- `capi::clash::circmon_clash` meets its contract.
 -- Assumes nothing.
 use mathlib.Core.Path.{ap, _∙_}
-use Rattle.capi.specs.Orders.{orderNumber}
+use Rattle.numbers.specs.Orders.{orderNumber}
 use borrow.Author.Needs.{needs}
 use Rattle.capi.proofs.clash.circmon_clash.Statement.{statement}
 use Rattle.capi.proofs.clash.circmon_clash.Tie as tie

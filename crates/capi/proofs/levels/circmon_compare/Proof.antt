@@ -1,7 +1,8 @@
 -- `capi::circmon_compare` meets its contract.
 -- Assumes nothing.
 use mathlib.Core.Path.{_∙_, ap}
-use Rattle.capi.specs.Comparing.{comparisonNumber, compared}
+use Rattle.numbers.specs.Comparing.{comparisonNumber}
+use Rattle.capi.specs.Comparing.{compared}
 use Rattle.capi.proofs.levels.circmon_compare.Statement.{statement}
 use Rattle.capi.proofs.levels.circmon_compare.Tie as tie
 

@@ -3,7 +3,7 @@
 use mathlib.Core.Path.{ap, ap₂, _∙_}
 use Rattle.model.specs.Decisions.{number}
 use borrow.Author.Needs.{needs}
-use Rattle.capi.specs.Counts.{withCount}
+use Rattle.numbers.specs.Counts.{withCount}
 use Rattle.capi.proofs.loads.circmon_load.Statement.{statement}
 use Rattle.capi.proofs.loads.circmon_load.Tie as tie
 

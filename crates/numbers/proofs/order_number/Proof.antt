@@ -1,10 +1,10 @@
--- `capi::clash::order_number` meets its contract.
+-- `numbers::order_number` meets its contract.
 -- Assumes nothing.
 use mathlib.Core.Path.{sym, ap}
-use Rattle.capi.specs.Orders.{orderNumber}
+use Rattle.numbers.specs.Orders.{orderNumber}
 use borrow.Author.Needs.{needs}
-use Rattle.capi.proofs.clash.order_number.Statement.{statement}
-use Rattle.capi.proofs.clash.order_number.Tie as tie
+use Rattle.numbers.proofs.order_number.Statement.{statement}
+use Rattle.numbers.proofs.order_number.Tie as tie
 
 enum-told : tie.Need-enum-told
 enum-told c = search needs
