@@ -24,8 +24,7 @@ use Rattle.model.proofs.Modes.{any-observes, any-alters, observes-some, alters-
 use Rattle.model.proofs.Levels.{dominates-decides}
 use Rattle.model.proofs.ModePairs.{entry-star}
 use Rattle.star.specs.Idle.{free, nothingHeld, idle}
-use Rattle.star.specs.ModePairs.{TabledFor}
-use Rattle.star.specs.Lists.{readBy, alteredBy, busyFor, Listed, itself, out-of, Numbers, Covers, labelAt, pairsKept}
+use Rattle.star.specs.Lists.{readBy, alteredBy, busyFor, Listed, itself, out-of, Numbers, Covers, labelAt, pairsKept, TabledFor}
 
 pub listed-none : (f : ℕ → Bool) (from : ℕ → ℕ) (a : List ℕ) → length a ≡ 64 → Listed f from a 0 0
 listed-none f from a e =

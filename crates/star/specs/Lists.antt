@@ -7,10 +7,12 @@ use mathlib.Core.List.{List}
 use lib.ListN.{length, getD}
 use Rattle.model.specs.declared.Label.{Label}
 use Rattle.model.specs.declared.Object.{Object}
+use Rattle.model.specs.declared.Mode.{Mode}
 use Rattle.model.specs.Tests.{allBelow}
 use Rattle.model.specs.Levels.{dominates}
-use Rattle.model.specs.Modes.{anyObserves, anyAlters}
+use Rattle.model.specs.Modes.{has, anyObserves, anyAlters}
 use Rattle.model.specs.State.{objectCount, heldBy}
+use Rattle.model.specs.ModePairs.{entry, Kept}
 use Rattle.star.specs.Idle.{idle}
 
 -- ---- which objects; `at` has the record of each number
@@ -61,3 +63,11 @@ labelAt at a j = at (getD a j 0) .label
 -- the label of each of n objects dominates that of each of r others
 unfoldable pub pairsKept : (ℕ → Object) → List ℕ → ℕ → List ℕ → ℕ → Bool
 pairsKept at read r altered n = allBelow r (λ i. allBelow n (λ j. dominates (labelAt at altered j) (labelAt at read i)))
+
+-- ---- the table over all of them
+
+-- of every two accesses that subject s holds, the entry is kept by the labels; `at` has the record of each number
+abbrev pub TabledFor : ℕ → (ℕ → Object) → Type 0
+TabledFor s at =
+    (p q : ℕ) → p < objectCount → q < objectCount → (x y : Mode) → has x (heldBy (at p) s) ≡ true → has y (heldBy (at q) s) ≡ true
+    → Kept (entry x y) (at p .label) (at q .label)

@@ -1,8 +1,6 @@
 // The star property over all objects, and the simple property over all subjects.
 mod lists;
-mod pairs;
 
-pub use pairs::labels_keep;
 ghost use mathlib.Core.Path.{_≡_};
 ghost use mathlib.Core.Bool.{not};
 ghost use Prim.Native.Nat.{_<_, _≤_};
@@ -17,11 +15,11 @@ ghost use Rattle.star.specs.Lists.{Covers};
 use crate::lists::list_busy;
 use crate::lists::list_held;
 use crate::lists::pair_offends;
-use crate::pairs::table_asks;
 use bits::smaller;
 use labels::any_observes;
 use labels::dominates;
 use labels::implies;
+use mode_pairs::table_asks;
 use model::Monitor;
 use unit::clearance_of;
 use unit::held_by;

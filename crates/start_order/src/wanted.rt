@@ -12,9 +12,9 @@ use bits::smaller;
 use decoding::fields_of;
 use decoding::mode_of;
 use decoding::well_formed;
+use mode_pairs::labels_keep;
 use model::Fields;
 use model::Mode;
-use star::labels_keep;
 use unit::label_of;
 
 // The access that a get asks for, by subject, object and mode; nothing where the bytes say no get.

@@ -1,7 +1,7 @@
 // Mode pairs: for each mode held and mode wanted, which label the star property asks to dominate which. The check decides by this table.
 ghost use mathlib.Core.Path.{_≡_};
 ghost use Rattle.model.specs.Modes.{anyObserves, anyAlters, anyNeedsLabel};
-ghost use Rattle.star.specs.ModePairs.{place, coded, rowAsks, ifAsking, modesAsking};
+ghost use Rattle.mode_pairs.specs.Table.{place, coded, rowAsks, ifAsking, modesAsking};
 ghost use Rattle.model.specs.ModePairs.{entry, kept};
 use labels::add;
 use labels::dominates;

@@ -1,4 +1,4 @@
--- `star::pairs::if_asking` meets its contract.
+-- `mode_pairs::if_asking` meets its contract.
 -- Assumes nothing.
 use Prim.Native.Nat.{ℕ}
 use mathlib.Core.Path.{_≡_, sym, ap, _∙_}
@@ -8,10 +8,10 @@ use lib.Dec.{eqb}
 use borrow.Author.Tests.{eq-eqb, ne-eqb}
 use Rattle.model.specs.Modes.{weight}
 use Rattle.model.proofs.Tests.{cond-true, cond-false}
-use Rattle.star.specs.ModePairs.{rowAsks}
-use Rattle.star.proofs.ModePairs.{alone}
-use Rattle.star.proofs.pairs.if_asking.Statement.{statement}
-use Rattle.star.proofs.pairs.if_asking.Tie as tie
+use Rattle.mode_pairs.specs.Table.{rowAsks}
+use Rattle.mode_pairs.proofs.Table.{alone}
+use Rattle.mode_pairs.proofs.if_asking.Statement.{statement}
+use Rattle.mode_pairs.proofs.if_asking.Tie as tie
 
 row-asks-requires : tie.Need-row-asks-requires
 row-asks-requires c κs = tt

@@ -1,4 +1,4 @@
--- `star::pairs::labels_keep` meets its contract.
+-- `mode_pairs::labels_keep` meets its contract.
 -- Assumes nothing.
 use Prim.Native.Nat.{ℕ}
 use mathlib.Core.Path.{ap, ap₂, _∙_}
@@ -7,9 +7,9 @@ use lib.Bits.{bitAnd}
 use lib.Dec.{eqb}
 use Rattle.model.specs.Tests.{implies}
 use Rattle.model.specs.ModePairs.{entry, kept}
-use Rattle.star.proofs.ModePairs.{coded-wanted, coded-held}
-use Rattle.star.proofs.pairs.labels_keep.Statement.{statement}
-use Rattle.star.proofs.pairs.labels_keep.Tie as tie
+use Rattle.mode_pairs.proofs.Table.{coded-wanted, coded-held}
+use Rattle.mode_pairs.proofs.labels_keep.Statement.{statement}
+use Rattle.mode_pairs.proofs.labels_keep.Tie as tie
 
 entry-requires : tie.Need-entry-requires
 entry-requires c κs = tt

@@ -17,7 +17,7 @@ use Rattle.model.proofs.Tests.{toT}
 use Rattle.model.proofs.Modes.{modes-out}
 use Rattle.model.proofs.ModePairs.{pairs-out}
 use Rattle.labels.proofs.Sets.{some-and}
-use Rattle.star.specs.ModePairs.{place, coded, rowAsks, modesAsking}
+use Rattle.mode_pairs.specs.Table.{place, coded, rowAsks, modesAsking}
 
 -- ---- the table
 

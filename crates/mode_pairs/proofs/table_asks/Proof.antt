@@ -1,9 +1,9 @@
--- `star::pairs::table_asks` meets its contract.
+-- `mode_pairs::table_asks` meets its contract.
 -- Assumes nothing.
 use native.Mathlib.Omega.{arith}
-use Rattle.star.proofs.ModePairs.{asks-asking}
-use Rattle.star.proofs.pairs.table_asks.Statement.{statement}
-use Rattle.star.proofs.pairs.table_asks.Tie as tie
+use Rattle.mode_pairs.proofs.Table.{asks-asking}
+use Rattle.mode_pairs.proofs.table_asks.Statement.{statement}
+use Rattle.mode_pairs.proofs.table_asks.Tie as tie
 
 modes-asking-requires : tie.Need-modes-asking-requires
 modes-asking-requires c κs = tt

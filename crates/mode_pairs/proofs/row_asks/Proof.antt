@@ -1,8 +1,8 @@
--- `star::pairs::row_asks` meets its contract.
+-- `mode_pairs::row_asks` meets its contract.
 -- Assumes nothing.
 use mathlib.Core.Path.{refl}
-use Rattle.star.proofs.pairs.row_asks.Statement.{statement}
-use Rattle.star.proofs.pairs.row_asks.Tie as tie
+use Rattle.mode_pairs.proofs.row_asks.Statement.{statement}
+use Rattle.mode_pairs.proofs.row_asks.Tie as tie
 
 entry-requires : tie.Need-entry-requires
 entry-requires c κs = tt

@@ -1,9 +1,9 @@
--- `star::pairs::entry` meets its contract.
+-- `mode_pairs::entry` meets its contract.
 -- Assumes nothing.
 use native.Mathlib.Omega.{arith}
-use Rattle.star.proofs.ModePairs.{place-below, entry-at}
-use Rattle.star.proofs.pairs.entry.Statement.{statement}
-use Rattle.star.proofs.pairs.entry.Tie as tie
+use Rattle.mode_pairs.proofs.Table.{place-below, entry-at}
+use Rattle.mode_pairs.proofs.entry.Statement.{statement}
+use Rattle.mode_pairs.proofs.entry.Tie as tie
 
 place-requires : tie.Need-place-requires
 place-requires c κs = tt

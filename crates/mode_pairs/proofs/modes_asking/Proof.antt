@@ -1,8 +1,8 @@
--- `star::pairs::modes_asking` meets its contract.
+-- `mode_pairs::modes_asking` meets its contract.
 -- Assumes nothing.
 use mathlib.Core.Path.{refl}
-use Rattle.star.proofs.pairs.modes_asking.Statement.{statement}
-use Rattle.star.proofs.pairs.modes_asking.Tie as tie
+use Rattle.mode_pairs.proofs.modes_asking.Statement.{statement}
+use Rattle.mode_pairs.proofs.modes_asking.Tie as tie
 
 if-asking-requires : tie.Need-if-asking-requires
 if-asking-requires c κs = tt

@@ -1,9 +1,9 @@
--- `star::pairs::table_observes` meets its contract.
+-- `mode_pairs::table_observes` meets its contract.
 -- Assumes nothing.
 use native.Mathlib.Omega.{arith}
-use Rattle.star.proofs.ModePairs.{observes-asking}
-use Rattle.star.proofs.pairs.table_observes.Statement.{statement}
-use Rattle.star.proofs.pairs.table_observes.Tie as tie
+use Rattle.mode_pairs.proofs.Table.{observes-asking}
+use Rattle.mode_pairs.proofs.table_observes.Statement.{statement}
+use Rattle.mode_pairs.proofs.table_observes.Tie as tie
 
 modes-asking-requires : tie.Need-modes-asking-requires
 modes-asking-requires c κs = tt

@@ -1,9 +1,9 @@
--- `star::pairs::table_alters` meets its contract.
+-- `mode_pairs::table_alters` meets its contract.
 -- Assumes nothing.
 use native.Mathlib.Omega.{arith}
-use Rattle.star.proofs.ModePairs.{alters-asking}
-use Rattle.star.proofs.pairs.table_alters.Statement.{statement}
-use Rattle.star.proofs.pairs.table_alters.Tie as tie
+use Rattle.mode_pairs.proofs.Table.{alters-asking}
+use Rattle.mode_pairs.proofs.table_alters.Statement.{statement}
+use Rattle.mode_pairs.proofs.table_alters.Tie as tie
 
 modes-asking-requires : tie.Need-modes-asking-requires
 modes-asking-requires c κs = tt

@@ -1,16 +1,13 @@
 -- The table of mode pairs as numbers, and the sets of modes that are made from it.
 -- Assumes nothing.
-use Prim.Native.Nat.{ℕ, _<_}
-use mathlib.Core.Path.{_≡_}
-use mathlib.Core.Bool.{true, cond}
+use Prim.Native.Nat.{ℕ}
+use mathlib.Core.Bool.{cond}
 use lib.Dec.{eqb}
 use lib.Bits.{bitAnd, bitOr}
 use Rattle.model.specs.declared.Mode.{Mode}
 use Rattle.model.specs.declared.Mode.the-variants.{Read, Write, Append, Execute}
-use Rattle.model.specs.declared.Object.{Object}
-use Rattle.model.specs.Modes.{weight, has}
-use Rattle.model.specs.State.{objectCount, heldBy}
-use Rattle.model.specs.ModePairs.{Asked, neither, wanted, held, both, entry, Kept}
+use Rattle.model.specs.Modes.{weight}
+use Rattle.model.specs.ModePairs.{Asked, neither, wanted, held, both, entry}
 
 -- the row of a mode and its place in each row
 abbrev pub place : Mode → ℕ
@@ -37,9 +34,3 @@ ifAsking x k = cond (eqb (bitAnd (rowAsks x) k) 0) 0 (weight x)
 -- the modes whose rows ask it
 abbrev pub modesAsking : ℕ → ℕ
 modesAsking k = bitOr (bitOr (bitOr (ifAsking Read k) (ifAsking Write k)) (ifAsking Append k)) (ifAsking Execute k)
-
--- of every two accesses that subject s holds, the entry is kept by the labels; `at` has the record of each number
-abbrev pub TabledFor : ℕ → (ℕ → Object) → Type 0
-TabledFor s at =
-    (p q : ℕ) → p < objectCount → q < objectCount → (x y : Mode) → has x (heldBy (at p) s) ≡ true → has y (heldBy (at q) s) ≡ true
-    → Kept (entry x y) (at p .label) (at q .label)

@@ -1,0 +1,2 @@
+-- The table of mode pairs in numbers.
+pub mod Table
