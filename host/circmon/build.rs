@@ -10,6 +10,9 @@ use std::time::SystemTime;
 const ARCHIVE: &str = "libcapi.a";
 
 fn main() {
+    if linting() {
+        return;
+    }
     let root = folder("CARGO_MANIFEST_DIR").join("../..");
     let copy = folder("OUT_DIR").join(ARCHIVE);
     for part in ["crates", "crates.txt", "toolchain.txt", "tools"] {
@@ -22,6 +25,12 @@ fn main() {
     }
     println!("cargo:rustc-link-search=native={}", folder("OUT_DIR").display());
     println!("cargo:rustc-link-lib=static=capi");
+}
+
+/// Whether clippy asks: it links nothing, and cargo would have the library proved for it once more.
+fn linting() -> bool {
+    let wrapper = std::env::var_os("RUSTC_WORKSPACE_WRAPPER").map(PathBuf::from);
+    wrapper.is_some_and(|it| it.file_stem().is_some_and(|name| name == "clippy-driver"))
 }
 
 /// A folder that cargo names to build scripts.
