@@ -10,8 +10,8 @@ use Rattle.start_order.specs.declared.StartOrder.the-variants.{Agree, Clash, No
 abbrev pub placeBits : ℕ → ℕ
 placeBits i = i % 2 ^ 24
 
--- the header's "low byte 0 where all orders agree; 1 where places i < j clash (i in bits 8 to 31, j in bits 32 to 55); 2 where piece i is no
--- well-formed get (i in bits 8 to 31); 3 where there are more than 4,096 pieces"
+-- as the header has it: the code in the low byte, 0 where all orders agree, 1 where two gets clash, 2 where a piece is no get, 3 where there are
+-- too many; the first place in bits 8 to 31, the second in bits 32 to 55
 unfoldable pub orderNumber : StartOrder → ℕ
 orderNumber Agree = 0
 orderNumber (Clash i j) = 1 + 256 * placeBits i + 2 ^ 32 * placeBits j

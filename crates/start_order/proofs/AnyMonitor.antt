@@ -41,7 +41,7 @@ first-looks m bs =
     cond-all (GetsOnly bs) (ltb (firstWith m bs) (length bs)) (Clashing (firstWith m bs) (partner m bs (firstWith m bs))) Agree (λ v. (few, G)) (λ v. (few, G))))
 
 module _ (m : Monitor) (bs : List (List ℕ)) where
-  -- "more than 4,096 pieces, before any is looked at"
+  -- more than 4,096 pieces, whatever they are
   pub too-many-exactly : (startOrder bs m ≡ TooMany) ↔ (4096 < length bs)
   unfolding GetsOnly
   too-many-exactly = (λ e. subst (GetsOnly bs) e (first-looks m bs), λ h. go (startOrder bs m) (first-looks m bs) h)
@@ -52,7 +52,7 @@ module _ (m : Monitor) (bs : List (List ℕ)) where
       go (Clashing i j) p h = absurd (omega (arith, h, p .0))
       go Agree p h = absurd (omega (arith, h, p .0))
 
-  -- "the first piece that is no well-formed get, a short last one among them"
+  -- the first piece that is no well-formed get
   pub no-get-exactly : (i : ℕ) → (startOrder bs m ≡ NoGet i) ↔ ((length bs ≤ 4096) × FirstOther bs i)
   unfolding GetsOnly
   no-get-exactly i = (λ e. subst (GetsOnly bs) e (first-looks m bs), λ h. go (startOrder bs m) (first-looks m bs) h)

@@ -110,7 +110,7 @@ pub no-gets : (startOrder (read-1 ∷ append-0 ∷ bytes 0x20 0x80 0x09 ∷ []) 
 unfolding other-read-1 made labelled read-1 append-0 write-0 write-1 read-0 append-1 execute-1 other-append-0 firstBelow wanted isAccess alone breaks clashes firstClash startOrder kept bytesToBits toBits odd fromBits field decode decodeFields fields wellFormed modeAllowed unusedZero request respond step after checks already changed starAll starFor starFrom starPair implies unless answer simpleAll notLowered has add remove sameLabel dominates levelDominates compare
 no-gets = (refl, refl, refl)
 
--- thirteen bytes, cut into pieces: "a short last one among them"
+-- thirteen bytes, cut into pieces: the last one is short, and no get
 pub short-last : startOrder (pieces (read-1 ++ (append-0 ++ (0x10 ∷ [])))) labelled ≡ NoGet 2
 unfolding pieces cut other-read-1 made labelled read-1 append-0 write-0 write-1 read-0 append-1 execute-1 other-append-0 firstBelow wanted isAccess alone breaks clashes firstClash startOrder kept bytesToBits toBits odd fromBits field decode decodeFields fields wellFormed modeAllowed unusedZero request respond step after checks already changed starAll starFor starFrom starPair implies unless answer simpleAll notLowered has add remove sameLabel dominates levelDominates compare
 short-last = refl
