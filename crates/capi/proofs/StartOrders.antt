@@ -19,7 +19,7 @@ use Rattle.model.specs.Reading.{labelFrom, labelForm, tableFrom, tableForm, tab
 use Rattle.model.specs.Program.{pieces}
 use Rattle.model.specs.Beginnings.{Beginning, table, Accepted, left, Reached}
 use Rattle.images.proofs.Reached.{reached-left}
-use Rattle.request_orders.specs.StartOrder.{OrdersAgree}
+use Rattle.request_orders.specs.AnyOrder.{OrdersAgree}
 use Rattle.request_orders.proofs.StartOrder.{gets-agree-exactly}
 use Rattle.runs.specs.MarkedRun.{tableW}
 use Rattle.runs.proofs.Witnesses.{table-met}

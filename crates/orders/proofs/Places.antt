@@ -15,6 +15,11 @@ each-order P (List·Permᴰ·cons e d) p = (subst P e (p .0), each-order P d (p 
 each-order P (List·Permᴰ·swap e f) p = (subst P f (p .1 .0), (subst P e (p .0), p .1 .1))
 each-order P (List·Permᴰ·trans d k) p = each-order P k (each-order P d p)
 
+-- and so does what follows from it
+pub each-map : {A : Type 0} {P Q : A → Type 0} → ((x : A) → P x → Q x) → (xs : List A) → Each P xs → Each Q xs
+each-map f [] p = tt
+each-map f (x ∷ xs) p = (f x (p .0), each-map f xs (p .1))
+
 module _ {A : Type 0} (d : A) where
   pub each-at : (P : A → Type 0) (xs : List A) → Each P xs → (i : ℕ) → i < length xs → P (getD xs i d)
   each-at P [] p i h = absurd (not-suc-le-zero h)

@@ -2,6 +2,7 @@
 -- Assumes nothing.
 use Prim.Native.Nat.{ℕ}
 use mathlib.Core.Bool.{Bool}
+use mathlib.Core.Logic.{_⊎_}
 use mathlib.Core.List.{List, [], _∷_, List·Permᴰ}
 use Rattle.bits.specs.Bits.{bit}
 use Rattle.orders.specs.Sums.{sumOver}
@@ -19,3 +20,8 @@ timesIn same x xs = sumOver xs (λ y. bit (same x y))
 abbrev pub Each : {A : Type 0} → (A → Type 0) → List A → Type 0
 Each P [] = Unit {0}
 Each P (x ∷ xs) = P x × Each P xs
+
+-- what holds of some element
+abbrev pub Some : {A : Type 0} → (A → Type 0) → List A → Type 0
+Some P [] = ⊥
+Some P (x ∷ xs) = P x ⊎ Some P xs

@@ -10,7 +10,7 @@ use borrow.Author.Tests.{eqb-true, eq-eqb}
 use Rattle.model.proofs.Tests.{clash, and-left, and-right, and-both}
 use Rattle.orders.specs.Orders.{OrderOf, timesIn}
 use Rattle.orders.proofs.Orders.{orders-counted}
-use Rattle.request_orders.specs.StartOrder.{sameBytes}
+use Rattle.request_orders.specs.AnyOrder.{sameBytes}
 
 told : (a b : List ℕ) → sameBytes a b ≡ true → a ≡ b
 told [] [] e = refl

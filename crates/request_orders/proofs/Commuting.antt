@@ -1,27 +1,30 @@
 -- Where each request of a list is granted at every place exactly when it is granted alone, and what two of them do is the same in both
--- orders, all orders of the list leave one state.
+-- orders, all orders of the list leave one state and grant the same requests.
 -- Assumes nothing.
-use Prim.Native.Nat.{ℕ, _<_}
+use Prim.Native.Nat.{ℕ, zero, suc, _<_}
+use native.Mathlib.Nat.{le-of-suc-le-suc, not-suc-le-zero}
 use mathlib.Core.Path.{_≡_, refl, sym, ap, _∙_, subst}
 use mathlib.Core.Logic.{_↔_}
 use mathlib.Core.Bool.{Bool, true, false, cond}
-use mathlib.Core.List.{List, List·Permᴰ·nil, List·Permᴰ·cons, List·Permᴰ·swap, List·Permᴰ·trans}
+use mathlib.Core.List.{List, [], _∷_, List·Permᴰ·nil, List·Permᴰ·cons, List·Permᴰ·swap, List·Permᴰ·trans}
+use lib.ListN.{length, getD}
 use Rattle.model.specs.declared.Monitor.{Monitor}
 use Rattle.model.specs.declared.Request.{Request}
-use Rattle.model.specs.declared.Decoded.the-variants.{Says}
+use Rattle.model.specs.declared.Decoded.{Decoded}
+use Rattle.model.specs.declared.Decoded.the-variants.{Malformed, Says}
 use Rattle.model.specs.declared.Decision.the-variants.{Granted}
 use Rattle.model.specs.declared.Response.{Response}
 use Rattle.model.specs.Decisions.{number, refuses}
 use Rattle.model.specs.Requests.{decode}
 use Rattle.model.specs.Rules.{afterwards, checks, step}
-use Rattle.model.specs.Runs.{respond, reply, after}
+use Rattle.model.specs.Runs.{carryOut, respond, reply, after, replies}
 use Rattle.model.proofs.Tests.{apart, cond-true, cond-false}
 use Rattle.invariants.proofs.Steps.{step-granted, step-refused, step-all, granted-or-refused}
 use Rattle.invariants.proofs.Outcomes.{reply-granted}
 use Rattle.images.proofs.Reached.{respond-says}
 use Rattle.orders.specs.Orders.{OrderOf, Each}
 use Rattle.orders.proofs.Places.{each-order}
-use Rattle.request_orders.specs.StartOrder.{OrdersAgree}
+use Rattle.request_orders.specs.AnyOrder.{GrantedAt, AnyOrder}
 
 -- requests on a monitor m: I holds of the states that they may pass through, Q of the requests themselves
 pub record Commuting (m : Monitor) (I : Monitor → Type 0) (Q : Request → Type 0) : Type 0 where
@@ -31,9 +34,17 @@ pub record Commuting (m : Monitor) (I : Monitor → Type 0) (Q : Request → Typ
   pub alone : (q : Request) (n : Monitor) → Q q → I n → (checks q n ≡ Granted) ↔ (checks q m ≡ Granted)
   pub commute : (q r : Request) (n : Monitor) → Q q → Q r → I n → afterwards q (afterwards r n) ≡ afterwards r (afterwards q n)
 
--- bytes that say such a request
+-- bytes that say such a request, or are malformed
 abbrev pub Saying : (Request → Type 0) → List ℕ → Type 0
-Saying Q b = (q : Request) × (decode b ≡ Says q) × Q q
+Saying Q b = (q : Request) → decode b ≡ Says q → Q q
+
+-- bytes say one request
+pub says-one : {d : Decoded} {q r : Request} → d ≡ Says q → d ≡ Says r → q ≡ r
+says-one {q = q} e f = ap said (sym e ∙ f)
+  where
+    said : Decoded → Request
+    said Malformed = q
+    said (Says k) = k
 
 -- bytes that say a request are granted where it is
 pub says-granted : (b : List ℕ) (q : Request) (n : Monitor) → decode b ≡ Says q → (reply b n < 2) ↔ (checks q n ≡ Granted)
@@ -63,7 +74,7 @@ module _ (m : Monitor) (I : Monitor → Type 0) (Q : Request → Type 0) (S : Co
       (λ k. apart g (ap refuses (S .alone q n w i .0 k)))
       (λ k. ap (λ (r : Response). r .monitor) (step-refused q n k) ∙ sym (cond-true (refuses (checks q m)) _ _ g)))
 
-  keeps-step : (q : Request) (n : Monitor) → Q q → I n → I (step q n .monitor)
+  pub keeps-step : (q : Request) (n : Monitor) → Q q → I n → I (step q n .monitor)
   keeps-step q n w i = step-all I q n i (S .keeps q n w i)
 
   steps-comm : (q r : Request) (n : Monitor) → Q q → Q r → I n → step r (step q n .monitor) .monitor ≡ step q (step r n .monitor) .monitor
@@ -74,18 +85,42 @@ module _ (m : Monitor) (I : Monitor → Type 0) (Q : Request → Type 0) (S : Co
       ∙ outcomes-comm b a r q n (S .commute r q n w v i)
       ∙ sym (left-by q (step r n .monitor) v (keeps-step r n w i) ∙ ap (outcome a q) (left-by r n w i))
 
-  -- the same of bytes
-  after-one : (b : List ℕ) (w : Saying Q b) (n : Monitor) → respond b n .monitor ≡ step (w .0) n .monitor
-  after-one b w n = ap (λ (r : Response). r .monitor) (respond-says b (w .0) n (w .1))
+  -- the same of what bytes say, or where they are malformed and leave the state
+  keeps-turn : (d : Decoded) → ((q : Request) → d ≡ Says q → Q q) → (n : Monitor) → I n → I (carryOut d n .monitor)
+  keeps-turn Malformed w n i = i
+  keeps-turn (Says q) w n i = keeps-step q n (w q refl) i
 
-  keeps-one : (b : List ℕ) → Saying Q b → (n : Monitor) → I n → I (respond b n .monitor)
-  keeps-one b w n i = subst I (sym (after-one b w n)) (keeps-step (w .0) n (w .2) i)
+  turns-comm : (d e : Decoded) → ((q : Request) → d ≡ Says q → Q q) → ((q : Request) → e ≡ Says q → Q q) → (n : Monitor) → I n
+      → carryOut e (carryOut d n .monitor) .monitor ≡ carryOut d (carryOut e n .monitor) .monitor
+  turns-comm Malformed e v w n i = refl
+  turns-comm (Says q) Malformed v w n i = refl
+  turns-comm (Says q) (Says r) v w n i = steps-comm q r n (v q refl) (w r refl) i
+
+  -- a reply is 0 or 1 exactly where it is if the bytes came alone
+  granted-turn : (d : Decoded) → ((q : Request) → d ≡ Says q → Q q) → (n : Monitor) → I n
+      → (number (carryOut d n .decision) < 2) ↔ (number (carryOut d m .decision) < 2)
+  granted-turn Malformed w n i = (λ h. h, λ h. h)
+  granted-turn (Says q) w n i =
+      let same = S .alone q n (w q refl) i in
+      (λ h. reply-granted q m .1 (same .0 (reply-granted q n .0 h)), λ h. reply-granted q n .1 (same .1 (reply-granted q m .0 h)))
+
+  pub keeps-one : (b : List ℕ) → Saying Q b → (n : Monitor) → I n → I (respond b n .monitor)
+  unfolding respond
+  keeps-one b w = keeps-turn (decode b) w
 
   two-comm : (b c : List ℕ) → Saying Q b → Saying Q c → (n : Monitor) → I n → respond c (respond b n .monitor) .monitor ≡ respond b (respond c n .monitor) .monitor
-  two-comm b c v w n i =
-      after-one c w _ ∙ ap (λ (k : Monitor). step (w .0) k .monitor) (after-one b v n)
-      ∙ steps-comm (v .0) (w .0) n (v .2) (w .2) i
-      ∙ sym (after-one b v _ ∙ ap (λ (k : Monitor). step (v .0) k .monitor) (after-one c w n))
+  unfolding respond
+  two-comm b c = turns-comm (decode b) (decode c)
+
+  granted-one : (b : List ℕ) → Saying Q b → (n : Monitor) → I n → (reply b n < 2) ↔ (reply b m < 2)
+  unfolding respond
+  granted-one b = granted-turn (decode b)
+
+  -- what they may pass through holds of the state after a list
+  pub keeps-all : (bs : List (List ℕ)) → Each (Saying Q) bs → (n : Monitor) → I n → I (after bs n)
+  unfolding after
+  keeps-all [] p n i = i
+  keeps-all (b ∷ bs) p n i = keeps-all bs (p .1) (respond b n .monitor) (keeps-one b (p .0) n i)
 
   -- two orders leave one state
   after-order : {bs cs : List (List ℕ)} → OrderOf bs cs → Each (Saying Q) bs → (n : Monitor) → I n → after bs n ≡ after cs n
@@ -99,6 +134,26 @@ module _ (m : Monitor) (I : Monitor → Type 0) (Q : Request → Type 0) (S : Co
       ∙ ap (λ (k : List ℕ). after bs (respond k (respond first n .monitor) .monitor)) e
   after-order (List·Permᴰ·trans d k) p n i = after-order d p n i ∙ after-order k (each-order (Saying Q) d p) n i
 
-  -- "all orders of the list leave equal states"
-  pub orders-agree : (bs : List (List ℕ)) → Each (Saying Q) bs → OrdersAgree bs m
-  orders-agree bs p cs ds c d = sym (after-order c p m (S .start)) ∙ after-order d p m (S .start)
+  -- at each place of a list what is granted is granted alone
+  granted-at : (bs : List (List ℕ)) → Each (Saying Q) bs → (n : Monitor) → I n → (i : ℕ) → i < length bs → GrantedAt bs n i ↔ (reply (getD bs i []) m < 2)
+  unfolding replies
+  granted-at [] p n w i h = absurd (not-suc-le-zero h)
+  granted-at (b ∷ bs) p n w zero h = granted-one b (p .0) n w
+  granted-at (b ∷ bs) p n w (suc i) h = granted-at bs (p .1) (respond b n .monitor) (keeps-one b (p .0) n w) i (le-of-suc-le-suc h)
+
+  -- in every order, and with it granted in two orders or refused in both
+  module _ (bs : List (List ℕ)) (p : Each (Saying Q) bs) where
+    pub granted-alone : (cs : List (List ℕ)) → OrderOf bs cs → (i : ℕ) → i < length cs → GrantedAt cs m i ↔ (reply (getD cs i []) m < 2)
+    granted-alone cs c = granted-at cs (each-order (Saying Q) c p) m (S .start)
+
+    pub any-order : AnyOrder bs m
+    any-order =
+        record {
+          states = λ cs ds c d. sym (after-order c p m (S .start)) ∙ after-order d p m (S .start);
+          grants = λ cs ds c d i j h k e.
+              let here = granted-alone cs c i h in
+              let there = granted-alone ds d j k in (
+                λ g. there .1 (subst (λ (b : List ℕ). reply b m < 2) e (here .0 g)),
+                λ g. here .1 (subst (λ (b : List ℕ). reply b m < 2) (sym e) (there .0 g)),
+              );
+        }

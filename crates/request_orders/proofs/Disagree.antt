@@ -23,7 +23,8 @@ use Rattle.invariants.proofs.Added.{held-now, held-still, holds-now}
 use Rattle.images.proofs.Reached.{respond-says}
 use Rattle.orders.specs.Orders.{Each}
 use Rattle.orders.proofs.Places.{each-order, begin-at-two}
-use Rattle.request_orders.specs.StartOrder.{IsGet, OrdersAgree, Clash, NoClash}
+use Rattle.request_orders.specs.AnyOrder.{OrdersAgree, GrantedAt}
+use Rattle.request_orders.specs.StartOrder.{IsGet, Clash, NoClash}
 use Rattle.request_orders.proofs.Commuting.{says-granted}
 use Rattle.request_orders.proofs.Accesses.{SameButHeld, same-back, same-on, Within, pairs-by, added-same}
 use Rattle.request_orders.proofs.PairProperties.{PairProperty}
@@ -62,7 +63,7 @@ first-holds b bs s o x m S p d h =
 
 -- and so does one that is granted at any place
 granted-holds : (bs : List (List ℕ)) → Each IsGet bs → (n : Monitor) → Sound n → (i : ℕ) → i < length bs → (s o : ℕ) (x : Mode)
-    → decode (getD bs i []) ≡ Says (Get s o x) → getD (replies bs n) i 2 < 2 → Holds (after bs n) s o x
+    → decode (getD bs i []) ≡ Says (Get s o x) → GrantedAt bs n i → Holds (after bs n) s o x
 unfolding after replies
 granted-holds [] p n S i h s o x d g = absurd (not-suc-le-zero h)
 granted-holds (b ∷ bs) p n S zero h s o x d g = first-holds b bs s o x n S (p .1) d g
@@ -88,7 +89,7 @@ module _ (Property : Monitor → Type 0) (R : PairProperty Property) (m : Monito
 
   -- so they are not both granted, at whatever places of a list of gets they stand
   pub not-both-granted : (b c : List ℕ) → Clash Property m b c → (ds : List (List ℕ)) → Each IsGet ds → (i j : ℕ) → i < length ds → j < length ds
-      → getD ds i [] ≡ b → getD ds j [] ≡ c → getD (replies ds m) i 2 < 2 → getD (replies ds m) j 2 < 2 → ⊥
+      → getD ds i [] ≡ b → getD ds j [] ≡ c → GrantedAt ds m i → GrantedAt ds m j → ⊥
   not-both-granted b c K ds p i j h k e f g l =
       never-both b c K ds p
       (granted-holds ds p m S i h (K .s) (K .p) (K .x) (ap decode e ∙ K .first) g)

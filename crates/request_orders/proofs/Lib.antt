@@ -9,3 +9,6 @@ pub mod Together
 pub mod Disagree
 pub mod TwoGets
 pub mod StartOrder
+pub mod Owners
+pub mod RightsLists
+pub mod RightsLeft

@@ -25,8 +25,9 @@ use Rattle.invariants.proofs.Steps.{step-granted, step-refused}
 use Rattle.images.proofs.Reached.{sound-reached, respond-says}
 use Rattle.orders.specs.Orders.{Each}
 use Rattle.orders.proofs.Places.{each-at, each-in}
-use Rattle.request_orders.specs.StartOrder.{IsGet, OrdersAgree, Clash, NoClash}
-use Rattle.request_orders.proofs.Commuting.{Saying, says-granted, orders-agree}
+use Rattle.request_orders.specs.AnyOrder.{OrdersAgree, GrantedAt, AnyOrder}
+use Rattle.request_orders.specs.StartOrder.{IsGet, Clash, NoClash}
+use Rattle.request_orders.proofs.Commuting.{Saying, says-one, says-granted, any-order}
 use Rattle.request_orders.proofs.Updates.{gets-comm}
 use Rattle.request_orders.proofs.PairProperties.{PairProperty, star-pairs}
 use Rattle.request_orders.proofs.Gets.{Getting, getting, Between, gets-commuting}
@@ -40,21 +41,31 @@ module _ (Property : Monitor → Type 0) (R : PairProperty Property) (m : Monito
   gets-at : (i : ℕ) → i < length bs → IsGet (getD bs i [])
   gets-at = each-at [] IsGet bs p
 
-  no-clash-agree : NoClash Property bs m → OrdersAgree bs m
-  no-clash-agree N =
-      orders-agree m (Between bs m) (Getting bs) (gets-commuting Property R bs m S (held-together Property R bs m S N)) bs
-      (each-in [] (Saying (Getting bs)) bs
-      (λ i h.
+  -- what the bytes at a place say is a get of the list
+  gets-say : (i : ℕ) → i < length bs → Saying (Getting bs) (getD bs i [])
+  gets-say i h q e =
       let w = gets-at i h in
-      (Get (w .0) (w .1) (w .2), w .3, getting (w .0) (w .1) (w .2) (record { at = i; within = h; says = w .3 }))))
+      subst (Getting bs) (says-one (w .3) e) (getting (w .0) (w .1) (w .2) (record { at = i; within = h; says = w .3 }))
+
+  -- where no two clash, the order changes neither the state nor what is granted
+  pub pairs-any-order : NoClash Property bs m → AnyOrder bs m
+  pairs-any-order N =
+      any-order m (Between bs m) (Getting bs) (gets-commuting Property R bs m S (held-together Property R bs m S N)) bs
+      (each-in [] (Saying (Getting bs)) bs gets-say)
 
   pub pairs-exactly : OrdersAgree bs m ↔ NoClash Property bs m
-  pairs-exactly = (agree-no-clash Property R m S bs p, no-clash-agree)
+  pairs-exactly = (agree-no-clash Property R m S bs p, λ N. pairs-any-order N .states)
 
 -- "For every reached monitor and every list of gets, all orders of the list leave equal states exactly when no two gets in it, each granted
 -- if it came alone, would together break the star property."
 pub gets-agree-exactly : (m : Monitor) → Reached m → (bs : List (List ℕ)) → Each IsGet bs → OrdersAgree bs m ↔ NoClash Star bs m
 gets-agree-exactly m r bs p = pairs-exactly Star star-pairs m (sound-reached m r) bs p
+
+-- and where they leave equal states, each get is granted in all orders or refused in all
+pub gets-agree-grants : (m : Monitor) → Reached m → (bs : List (List ℕ)) → Each IsGet bs → OrdersAgree bs m → AnyOrder bs m
+gets-agree-grants m r bs p agree =
+    let S = sound-reached m r in
+    pairs-any-order Star star-pairs m S bs p (pairs-exactly Star star-pairs m S bs p .0 agree)
 
 -- where two clash, the two orders that begin with them differ
 pub clash-orders-differ : (m : Monitor) → Reached m → (b c : List ℕ) (rest : List (List ℕ)) → Each IsGet (b ∷ c ∷ rest) → Clash Star m b c
@@ -68,7 +79,7 @@ clash-never-both m r b c K ds p = never-both Star star-pairs m (sound-reached m 
 
 -- so in no list of gets, in whatever order, are both granted
 pub clash-not-both-granted : (m : Monitor) → Reached m → (b c : List ℕ) → Clash Star m b c → (ds : List (List ℕ)) → Each IsGet ds
-    → (i j : ℕ) → i < length ds → j < length ds → getD ds i [] ≡ b → getD ds j [] ≡ c → getD (replies ds m) i 2 < 2 → getD (replies ds m) j 2 < 2 → ⊥
+    → (i j : ℕ) → i < length ds → j < length ds → getD ds i [] ≡ b → getD ds j [] ≡ c → GrantedAt ds m i → GrantedAt ds m j → ⊥
 clash-not-both-granted m r = not-both-granted Star star-pairs m (sound-reached m r)
 
 -- a get does not clash with itself: "A list that holds the same get twice is included"

@@ -1,4 +1,5 @@
--- What two gets do is the same in both orders: each is an update of one object's record, and that one of a set at one place.
+-- What two gets do is the same in both orders, and so with gives and releases: each is an update of one object's record, and that one of a
+-- set at one place.
 -- Assumes nothing.
 use Prim.Native.Nat.{ℕ, zero, suc, _<_}
 use mathlib.Core.Path.{_≡_, refl, ap}
@@ -10,10 +11,10 @@ use borrow.Author.Tests.{eqb-true}
 use Rattle.model.specs.declared.Monitor.{Monitor}
 use Rattle.model.specs.declared.Mode.{Mode}
 use Rattle.model.specs.declared.Request.{Request}
-use Rattle.model.specs.declared.Request.the-variants.{Get}
+use Rattle.model.specs.declared.Request.the-variants.{Get, Release, Give}
 use Rattle.model.specs.Tests.{allBelow}
-use Rattle.model.specs.Modes.{has, add}
-use Rattle.model.specs.State.{noObject, object, WellFormed}
+use Rattle.model.specs.Modes.{has, add, remove}
+use Rattle.model.specs.State.{noObject, object, withRows, WellFormed}
 use Rattle.model.specs.Rules.{target, changed, afterwards}
 use Rattle.model.proofs.Tests.{below-out}
 use Rattle.model.proofs.Modes.{allModes, modes-out}
@@ -42,6 +43,15 @@ add-comm : (x y : Mode) (n : ℕ) → n < 16 → add x (add y n) ≡ add y (add 
 unfolding has add
 add-comm x y n h = eqb-true _ _ (test (λ x y n. eqb (add x (add y n)) (add y (add x n))) refl x y n h)
 
+remove-comm : (x y : Mode) (n : ℕ) → n < 16 → remove x (remove y n) ≡ remove y (remove x n)
+unfolding has remove
+remove-comm x y n h = eqb-true _ _ (test (λ x y n. eqb (remove x (remove y n)) (remove y (remove x n))) refl x y n h)
+
+-- two updates of a row of such sets
+row-comm : (f g : ℕ → ℕ) (row : List ℕ) (s t : ℕ) → ((j : ℕ) → getD row j 0 < 16) → ((n : ℕ) → n < 16 → f (g n) ≡ g (f n))
+    → update f 0 (update g 0 row t) s ≡ update g 0 (update f 0 row s) t
+row-comm f g row s t fits c = update-comm f g 0 row s t (λ e. c _ (fits s))
+
 -- ---- states
 
 -- two requests are the same in both orders, where they are at the record that both meet
@@ -58,6 +68,27 @@ module _ (m : Monitor) (W : WellFormed m) where
   unfolding changed
   gets-comm s o x t p y =
       let ob = object m o in
-      let row = update-comm (add x) (add y) 0 (ob .held) s t (λ e. add-comm x y _ (W .objects-formed o .shape .held-fit s)) in
-      objects-comm (Get s o x) (Get t p y) m
-      (λ e i. record { live = ob .live; owner = ob .owner; label = ob .label; rights = ob .rights; held = row i })
+      let row = row-comm (add x) (add y) (ob .held) s t (W .objects-formed o .shape .held-fit) (add-comm x y) in
+      objects-comm (Get s o x) (Get t p y) m (λ e i. withRows ob (ob .rights) (row i))
+
+  pub releases-comm : (s o : ℕ) (x : Mode) (t p : ℕ) (y : Mode)
+      → afterwards (Release s o x) (afterwards (Release t p y) m) ≡ afterwards (Release t p y) (afterwards (Release s o x) m)
+  unfolding changed
+  releases-comm s o x t p y =
+      let ob = object m o in
+      let row = row-comm (remove x) (remove y) (ob .held) s t (W .objects-formed o .shape .held-fit) (remove-comm x y) in
+      objects-comm (Release s o x) (Release t p y) m (λ e i. withRows ob (ob .rights) (row i))
+
+  pub gives-comm : (a s o : ℕ) (x : Mode) (b t p : ℕ) (y : Mode)
+      → afterwards (Give a s o x) (afterwards (Give b t p y) m) ≡ afterwards (Give b t p y) (afterwards (Give a s o x) m)
+  unfolding changed
+  gives-comm a s o x b t p y =
+      let ob = object m o in
+      let row = row-comm (add x) (add y) (ob .rights) s t (W .objects-formed o .shape .rights-fit) (add-comm x y) in
+      objects-comm (Give a s o x) (Give b t p y) m (λ e i. withRows ob (row i) (ob .held))
+
+  -- a give changes rights and a release accesses
+  pub give-release-comm : (a s o : ℕ) (x : Mode) (t p : ℕ) (y : Mode)
+      → afterwards (Give a s o x) (afterwards (Release t p y) m) ≡ afterwards (Release t p y) (afterwards (Give a s o x) m)
+  unfolding changed
+  give-release-comm a s o x t p y = objects-comm (Give a s o x) (Release t p y) m (λ e. refl)

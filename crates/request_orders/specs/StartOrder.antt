@@ -2,34 +2,19 @@
 -- Assumes nothing.
 use Prim.Native.Nat.{ℕ, _<_}
 use mathlib.Core.Path.{_≡_}
-use mathlib.Core.Bool.{Bool, true, false, _&&_}
-use mathlib.Core.List.{List, [], _∷_}
+use mathlib.Core.List.{List, []}
 use lib.ListN.{length, getD}
-use lib.Dec.{eqb}
 use Rattle.model.specs.declared.Monitor.{Monitor}
 use Rattle.model.specs.declared.Mode.{Mode}
 use Rattle.model.specs.declared.Request.the-variants.{Get}
 use Rattle.model.specs.declared.Decoded.the-variants.{Says}
 use Rattle.model.specs.Requests.{decode}
-use Rattle.model.specs.Runs.{reply, after}
+use Rattle.model.specs.Runs.{reply}
 use Rattle.invariants.specs.Access.{withAccess}
-use Rattle.orders.specs.Orders.{OrderOf}
 
 -- "every list of gets": each element is bytes that say a get
 abbrev pub IsGet : List ℕ → Type 0
 IsGet b = (s : ℕ) × (o : ℕ) × (x : Mode) × (decode b ≡ Says (Get s o x))
-
--- two byte strings are the same
-abbrev pub sameBytes : List ℕ → List ℕ → Bool
-sameBytes [] [] = true
-sameBytes [] (y ∷ ys) = false
-sameBytes (x ∷ xs) [] = false
-sameBytes (x ∷ xs) (y ∷ ys) = eqb x y && sameBytes xs ys
-
--- "all orders of the list leave equal states"; the orders are all permutations, which are the lists in which each byte string stands
--- equally often (`byte-orders`)
-abbrev pub OrdersAgree : List (List ℕ) → Monitor → Type 0
-OrdersAgree bs m = (cs ds : List (List ℕ)) → OrderOf bs cs → OrderOf bs ds → after cs m ≡ after ds m
 
 -- "two gets .., each granted if it came alone, would together break" a property of states: b says that s gets x on p, c that t gets y
 -- on q, the reply to each in m is 0 or 1, and the state with both accesses added does not have the property

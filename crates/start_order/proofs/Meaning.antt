@@ -16,7 +16,8 @@ use Rattle.model.specs.Beginnings.{Reached}
 use Rattle.model.proofs.Tests.{apart, cond-all, and-left, and-right, and-both, not-on, not-off, le-or-lt}
 use Rattle.orders.specs.Orders.{Each}
 use Rattle.orders.proofs.Places.{each-at, each-in}
-use Rattle.request_orders.specs.StartOrder.{IsGet, OrdersAgree, Clash}
+use Rattle.request_orders.specs.AnyOrder.{OrdersAgree}
+use Rattle.request_orders.specs.StartOrder.{IsGet, Clash}
 use Rattle.request_orders.proofs.StartOrder.{gets-agree-exactly}
 use Rattle.start_order.specs.declared.StartOrder.{StartOrder}
 use Rattle.start_order.specs.declared.StartOrder.the-variants.{Agree, Clash as Clashing, NoGet, TooMany}

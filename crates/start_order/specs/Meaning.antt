@@ -8,7 +8,8 @@ use lib.ListN.{length, getD}
 use Rattle.model.specs.declared.Monitor.{Monitor}
 use Rattle.model.specs.Properties.{Star}
 use Rattle.orders.specs.Orders.{Each}
-use Rattle.request_orders.specs.StartOrder.{IsGet, OrdersAgree, Clash}
+use Rattle.request_orders.specs.AnyOrder.{OrdersAgree}
+use Rattle.request_orders.specs.StartOrder.{IsGet, Clash}
 use Rattle.start_order.specs.declared.StartOrder.{StartOrder}
 use Rattle.start_order.specs.declared.StartOrder.the-variants.{Agree, Clash as Clashing, NoGet, TooMany}
 

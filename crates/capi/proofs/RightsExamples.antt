@@ -1,0 +1,65 @@
+-- Computed from bytes: gives and releases after table W, copies among them, and a list with a rescind, of which the order matters.
+-- Assumes nothing.
+use Prim.Native.Nat.{ℕ, _<_}
+use native.Mathlib.Omega.{arith}
+use mathlib.Core.Path.{_≡_, refl, sym, ap, _∙_}
+use mathlib.Core.Bool.{true, false}
+use mathlib.Core.List.{List, [], _∷_, Permᴰ·refl, List·Permᴰ·swap}
+use Rattle.bits.specs.Bits.{odd, toBits, fromBits, bytesToBits, field, cut, allZero}
+use Rattle.model.specs.declared.Monitor.{Monitor}
+use Rattle.model.specs.declared.Mode.the-variants.{Write}
+use Rattle.model.specs.Tests.{implies, unless}
+use Rattle.model.specs.Levels.{compare, levelDominates, dominates, sameLabel}
+use Rattle.model.specs.Modes.{has, add, remove}
+use Rattle.model.specs.State.{object, rightsOf}
+use Rattle.model.specs.Requests.{fields, modeAllowed, unusedZero, wellFormed, request, decodeFields, decode}
+use Rattle.model.specs.Rules.{simpleAll, starPair, starFrom, starFor, starAll, notLowered, changed, already, checks, answer, step}
+use Rattle.model.specs.Runs.{respond, after, replies}
+use Rattle.model.specs.Reading.{labelFrom, labelForm, tableFrom, tableForm, tableChecks, begin, readTable}
+use Rattle.model.proofs.Tests.{apart}
+use Rattle.request_orders.specs.AnyOrder.{OrdersAgree}
+use Rattle.runs.specs.MarkedRun.{tableW}
+use Rattle.start_order.proofs.Examples.{bytes, made, read-1}
+use Rattle.capi.proofs.StartOrders.{there}
+
+-- s1, who owns o0 and made it without e, gives s2 w
+unfoldable pub give-w : List ℕ
+give-w = bytes 0x30 0x88 0x02
+
+-- gives s2 e, which it has not itself, and gives itself e
+unfoldable pub give-e : List ℕ
+give-e = bytes 0x30 0x88 0x04
+
+unfoldable pub give-e-itself : List ℕ
+give-e-itself = bytes 0x30 0x84 0x04
+
+-- s2, who is not the owner, gives s0 the right a that it has
+unfoldable pub give-a-on : List ℕ
+give-a-on = bytes 0x31 0x00 0x03
+
+-- s1 takes back from s2 w
+unfoldable pub rescind-w : List ℕ
+rescind-w = bytes 0x40 0x88 0x02
+
+-- s1 releases r on o1
+unfoldable pub release-r : List ℕ
+release-r = bytes 0x20 0x80 0x09
+
+-- a copy of a give, or of a release, is granted too, with 1 where the first one says 0; a right that the owner has not itself is not given,
+-- whichever comes first, and who is not the owner gives nothing; what is no give or release and malformed gets 2
+pub computed : (replies (give-w ∷ give-e ∷ give-w ∷ []) there ≡ 0 ∷ 6 ∷ 1 ∷ [])
+    × (replies (give-e ∷ give-e-itself ∷ give-a-on ∷ []) there ≡ 6 ∷ 6 ∷ 6 ∷ [])
+    × (replies (give-e-itself ∷ give-a-on ∷ give-e ∷ []) there ≡ 6 ∷ 6 ∷ 6 ∷ [])
+    × (replies (read-1 ∷ release-r ∷ release-r ∷ [] ∷ []) there ≡ 0 ∷ 0 ∷ 1 ∷ 2 ∷ [])
+unfolding there give-w give-e give-e-itself give-a-on release-r replies tableW tableFrom tableForm labelForm labelFrom tableChecks begin readTable allZero cut made read-1 bytesToBits toBits odd fromBits field decode decodeFields fields wellFormed modeAllowed unusedZero request respond step after checks already changed starAll starFor starFrom starPair implies unless answer simpleAll notLowered has add remove sameLabel dominates levelDominates compare
+computed = (refl, refl, refl, refl)
+
+-- with a rescind among them the order matters: the last of the two decides
+last-decides : (has Write (rightsOf (object (after (give-w ∷ rescind-w ∷ []) there) 0) 2) ≡ false) × (has Write (rightsOf (object (after (rescind-w ∷ give-w ∷ []) there) 0) 2) ≡ true)
+unfolding there give-w rescind-w tableW tableFrom tableForm labelForm labelFrom tableChecks begin readTable allZero cut made bytesToBits toBits odd fromBits field decode decodeFields fields wellFormed modeAllowed unusedZero request respond step after checks already changed starAll starFor starFrom starPair implies unless answer simpleAll notLowered has add remove sameLabel dominates levelDominates compare
+last-decides = (refl, refl)
+
+pub rescinds-differ : OrdersAgree (give-w ∷ rescind-w ∷ []) there → ⊥
+rescinds-differ agree =
+    let same = agree (give-w ∷ rescind-w ∷ []) (rescind-w ∷ give-w ∷ []) (Permᴰ·refl _) (List·Permᴰ·swap refl refl) in
+    apart (last-decides .1) (sym (ap (λ (m : Monitor). has Write (rightsOf (object m 0) 2)) same) ∙ last-decides .0)
