@@ -100,8 +100,11 @@ module _ (m : Monitor) (S : Sound m) where
         split (object n o .live)
         (λ live. (
           λ h. ⊎-elim
-              (λ p. (p, λ e. subst (λ (r : Request). Effect r (step q n .monitor)) e (granted-effect n formed q (w .0)
-              (subst (λ (r : Request). checks r n ≡ Granted) (sym e) (grants-release n s o x (record { there = holder-enrolled n formed s o x p; live = live })))) h))
+              (λ p. (
+                p,
+                λ e. subst (λ (r : Request). Effect r (step q n .monitor)) e (granted-effect n formed q (w .0)
+                    (subst (λ (r : Request). checks r n ≡ Granted) (sym e) (grants-release n s o x (record { there = holder-enrolled n formed s o x p; live = live })))) h,
+              ))
               (λ k. absurd (no-get q (w .1) s o x k)) (access-by-get q n formed o live (same-life ∙ live) s x h),
           λ h. ⊎-elim (λ p. p)
               (λ k. absurd (⊎-elim (h .1) (λ j. no-rescind q (w .1) (j .0) s o x (j .1)) k)) (access-kept q n formed o live (same-life ∙ live) s x (h .0)),

@@ -1,14 +1,21 @@
 -- The order of gives, and that of releases, never matters: the theorems of change request §7.
 -- Assumes nothing.
 use Prim.Native.Nat.{ℕ, _<_}
+use native.Mathlib.Omega.{arith}
 use mathlib.Core.Path.{_≡_, refl, subst}
-use mathlib.Core.Logic.{_↔_}
-use mathlib.Core.List.{List, []}
+use mathlib.Core.Logic.{_↔_, _⊎_, inl, inr, ⊎-elim}
+use mathlib.Core.List.{List, [], _∷_, Permᴰ·refl}
 use lib.ListN.{length, getD}
 use Rattle.model.specs.declared.Monitor.{Monitor}
-use Rattle.model.specs.Runs.{reply}
+use Rattle.model.specs.declared.Mode.{Mode}
+use Rattle.model.specs.declared.Request.{Request}
+use Rattle.model.specs.declared.Request.the-variants.{Release, Give}
+use Rattle.model.specs.declared.Decoded.{Decoded}
+use Rattle.model.specs.declared.Decoded.the-variants.{Malformed, Says}
+use Rattle.model.specs.Requests.{decode, encode, InRange}
+use Rattle.model.specs.Runs.{reply, replies}
 use Rattle.model.specs.Beginnings.{Reached}
-use Rattle.model.proofs.Requests.{decode-range}
+use Rattle.model.proofs.Requests.{decode-range, encode-decode}
 use Rattle.images.proofs.Reached.{sound-reached}
 use Rattle.orders.specs.Orders.{OrderOf, Each}
 use Rattle.orders.proofs.Places.{each-map}
@@ -43,3 +50,35 @@ gives-any-order m r bs p = rights-any-order m r bs (gives-only bs p)
 -- "Releases obey the same law."
 pub releases-any-order : (m : Monitor) → Reached m → (bs : List (List ℕ)) → Each IsRelease bs → AnyOrder bs m
 releases-any-order m r bs p = rights-any-order m r bs (releases-only bs p)
+
+-- "Copies of one give": every copy is granted, or every copy refused, in one order as in two
+pub each-copy : (m : Monitor) → Reached m → (bs : List (List ℕ)) → Each NothingElse bs → (i j : ℕ) → i < length bs → j < length bs
+    → getD bs i [] ≡ getD bs j [] → (getD (replies bs m) i 2 < 2) ↔ (getD (replies bs m) j 2 < 2)
+each-copy m r bs p = rights-any-order m r bs p .grants bs bs (Permᴰ·refl bs) (Permᴰ·refl bs)
+
+-- ---- what such lists have
+
+-- every give and every release in range is one, as its bytes
+pub every-give : (s t o : ℕ) (x : Mode) → InRange (Give s t o x) → IsGive (encode (Give s t o x))
+every-give s t o x r = (t, o, x, (s, encode-decode (Give s t o x) r))
+
+pub every-release : (s o : ℕ) (x : Mode) → InRange (Release s o x) → IsRelease (encode (Release s o x))
+every-release s o x r = (s, o, x, encode-decode (Release s o x) r)
+
+-- and nothing else stands in a list that has both but malformed bytes
+pub nothing-else-exactly : (b : List ℕ) → NothingElse b ↔ (IsGive b ⊎ IsRelease b ⊎ (decode b ≡ Malformed))
+nothing-else-exactly b = (
+  go (decode b) refl,
+  ⊎-elim (λ w. gives-only (b ∷ []) (w, tt) .0) (⊎-elim (λ w. releases-only (b ∷ []) (w, tt) .0) (λ e q f. absurd (never e f))),
+)
+  where
+    never : {q : Request} → decode b ≡ Malformed → decode b ≡ Says q → ⊥
+    never e f = let z : _≡_ {A = ℕ} 0 1 = cc in omega arith
+
+    named : (q : Request) → decode b ≡ Says q → GiveOrRelease q → IsGive b ⊎ IsRelease b ⊎ (decode b ≡ Malformed)
+    named _ e (give s t o x) = inl (t, o, x, (s, e))
+    named _ e (release s o x) = inr (inl (s, o, x, e))
+
+    go : (d : Decoded) → decode b ≡ d → NothingElse b → IsGive b ⊎ IsRelease b ⊎ (decode b ≡ Malformed)
+    go Malformed e w = inr (inr e)
+    go (Says q) e w = named q e (w q e)
