@@ -5,22 +5,31 @@ use native.Mathlib.Omega.{arith}
 use mathlib.Core.Path.{_≡_, refl, sym, ap, _∙_}
 use mathlib.Core.Bool.{true, false}
 use mathlib.Core.List.{List, [], _∷_, Permᴰ·refl, List·Permᴰ·swap}
+use lib.ListN.{getD}
 use Rattle.bits.specs.Bits.{odd, toBits, fromBits, bytesToBits, field, cut, allZero}
 use Rattle.model.specs.declared.Monitor.{Monitor}
-use Rattle.model.specs.declared.Mode.the-variants.{Write}
+use Rattle.model.specs.declared.Mode.{Mode}
+use Rattle.model.specs.declared.Mode.the-variants.{Read, Write, Execute}
+use Rattle.model.specs.declared.Request.the-variants.{Get, Release, Give, Rescind}
+use Rattle.model.specs.declared.Decoded.the-variants.{Says}
 use Rattle.model.specs.Tests.{implies, unless}
 use Rattle.model.specs.Levels.{compare, levelDominates, dominates, sameLabel}
 use Rattle.model.specs.Modes.{has, add, remove}
 use Rattle.model.specs.State.{object, rightsOf}
+use Rattle.model.specs.Properties.{Permits}
 use Rattle.model.specs.Requests.{fields, modeAllowed, unusedZero, wellFormed, request, decodeFields, decode}
 use Rattle.model.specs.Rules.{simpleAll, starPair, starFrom, starFor, starAll, notLowered, changed, already, checks, answer, step}
 use Rattle.model.specs.Runs.{respond, after, replies}
 use Rattle.model.specs.Reading.{labelFrom, labelForm, tableFrom, tableForm, tableChecks, begin, readTable}
+use Rattle.model.specs.Beginnings.{Reached}
 use Rattle.model.proofs.Tests.{apart}
-use Rattle.request_orders.specs.AnyOrder.{OrdersAgree}
+use Rattle.orders.specs.Orders.{Each}
+use Rattle.request_orders.specs.AnyOrder.{OrdersAgree, GrantedAt}
+use Rattle.request_orders.specs.RightsLists.{IsGive, IsRelease, NothingElse}
+use Rattle.request_orders.proofs.RightsLeft.{no-rescind, no-get}
 use Rattle.runs.specs.MarkedRun.{tableW}
 use Rattle.start_order.proofs.Examples.{bytes, made, read-1}
-use Rattle.capi.proofs.StartOrders.{there}
+use Rattle.capi.proofs.StartOrders.{there, reached-there}
 
 -- s1, who owns o0 and made it without e, gives s2 w
 unfoldable pub give-w : List ℕ
@@ -53,6 +62,39 @@ pub computed : (replies (give-w ∷ give-e ∷ give-w ∷ []) there ≡ 0 ∷ 6 
     × (replies (read-1 ∷ release-r ∷ release-r ∷ [] ∷ []) there ≡ 0 ∷ 0 ∷ 1 ∷ 2 ∷ [])
 unfolding there give-w give-e give-e-itself give-a-on release-r replies tableW tableFrom tableForm labelForm labelFrom tableChecks begin readTable allZero cut made read-1 bytesToBits toBits odd fromBits field decode decodeFields fields wellFormed modeAllowed unusedZero request respond step after checks already changed starAll starFor starFrom starPair implies unless answer simpleAll notLowered has add remove sameLabel dominates levelDominates compare
 computed = (refl, refl, refl, refl)
+
+-- what the bytes say
+says : (decode give-w ≡ Says (Give 1 2 0 Write)) × (decode give-e ≡ Says (Give 1 2 0 Execute)) × (decode rescind-w ≡ Says (Rescind 1 2 0 Write))
+    × (decode release-r ≡ Says (Release 1 1 Read)) × (decode read-1 ≡ Says (Get 1 1 Read))
+unfolding give-w give-e rescind-w release-r read-1 bytesToBits toBits odd fromBits field decode decodeFields fields wellFormed modeAllowed unusedZero request
+says = (refl, refl, refl, refl, refl)
+
+-- gives are no releases and releases no gives, and a list with a rescind or a get is another one
+pub kinds-apart : (IsRelease give-w → ⊥) × (IsGive release-r → ⊥) × (NothingElse rescind-w → ⊥) × (NothingElse read-1 → ⊥)
+kinds-apart = (
+  λ w. not-both (sym (says .0) ∙ w .3),
+  λ w. not-both (sym (w .3 .1) ∙ says .3),
+  λ w. no-rescind _ (w _ (says .2)) 1 2 0 Write refl,
+  λ w. no-get _ (w _ (says .4)) 1 1 Read refl,
+)
+  where
+    not-both : {a s t o p : ℕ} {x y : Mode} → Says (Give a t o x) ≡ Says (Release s p y) → ⊥
+    not-both e = let z : _≡_ {A = ℕ} 0 1 = cc in omega arith
+
+-- a list of gives on a state that a run reaches, with a copy and with one that is refused: both copies are granted and the other is not, and the right of
+-- the one is there in the end and that of the other is not
+pub gives-met : Reached there × Each IsGive (give-w ∷ give-e ∷ give-w ∷ [])
+gives-met = (reached-there, ((2, 0, Write, (1, says .0)), ((2, 0, Execute, (1, says .1)), ((2, 0, Write, (1, says .0)), tt))))
+
+pub gives-granted : GrantedAt (give-w ∷ give-e ∷ give-w ∷ []) there 0 × (GrantedAt (give-w ∷ give-e ∷ give-w ∷ []) there 1 → ⊥) × GrantedAt (give-w ∷ give-e ∷ give-w ∷ []) there 2
+gives-granted = (omega (arith, at 0), λ h. omega (arith, at 1, h), omega (arith, at 2))
+  where
+    at : (i : ℕ) → getD (replies (give-w ∷ give-e ∷ give-w ∷ []) there) i 2 ≡ getD (0 ∷ 6 ∷ 1 ∷ []) i 2
+    at i = ap (λ (l : List ℕ). getD l i 2) (computed .0)
+
+pub rights-there : Permits (after (give-w ∷ give-e ∷ give-w ∷ []) there) 2 0 Write × (has Execute (rightsOf (object (after (give-w ∷ give-e ∷ give-w ∷ []) there) 0) 2) ≡ false)
+unfolding give-w give-e there tableW tableFrom tableForm labelForm labelFrom tableChecks begin readTable allZero cut made bytesToBits toBits odd fromBits field decode decodeFields fields wellFormed modeAllowed unusedZero request respond step after checks already changed starAll starFor starFrom starPair implies unless answer simpleAll notLowered has add remove sameLabel dominates levelDominates compare
+rights-there = (refl, refl)
 
 -- with a rescind among them the order matters: the last of the two decides
 last-decides : (has Write (rightsOf (object (after (give-w ∷ rescind-w ∷ []) there) 0) 2) ≡ false) × (has Write (rightsOf (object (after (rescind-w ∷ give-w ∷ []) there) 0) 2) ≡ true)

@@ -43,11 +43,11 @@ use Rattle.request_orders.proofs.Owners.{OwnersKept, Ranged, same-check
 use Rattle.request_orders.proofs.RightsLists.{ranged, rights-any-order}
 
 -- no give or release is of another kind
-no-rescind : (q : Request) → GiveOrRelease q → (s t o : ℕ) (x : Mode) → q ≡ Rescind s t o x → ⊥
+pub no-rescind : (q : Request) → GiveOrRelease q → (s t o : ℕ) (x : Mode) → q ≡ Rescind s t o x → ⊥
 no-rescind _ (give a b p y) s t o x e = let z : _≡_ {A = ℕ} 0 1 = cc in omega arith
 no-rescind _ (release a p y) s t o x e = let z : _≡_ {A = ℕ} 0 1 = cc in omega arith
 
-no-get : (q : Request) → GiveOrRelease q → (t o : ℕ) (x : Mode) → q ≡ Get t o x → ⊥
+pub no-get : (q : Request) → GiveOrRelease q → (t o : ℕ) (x : Mode) → q ≡ Get t o x → ⊥
 no-get _ (give a b p y) t o x e = let z : _≡_ {A = ℕ} 0 1 = cc in omega arith
 no-get _ (release a p y) t o x e = let z : _≡_ {A = ℕ} 0 1 = cc in omega arith
 
