@@ -1,6 +1,6 @@
 -- Computed from bytes: gives and releases after table W, copies among them, and a list with a rescind, of which the order matters.
 -- Assumes nothing.
-use Prim.Native.Nat.{ℕ, _<_}
+use Prim.Native.Nat.{ℕ}
 use native.Mathlib.Omega.{arith}
 use mathlib.Core.Path.{_≡_, refl, sym, ap, _∙_}
 use mathlib.Core.Bool.{true, false}

@@ -5,7 +5,6 @@ use mathlib.Core.Path.{_≡_, sym, ap, _∙_, subst}
 use mathlib.Core.Logic.{_↔_}
 use mathlib.Core.List.{List, [], _++_}
 use lib.ListN.{length, getD}
-use Rattle.model.specs.declared.Monitor.{Monitor}
 use Rattle.model.specs.Runs.{after}
 use Rattle.model.specs.Beginnings.{Beginning, begun, Accepted, left}
 use Rattle.model.proofs.Lists.{after-append}

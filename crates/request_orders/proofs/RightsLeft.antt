@@ -16,7 +16,6 @@ use Rattle.model.specs.declared.Decoded.{Decoded}
 use Rattle.model.specs.declared.Decoded.the-variants.{Malformed, Says}
 use Rattle.model.specs.declared.Decision.the-variants.{Granted}
 use Rattle.model.specs.declared.Response.{Response}
-use Rattle.model.specs.Modes.{has}
 use Rattle.model.specs.State.{clearanceAt, enrolled, object, rightsOf, heldBy, WellFormed}
 use Rattle.model.specs.Properties.{Holds, Permits}
 use Rattle.model.specs.Decisions.{number}

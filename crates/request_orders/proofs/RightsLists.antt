@@ -1,8 +1,9 @@
 -- The order of gives, and that of releases, never matters: the theorems of change request §7.
 -- Assumes nothing.
-use Prim.Native.Nat.{ℕ, _<_}
+use Prim.Native.Nat.{ℕ, zero, suc, _<_, _≤_}
+use native.Mathlib.Nat.{le-of-suc-le-suc, not-suc-le-zero}
 use native.Mathlib.Omega.{arith}
-use mathlib.Core.Path.{_≡_, refl, subst}
+use mathlib.Core.Path.{_≡_, refl, sym, ap, _∙_, subst}
 use mathlib.Core.Logic.{_↔_, _⊎_, inl, inr, ⊎-elim}
 use mathlib.Core.List.{List, [], _∷_, Permᴰ·refl}
 use lib.ListN.{length, getD}
@@ -12,17 +13,22 @@ use Rattle.model.specs.declared.Request.{Request}
 use Rattle.model.specs.declared.Request.the-variants.{Release, Give}
 use Rattle.model.specs.declared.Decoded.{Decoded}
 use Rattle.model.specs.declared.Decoded.the-variants.{Malformed, Says}
+use Rattle.model.specs.declared.Response.{Response}
+use Rattle.model.specs.Decisions.{number, refuses}
 use Rattle.model.specs.Requests.{decode, encode, InRange}
-use Rattle.model.specs.Runs.{reply, replies}
+use Rattle.model.specs.Runs.{carryOut, respond, reply, replies}
 use Rattle.model.specs.Beginnings.{Reached}
 use Rattle.model.proofs.Requests.{decode-range, encode-decode}
+use Rattle.invariants.specs.Sound.{Sound}
+use Rattle.invariants.proofs.Steps.{granted-or-refused, step-refused}
+use Rattle.invariants.proofs.Outcomes.{reply-granted}
 use Rattle.images.proofs.Reached.{sound-reached}
 use Rattle.orders.specs.Orders.{OrderOf, Each}
-use Rattle.orders.proofs.Places.{each-map}
+use Rattle.orders.proofs.Places.{each-order, each-map}
 use Rattle.request_orders.specs.AnyOrder.{GrantedAt, AnyOrder}
 use Rattle.request_orders.specs.RightsLists.{IsGive, IsRelease, GiveOrRelease, give, release, NothingElse}
-use Rattle.request_orders.proofs.Commuting.{Saying, says-one, granted-alone, any-order}
-use Rattle.request_orders.proofs.Owners.{OwnersKept, Ranged, rights-commuting}
+use Rattle.request_orders.proofs.Commuting.{Saying, says-one, keeps-one, granted-alone, any-order}
+use Rattle.request_orders.proofs.Owners.{OwnersKept, Ranged, same-checks, rights-commuting}
 
 -- what its bytes say is in range
 pub ranged : (bs : List (List ℕ)) → Each NothingElse bs → Each (Saying Ranged) bs
@@ -36,6 +42,36 @@ rights-any-order m r bs p = any-order m (OwnersKept m) Ranged (rights-commuting 
 pub rights-granted-alone : (m : Monitor) → Reached m → (bs : List (List ℕ)) → Each NothingElse bs
     → (cs : List (List ℕ)) → OrderOf bs cs → (i : ℕ) → i < length cs → GrantedAt cs m i ↔ (reply (getD cs i []) m < 2)
 rights-granted-alone m r bs p = granted-alone m (OwnersKept m) Ranged (rights-commuting m (sound-reached m r)) bs (ranged bs p)
+
+-- ---- refused ones
+
+module _ (m : Monitor) (S : Sound m) where
+  -- a refusal has the number that it has alone
+  refused-turn : (d : Decoded) → ((q : Request) → d ≡ Says q → Ranged q) → (n : Monitor) → OwnersKept m n → 2 ≤ number (carryOut d n .decision)
+      → number (carryOut d n .decision) ≡ number (carryOut d m .decision)
+  refused-turn Malformed w n P h = refl
+  refused-turn (Says q) w n P h =
+      let same = same-checks m q n (w q refl .1) P in
+      granted-or-refused q n (λ g. absurd (omega (arith, h, reply-granted q n .1 g)))
+      (λ k. ap (λ (r : Response). number (r .decision)) (step-refused q n k) ∙ ap number same
+      ∙ sym (ap (λ (r : Response). number (r .decision)) (step-refused q m (ap refuses (sym same) ∙ k))))
+
+  refused-at : (bs : List (List ℕ)) → Each (Saying Ranged) bs → (n : Monitor) → OwnersKept m n → (i : ℕ) → i < length bs → 2 ≤ getD (replies bs n) i 2
+      → getD (replies bs n) i 2 ≡ reply (getD bs i []) m
+  unfolding replies respond
+  refused-at [] p n P i h = absurd (not-suc-le-zero h)
+  refused-at (b ∷ bs) p n P zero h = refused-turn (decode b) (p .0) n P
+  refused-at (b ∷ bs) p n P (suc i) h =
+      refused-at bs (p .1) (respond b n .monitor) (keeps-one m (OwnersKept m) Ranged (rights-commuting m S) b (p .0) n P) i (le-of-suc-le-suc h)
+
+-- in every order one that is refused gets the number that it gets if it came alone
+pub rights-refused-alone : (m : Monitor) → Reached m → (bs : List (List ℕ)) → Each NothingElse bs
+    → (cs : List (List ℕ)) → OrderOf bs cs → (i : ℕ) → i < length cs → 2 ≤ getD (replies cs m) i 2 → getD (replies cs m) i 2 ≡ reply (getD cs i []) m
+rights-refused-alone m r bs p cs c =
+    let S = sound-reached m r in
+    refused-at m S cs (each-order (Saying Ranged) c (ranged bs p)) m (rights-commuting m S .start)
+
+-- ---- the two laws of the request
 
 pub gives-only : (bs : List (List ℕ)) → Each IsGive bs → Each NothingElse bs
 gives-only = each-map (λ b w q e. subst GiveOrRelease (says-one (w .3 .1) e) (give (w .3 .0) (w .0) (w .1) (w .2)))

@@ -16,7 +16,7 @@ use Rattle.model.specs.Properties.{Star, Holds}
 use Rattle.model.specs.Decisions.{number, refuses}
 use Rattle.model.specs.Requests.{decode}
 use Rattle.model.specs.Rules.{changed, checks}
-use Rattle.model.specs.Runs.{respond, reply, after, replies}
+use Rattle.model.specs.Runs.{respond, reply, after}
 use Rattle.model.specs.Beginnings.{Reached}
 use Rattle.model.proofs.Requests.{decode-range}
 use Rattle.invariants.specs.Access.{withAccess}
