@@ -4,9 +4,10 @@ use Prim.Native.Nat.{ℕ, zero, suc, _<_}
 use native.Mathlib.Nat.{le-of-suc-le-suc, not-suc-le-zero}
 use native.Mathlib.Omega.{arith}
 use mathlib.Core.Path.{refl, subst}
+use mathlib.Core.Logic.{inl, inr}
 use mathlib.Core.List.{List, [], _∷_, List·Permᴰ·nil, List·Permᴰ·cons, List·Permᴰ·swap, List·Permᴰ·trans, Permᴰ·refl}
 use lib.ListN.{length, getD}
-use Rattle.orders.specs.Orders.{OrderOf, Each}
+use Rattle.orders.specs.Orders.{OrderOf, Each, Some}
 
 -- what holds of each element holds of each in every order
 pub each-order : {A : Type 0} (P : A → Type 0) {xs ys : List A} → OrderOf xs ys → Each P xs → Each P ys
@@ -19,6 +20,12 @@ each-order P (List·Permᴰ·trans d k) p = each-order P k (each-order P d p)
 pub each-map : {A : Type 0} {P Q : A → Type 0} → ((x : A) → P x → Q x) → (xs : List A) → Each P xs → Each Q xs
 each-map f [] p = tt
 each-map f (x ∷ xs) p = (f x (p .0), each-map f xs (p .1))
+
+-- what holds of some, beside what holds of each
+pub each-some : {A : Type 0} {P Q R : A → Type 0} → ((x : A) → P x → Q x → R x) → (xs : List A) → Each P xs → Some Q xs → Some R xs
+each-some f [] p q = q
+each-some f (x ∷ xs) p (inl q) = inl (f x (p .0) q)
+each-some f (x ∷ xs) p (inr q) = inr (each-some f xs (p .1) q)
 
 module _ {A : Type 0} (d : A) where
   pub each-at : (P : A → Type 0) (xs : List A) → Each P xs → (i : ℕ) → i < length xs → P (getD xs i d)

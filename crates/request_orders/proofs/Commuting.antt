@@ -112,7 +112,7 @@ module _ (m : Monitor) (I : Monitor → Type 0) (Q : Request → Type 0) (S : Co
   unfolding respond
   two-comm b c = turns-comm (decode b) (decode c)
 
-  granted-one : (b : List ℕ) → Saying Q b → (n : Monitor) → I n → (reply b n < 2) ↔ (reply b m < 2)
+  pub granted-one : (b : List ℕ) → Saying Q b → (n : Monitor) → I n → (reply b n < 2) ↔ (reply b m < 2)
   unfolding respond
   granted-one b = granted-turn (decode b)
 

@@ -31,13 +31,14 @@ use Rattle.invariants.proofs.Steps.{granted-or-refused, step-refused}
 use Rattle.invariants.proofs.Outcomes.{reply-granted}
 use Rattle.invariants.proofs.Form.{no-modes}
 use Rattle.invariants.proofs.Pairs.{none-held}
-use Rattle.images.proofs.Reached.{sound-reached}
+use Rattle.images.proofs.Reached.{sound-reached, reached-after}
 use Rattle.effects.specs.Effects.{Effect, GivesRight}
 use Rattle.effects.proofs.Effects.{granted-effect}
 use Rattle.effects.proofs.Frames.{right-by-give, right-kept, access-by-get, access-kept}
 use Rattle.orders.specs.Orders.{OrderOf, Each, Some}
+use Rattle.orders.proofs.Places.{each-some}
 use Rattle.request_orders.specs.RightsLists.{Gives, Releases, GiveOrRelease, give, release, NothingElse, Left}
-use Rattle.request_orders.proofs.Commuting.{Commuting, Saying, says-one, keeps-step, keeps-one, keeps-all}
+use Rattle.request_orders.proofs.Commuting.{Commuting, Saying, says-one, keeps-step, keeps-one, granted-one, keeps-all}
 use Rattle.request_orders.proofs.Owners.{OwnersKept, Ranged, same-checks, rights-commuting}
 use Rattle.request_orders.proofs.RightsLists.{ranged, rights-any-order}
 
@@ -184,3 +185,26 @@ left-one bs m n k N K L M =
     (L .lives o ∙ sym (M .lives o)) (L .owners o ∙ sym (M .owners o)) (L .labels o ∙ sym (M .labels o))
     (λ t h x. bool-ext _ _ (λ e. M .rights t o x .1 (L .rights t o x .0 e)) (λ e. L .rights t o x .1 (M .rights t o x .0 e)))
     (λ s h x. bool-ext _ _ (λ e. M .accesses s o x .1 (L .accesses s o x .0 e)) (λ e. L .accesses s o x .1 (M .accesses s o x .0 e))))
+
+-- a list that comes again, in whatever order, changes nothing
+pub rights-again : (m : Monitor) → Reached m → (bs : List (List ℕ)) → Each NothingElse bs → (cs : List (List ℕ)) → OrderOf bs cs → after cs (after bs m) ≡ after bs m
+rights-again m r bs p cs c =
+    let S = sound-reached m r in
+    let C = rights-commuting m S in
+    let n = after bs m in
+    let K = keeps-all m (OwnersKept m) Ranged C bs (ranged bs p) m (C .start) in
+    let L = rights-left m r bs p bs (Permᴰ·refl bs) in
+    let T = reached-after m r bs in
+    let same : Left bs n n = record {
+      rights = λ t o x. (
+        λ h. inl h,
+        ⊎-elim (λ h. h) (λ k. L .rights t o x .1 (inr
+            (each-some (λ b w j. (j .0, granted-one m (OwnersKept m) Ranged C b w n K .0 (j .1))) bs (ranged bs p) k))),
+      );
+      accesses = λ s o x. (λ h. (h, L .accesses s o x .0 h .1), λ h. h .0);
+      subjects = refl;
+      lives = λ o. refl;
+      owners = λ o. refl;
+      labels = λ o. refl;
+    } in
+    left-one bs n (after cs n) n (sound-reached (after cs n) (reached-after n T cs) .formed) (K .sound .formed) (rights-left n T bs p cs c) same
