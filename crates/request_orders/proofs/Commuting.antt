@@ -34,9 +34,12 @@ pub record Commuting (m : Monitor) (I : Monitor → Type 0) (Q : Request → Typ
   pub alone : (q : Request) (n : Monitor) → Q q → I n → (checks q n ≡ Granted) ↔ (checks q m ≡ Granted)
   pub commute : (q r : Request) (n : Monitor) → Q q → Q r → I n → afterwards q (afterwards r n) ≡ afterwards r (afterwards q n)
 
--- bytes that say such a request, or are malformed
+-- what is decoded is such a request, or malformed; and bytes of which this is so
+abbrev pub Only : (Request → Type 0) → Decoded → Type 0
+Only Q d = (q : Request) → d ≡ Says q → Q q
+
 abbrev pub Saying : (Request → Type 0) → List ℕ → Type 0
-Saying Q b = (q : Request) → decode b ≡ Says q → Q q
+Saying Q b = Only Q (decode b)
 
 -- bytes say one request
 pub says-one : {d : Decoded} {q r : Request} → d ≡ Says q → d ≡ Says r → q ≡ r
@@ -86,18 +89,18 @@ module _ (m : Monitor) (I : Monitor → Type 0) (Q : Request → Type 0) (S : Co
       ∙ sym (left-by q (step r n .monitor) v (keeps-step r n w i) ∙ ap (outcome a q) (left-by r n w i))
 
   -- the same of what bytes say, or where they are malformed and leave the state
-  keeps-turn : (d : Decoded) → ((q : Request) → d ≡ Says q → Q q) → (n : Monitor) → I n → I (carryOut d n .monitor)
+  keeps-turn : (d : Decoded) → Only Q d → (n : Monitor) → I n → I (carryOut d n .monitor)
   keeps-turn Malformed w n i = i
   keeps-turn (Says q) w n i = keeps-step q n (w q refl) i
 
-  turns-comm : (d e : Decoded) → ((q : Request) → d ≡ Says q → Q q) → ((q : Request) → e ≡ Says q → Q q) → (n : Monitor) → I n
+  turns-comm : (d e : Decoded) → Only Q d → Only Q e → (n : Monitor) → I n
       → carryOut e (carryOut d n .monitor) .monitor ≡ carryOut d (carryOut e n .monitor) .monitor
   turns-comm Malformed e v w n i = refl
   turns-comm (Says q) Malformed v w n i = refl
   turns-comm (Says q) (Says r) v w n i = steps-comm q r n (v q refl) (w r refl) i
 
   -- a reply is 0 or 1 exactly where it is if the bytes came alone
-  granted-turn : (d : Decoded) → ((q : Request) → d ≡ Says q → Q q) → (n : Monitor) → I n
+  granted-turn : (d : Decoded) → Only Q d → (n : Monitor) → I n
       → (number (carryOut d n .decision) < 2) ↔ (number (carryOut d m .decision) < 2)
   granted-turn Malformed w n i = (λ h. h, λ h. h)
   granted-turn (Says q) w n i =

@@ -38,7 +38,7 @@ use Rattle.effects.proofs.Frames.{right-by-give, right-kept, access-by-get, acc
 use Rattle.orders.specs.Orders.{OrderOf, Each, Some}
 use Rattle.orders.proofs.Places.{each-some}
 use Rattle.request_orders.specs.RightsLists.{Gives, Releases, GiveOrRelease, give, release, NothingElse, Left}
-use Rattle.request_orders.proofs.Commuting.{Commuting, Saying, says-one, keeps-step, keeps-one, granted-one, keeps-all}
+use Rattle.request_orders.proofs.Commuting.{Commuting, Only, Saying, says-one, keeps-step, keeps-one, granted-one, keeps-all}
 use Rattle.request_orders.proofs.Owners.{OwnersKept, Ranged, same-checks, rights-commuting}
 use Rattle.request_orders.proofs.RightsLists.{ranged, rights-any-order}
 
@@ -119,7 +119,7 @@ module _ (m : Monitor) (S : Sound m) where
   says-give : (q : Request) (t o : ℕ) (x : Mode) → GivesRight q t o x ↔ ((s : ℕ) × (Says q ≡ Says (Give s t o x)))
   says-give q t o x = (λ k. (k .0, ap Says (k .1)), λ k. (k .0, says-one refl (k .1)))
 
-  right-turn : (d : Decoded) → ((q : Request) → d ≡ Says q → Ranged q) → (n : Monitor) → OwnersKept m n → (t o : ℕ) (x : Mode)
+  right-turn : (d : Decoded) → Only Ranged d → (n : Monitor) → OwnersKept m n → (t o : ℕ) (x : Mode)
       → Permits (carryOut d n .monitor) t o x ↔ (Permits n t o x ⊎ (((s : ℕ) × (d ≡ Says (Give s t o x))) × (number (carryOut d m .decision) < 2)))
   right-turn Malformed w n P t o x = (λ h. inl h, ⊎-elim (λ h. h) (λ k. absurd (omega (arith, k .1))))
   right-turn (Says q) w n P t o x =
@@ -130,7 +130,7 @@ module _ (m : Monitor) (S : Sound m) where
         ⊎-elim (λ p. one .1 (inl p)) (λ k. one .1 (inr (by .1 (k .0), granted .0 (k .1)))),
       )
 
-  access-turn : (d : Decoded) → ((q : Request) → d ≡ Says q → Ranged q) → (n : Monitor) → OwnersKept m n → (s o : ℕ) (x : Mode)
+  access-turn : (d : Decoded) → Only Ranged d → (n : Monitor) → OwnersKept m n → (s o : ℕ) (x : Mode)
       → Holds (carryOut d n .monitor) s o x ↔ (Holds n s o x × (d ≡ Says (Release s o x) → ⊥))
   access-turn Malformed w n P s o x = (λ h. (h, λ e. let z : _≡_ {A = ℕ} 0 1 = cc in omega arith), λ h. h .0)
   access-turn (Says q) w n P s o x =

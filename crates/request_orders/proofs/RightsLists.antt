@@ -27,7 +27,7 @@ use Rattle.orders.specs.Orders.{OrderOf, Each}
 use Rattle.orders.proofs.Places.{each-order, each-map}
 use Rattle.request_orders.specs.AnyOrder.{GrantedAt, AnyOrder}
 use Rattle.request_orders.specs.RightsLists.{IsGive, IsRelease, GiveOrRelease, give, release, NothingElse}
-use Rattle.request_orders.proofs.Commuting.{Saying, says-one, keeps-one, granted-alone, any-order}
+use Rattle.request_orders.proofs.Commuting.{Only, Saying, says-one, keeps-one, granted-alone, any-order}
 use Rattle.request_orders.proofs.Owners.{OwnersKept, Ranged, same-checks, rights-commuting}
 
 -- what its bytes say is in range
@@ -47,7 +47,7 @@ rights-granted-alone m r bs p = granted-alone m (OwnersKept m) Ranged (rights-co
 
 module _ (m : Monitor) (S : Sound m) where
   -- a refusal has the number that it has alone
-  refused-turn : (d : Decoded) → ((q : Request) → d ≡ Says q → Ranged q) → (n : Monitor) → OwnersKept m n → 2 ≤ number (carryOut d n .decision)
+  refused-turn : (d : Decoded) → Only Ranged d → (n : Monitor) → OwnersKept m n → 2 ≤ number (carryOut d n .decision)
       → number (carryOut d n .decision) ≡ number (carryOut d m .decision)
   refused-turn Malformed w n P h = refl
   refused-turn (Says q) w n P h =
