@@ -22,11 +22,11 @@ use Rattle.model.specs.Rules.{simpleAll, starPair, starFrom, starFor, starAll, 
 use Rattle.model.specs.Runs.{respond, after, replies}
 use Rattle.model.specs.Reading.{labelFrom, labelForm, tableFrom, tableForm, tableChecks, begin, readTable}
 use Rattle.model.specs.Beginnings.{Reached}
-use Rattle.model.proofs.Tests.{apart}
+use Rattle.model.proofs.Tests.{clash, apart}
 use Rattle.orders.specs.Orders.{Each}
 use Rattle.request_orders.specs.AnyOrder.{OrdersAgree, GrantedAt}
 use Rattle.request_orders.specs.RightsLists.{IsGive, IsRelease, NothingElse}
-use Rattle.request_orders.proofs.RightsLeft.{no-rescind, no-get}
+use Rattle.request_orders.proofs.RightsLeft.{no-other}
 use Rattle.runs.specs.MarkedRun.{tableW}
 use Rattle.start_order.proofs.Examples.{bytes, made, read-1}
 use Rattle.capi.proofs.StartOrders.{there, reached-there}
@@ -74,8 +74,8 @@ pub kinds-apart : (IsRelease give-w → ⊥) × (IsGive release-r → ⊥) × (N
 kinds-apart = (
   λ w. not-both (sym (says .0) ∙ w .3),
   λ w. not-both (sym (w .3 .1) ∙ says .3),
-  λ w. no-rescind _ (w _ (says .2)) 1 2 0 Write refl,
-  λ w. no-get _ (w _ (says .4)) 1 1 Read refl,
+  λ w. clash (sym (no-other _ _ (w _ (says .2)) refl)),
+  λ w. clash (sym (no-other _ _ (w _ (says .4)) refl)),
 )
   where
     not-both : {a s t o p : ℕ} {x y : Mode} → Says (Give a t o x) ≡ Says (Release s p y) → ⊥

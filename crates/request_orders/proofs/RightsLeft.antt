@@ -4,26 +4,28 @@ use Prim.Native.Nat.{ℕ, _<_}
 use native.Mathlib.Omega.{arith}
 use mathlib.Core.Path.{_≡_, refl, sym, ap, _∙_, subst}
 use mathlib.Core.Logic.{_↔_, _⊎_, inl, inr, ⊎-elim}
-use mathlib.Core.Bool.{true, false}
+use mathlib.Core.Bool.{Bool, true, false}
 use mathlib.Core.List.{List, [], _∷_, Permᴰ·refl}
+use lib.ListN.{getD}
 use Rattle.model.specs.declared.Subject.{Subject}
 use Rattle.model.specs.declared.Object.{Object}
 use Rattle.model.specs.declared.Monitor.{Monitor}
 use Rattle.model.specs.declared.Mode.{Mode}
 use Rattle.model.specs.declared.Request.{Request}
-use Rattle.model.specs.declared.Request.the-variants.{Get, Release, Give, Rescind}
+use Rattle.model.specs.declared.Request.the-variants.{Get, Release, Give, Rescind, Create, Delete, ChangeLevel}
 use Rattle.model.specs.declared.Decoded.{Decoded}
 use Rattle.model.specs.declared.Decoded.the-variants.{Malformed, Says}
 use Rattle.model.specs.declared.Decision.the-variants.{Granted}
 use Rattle.model.specs.declared.Response.{Response}
-use Rattle.model.specs.State.{clearanceAt, enrolled, object, rightsOf, heldBy, WellFormed}
+use Rattle.model.specs.Modes.{has}
+use Rattle.model.specs.State.{noModes, noObject, clearanceAt, enrolled, object, WellFormed}
 use Rattle.model.specs.Properties.{Holds, Permits}
 use Rattle.model.specs.Decisions.{number}
 use Rattle.model.specs.Requests.{decode}
 use Rattle.model.specs.Rules.{checks, step}
 use Rattle.model.specs.Runs.{carryOut, respond, reply, after}
 use Rattle.model.specs.Beginnings.{Reached}
-use Rattle.model.proofs.Tests.{split, apart, bool-ext}
+use Rattle.model.proofs.Tests.{split, clash, apart, bool-ext}
 use Rattle.model.proofs.Equal.{object-same, state-same}
 use Rattle.invariants.specs.Sound.{Sound}
 use Rattle.invariants.proofs.Granted.{granted-give, grants-release}
@@ -43,20 +45,23 @@ use Rattle.request_orders.proofs.Owners.{OwnersKept, Ranged, same-check
 use Rattle.request_orders.proofs.RightsLists.{ranged, rights-any-order}
 
 -- no give or release is of another kind
-pub no-rescind : (q : Request) → GiveOrRelease q → (s t o : ℕ) (x : Mode) → q ≡ Rescind s t o x → ⊥
-no-rescind _ (give a b p y) s t o x e = let z : _≡_ {A = ℕ} 0 1 = cc in omega arith
-no-rescind _ (release a p y) s t o x e = let z : _≡_ {A = ℕ} 0 1 = cc in omega arith
+abbrev pub giveOrRelease : Request → Bool
+giveOrRelease (Get s o x) = false
+giveOrRelease (Release s o x) = true
+giveOrRelease (Give s t o x) = true
+giveOrRelease (Rescind s t o x) = false
+giveOrRelease (Create s o c) = false
+giveOrRelease (Delete s o) = false
+giveOrRelease (ChangeLevel s o l) = false
 
-pub no-get : (q : Request) → GiveOrRelease q → (t o : ℕ) (x : Mode) → q ≡ Get t o x → ⊥
-no-get _ (give a b p y) t o x e = let z : _≡_ {A = ℕ} 0 1 = cc in omega arith
-no-get _ (release a p y) t o x e = let z : _≡_ {A = ℕ} 0 1 = cc in omega arith
+pub no-other : (q r : Request) → GiveOrRelease q → q ≡ r → giveOrRelease r ≡ true
+no-other _ r (give s t o x) e = sym (ap giveOrRelease e)
+no-other _ r (release s o x) e = sym (ap giveOrRelease e)
 
 -- on an object that is not live nobody has a right, and nobody holds an access
-no-right : {P : Type 0} (n : Monitor) → WellFormed n → (t o : ℕ) (x : Mode) → object n o .live ≡ false → Permits n t o x → P
-no-right n W t o x e = none-held x _ (ap (λ (ob : Object). rightsOf ob t) (W .objects-formed o .shape .not-live e) ∙ no-modes t)
-
-no-access : {P : Type 0} (n : Monitor) → WellFormed n → (t o : ℕ) (x : Mode) → object n o .live ≡ false → Holds n t o x → P
-no-access n W t o x e = none-held x _ (ap (λ (ob : Object). heldBy ob t) (W .objects-formed o .shape .not-live e) ∙ no-modes t)
+none-there : {P : Type 0} (row : Object → List ℕ) → row noObject ≡ noModes → (n : Monitor) → WellFormed n → (t o : ℕ) (x : Mode)
+    → object n o .live ≡ false → has x (getD (row (object n o)) t 0) ≡ true → P
+none-there row z n W t o x e = none-held x _ (ap (λ (l : List ℕ). getD l t 0) (ap row (W .objects-formed o .shape .not-live e) ∙ z) ∙ no-modes t)
 
 -- who holds an access is enrolled
 holder-enrolled : (n : Monitor) → WellFormed n → (s o : ℕ) (x : Mode) → Holds n s o x → enrolled n s ≡ true
@@ -86,12 +91,12 @@ module _ (m : Monitor) (S : Sound m) where
               (λ g. ⊎-elim (λ p. inl p) (λ k. inr (k, sym (same-checks m q n (w .1) P) ∙ g)) (right-by-give q n formed o live (same-life ∙ live) t x h))
               (λ k. inl (subst (λ (r : Response). Permits (r .monitor) t o x) (step-refused q n k) h)),
           ⊎-elim
-              (λ h. ⊎-elim (λ p. p) (λ k. absurd (no-rescind q (w .1) (k .0) t o x (k .1))) (right-kept q n formed o live (same-life ∙ live) t x h))
+              (λ h. ⊎-elim (λ p. p) (λ k. clash (sym (no-other q (Rescind (k .0) t o x) (w .1) (k .1)))) (right-kept q n formed o live (same-life ∙ live) t x h))
               (λ k. subst (λ (r : Request). Effect r (step q n .monitor)) (k .0 .1) (granted-effect n formed q (w .0) (same-checks m q n (w .1) P ∙ k .1))),
         ))
         (λ dead. (
-          λ h. no-right (step q n .monitor) (kept .sound .formed) t o x (same-life ∙ dead) h,
-          ⊎-elim (λ h. no-right n formed t o x dead h)
+          λ h. none-there (λ ob. ob .rights) refl (step q n .monitor) (kept .sound .formed) t o x (same-life ∙ dead) h,
+          ⊎-elim (λ h. none-there (λ ob. ob .rights) refl n formed t o x dead h)
               (λ k. apart (granted-give m (k .0 .0) t o x (subst (λ (r : Request). checks r m ≡ Granted) (k .0 .1) (k .1)) .live) (sym (P .objects o .live) ∙ dead)),
         ))
 
@@ -105,13 +110,13 @@ module _ (m : Monitor) (S : Sound m) where
                 λ e. subst (λ (r : Request). Effect r (step q n .monitor)) e (granted-effect n formed q (w .0)
                     (subst (λ (r : Request). checks r n ≡ Granted) (sym e) (grants-release n s o x (record { there = holder-enrolled n formed s o x p; live = live })))) h,
               ))
-              (λ k. absurd (no-get q (w .1) s o x k)) (access-by-get q n formed o live (same-life ∙ live) s x h),
+              (λ k. clash (sym (no-other q (Get s o x) (w .1) k))) (access-by-get q n formed o live (same-life ∙ live) s x h),
           λ h. ⊎-elim (λ p. p)
-              (λ k. absurd (⊎-elim (h .1) (λ j. no-rescind q (w .1) (j .0) s o x (j .1)) k)) (access-kept q n formed o live (same-life ∙ live) s x (h .0)),
+              (λ k. absurd (⊎-elim (h .1) (λ j. clash (sym (no-other q (Rescind (j .0) s o x) (w .1) (j .1)))) k)) (access-kept q n formed o live (same-life ∙ live) s x (h .0)),
         ))
         (λ dead. (
-          λ h. no-access (step q n .monitor) (kept .sound .formed) s o x (same-life ∙ dead) h,
-          λ h. no-access n formed s o x dead (h .0),
+          λ h. none-there (λ ob. ob .held) refl (step q n .monitor) (kept .sound .formed) s o x (same-life ∙ dead) h,
+          λ h. none-there (λ ob. ob .held) refl n formed s o x dead (h .0),
         ))
 
   -- ---- what bytes say
