@@ -11,7 +11,8 @@ use circtool::view::View;
 use load::Random;
 use reference::{Get, Level, Monitor, Object, Request, StartOrder};
 use shared::lines::request_line;
-use sidebyside::start_order::{beginning_with, bytes};
+use sidebyside::orders::beginning_with;
+use sidebyside::start_order::bytes;
 use sidebyside::{image, SHAPES};
 
 /// What is printed of gets on a state of the second implementation, whose answer it is.

@@ -1,8 +1,9 @@
-//! What the tests share: both monitors on one run, dominance, pairs of modes, orders of gets, the fields of a request, what the
+//! What the tests share: both monitors on one run, dominance, pairs of modes, orders of requests, the fields of a request, what the
 //! rows of a unit say, the program `circmon`, C programs over the header, and a program with bytes on its standard input.
 
 mod fields;
 pub mod level;
+pub mod orders;
 pub mod pair;
 pub mod rows;
 pub mod start_order;
@@ -11,7 +12,7 @@ pub use fields::fields;
 
 use circmon::{Rows, Unit, ROWS, ROW_BYTES};
 use load::{Random, Shape};
-use reference::{Kind, Monitor, Request, IMAGE_BYTES, TABLE_BYTES};
+use reference::{Get, Kind, Mode, Monitor, Request, IMAGE_BYTES, OBJECTS, SUBJECTS, TABLE_BYTES};
 use std::collections::BTreeMap;
 use std::io::Write;
 use std::path::{Path, PathBuf};
@@ -59,6 +60,13 @@ pub fn drawn(seed: u64, shape: Shape, requests: usize) -> ([u8; TABLE_BYTES], Ve
         bytes
     };
     (table, (0..requests).map(draw).collect())
+}
+
+/// Every access that is held.
+pub fn held(monitor: &Monitor) -> Vec<Get> {
+    let of = |actor| (0..OBJECTS).flat_map(move |object| Mode::ALL.map(|mode| Get { actor, object, mode }));
+    let is_held = |it: &Get| monitor.objects[it.object].as_ref().is_some_and(|o| o.held[it.actor] & it.mode.bit() != 0);
+    (0..SUBJECTS).flat_map(of).filter(is_held).collect()
 }
 
 /// Every number that a request can get.
@@ -132,6 +140,7 @@ pub fn compare_run(seed: u64, shape: Shape, requests: usize, every: usize, repli
 }
 
 /// A state in both implementations.
+#[derive(Clone)]
 pub struct Both {
     pub monitor: Monitor,
     pub unit: Unit,

@@ -1,8 +1,8 @@
 //! What the rows of a unit say, from docs/FORMATS.md: byte 0 of the rest of an object's record is 1 where it is live, byte 1 is
 //! its owner, byte 2 is 1 where a level stands in bytes 3 to 5.
 
-use circmon::{Rows, OBJECTS};
-use reference::Level;
+use circmon::{Rows, OBJECTS, ROWS, ROW_BYTES};
+use reference::{Level, Monitor};
 
 /// The first row of the accesses held, of the rest of each object's record and of the clearances; that of the rights is row 0.
 pub const HELD: usize = OBJECTS;
@@ -19,4 +19,29 @@ pub fn is_live(rows: &Rows, object: usize) -> bool {
 
 pub fn label_of(rows: &Rows, object: usize) -> Option<Level> {
     level_in(&rows[REST + object])
+}
+
+/// The rows of a unit that was begun and asked and is in this state: what has no meaning is 0.
+pub fn of(monitor: &Monitor) -> Rows {
+    let mut rows = [[0; ROW_BYTES]; ROWS];
+    for (slot, object) in monitor.objects.iter().enumerate() {
+        if let Some(object) = object {
+            (rows[slot], rows[HELD + slot]) = (object.rights, object.held);
+            rows[REST + slot] = level_row(object.label);
+            rows[REST + slot][..2].copy_from_slice(&[1, object.owner as u8]);
+        }
+    }
+    for (subject, clearance) in monitor.subjects.iter().enumerate() {
+        rows[CLEARANCES + subject] = level_row(*clearance);
+    }
+    rows
+}
+
+fn level_row(level: Option<Level>) -> [u8; ROW_BYTES] {
+    let mut row = [0; ROW_BYTES];
+    if let Some(Level { class, needs }) = level {
+        let [high, low] = needs.to_be_bytes();
+        row[2..6].copy_from_slice(&[1, class, high, low]);
+    }
+    row
 }

@@ -1,11 +1,9 @@
 //! Lists of gets in both implementations: the answer, orders carried out, and what was met.
 
-use crate::rows::HELD;
+use crate::orders::{self, equal_states, Met};
 use crate::Both;
-use circmon::{StartOrder, SUBJECTS};
-use load::Random;
+use circmon::{StartOrder, REQUEST_BYTES};
 use reference::{Get, Mode, Monitor};
-use std::collections::BTreeMap;
 
 /// The six bytes of each get, one behind the other.
 pub fn bytes(gets: &[Get]) -> Vec<u8> {
@@ -27,40 +25,18 @@ pub fn answer(both: &Both, requests: &[u8]) -> StartOrder {
     found
 }
 
-/// What is left where the gets come in this order of their places, in both implementations: each reply is the same, and so are
-/// the accesses held in the end. A get changes nothing else.
+fn encoded(gets: &[Get]) -> Vec<[u8; REQUEST_BYTES]> {
+    gets.iter().map(Get::encode).collect()
+}
+
+/// What is left where the gets come in this order of their places, in both implementations.
 pub fn after_order(both: &Both, gets: &[Get], order: &[usize]) -> Both {
-    let mut after = Both { monitor: both.monitor.clone(), unit: both.unit.clone() };
-    for &place in order {
-        let request = gets[place].encode();
-        assert_eq!(after.unit.ask(&request), after.monitor.request(&request), "{gets:?} in the order {order:?}");
-    }
-    let held = after.monitor.objects.iter().map(|it| it.as_ref().map_or([0; SUBJECTS], |it| it.held));
-    assert!(held.zip(&after.unit.rows()[HELD..]).all(|(held, row)| held == *row), "{gets:?} in the order {order:?}");
-    after
+    orders::after_order(both, &encoded(gets), order).both
 }
 
-/// Whether all these orders leave equal states: both implementations say the same of it.
+/// Whether all these orders leave equal states.
 pub fn agree(both: &Both, gets: &[Get], orders: &[Vec<usize>]) -> bool {
-    let states: Vec<Both> = orders.iter().map(|order| after_order(both, gets, order)).collect();
-    let proved = states.iter().all(|it| it.unit == states[0].unit);
-    assert_eq!(states.iter().all(|it| it.monitor == states[0].monitor), proved, "{gets:?}");
-    proved
-}
-
-/// A random order of so many places.
-pub fn shuffled(random: &mut Random, count: usize) -> Vec<usize> {
-    let mut order: Vec<usize> = (0..count).collect();
-    for last in (1..count).rev() {
-        order.swap(last, random.below(last + 1));
-    }
-    order
-}
-
-/// The order that begins with these two places, with the others behind them as they stand.
-pub fn beginning_with(first: usize, second: usize, count: usize) -> Vec<usize> {
-    let others = (0..count).filter(|place| ![first, second].contains(place));
-    [first, second].into_iter().chain(others).collect()
+    equal_states(&orders::after_orders(both, &encoded(gets), orders))
 }
 
 /// What lists of gets of enrolled subjects on live objects meet, if there are enough of them.
@@ -93,26 +69,7 @@ pub const LISTS_MET: [&str; 26] = [
     "refused alone with 9",
 ];
 
-/// How often each thing was met, by its name.
-#[derive(Default, Debug)]
-pub struct Met(BTreeMap<String, usize>);
-
 impl Met {
-    pub fn note(&mut self, what: impl Into<String>) {
-        *self.0.entry(what.into()).or_default() += 1;
-    }
-
-    pub fn of(&self, what: &str) -> usize {
-        self.0.get(what).copied().unwrap_or(0)
-    }
-
-    /// Each of these was met more often than this.
-    pub fn check(&self, often: usize, what: &[&str]) {
-        for what in what {
-            assert!(self.of(what) > often, "{what}: {} times; {self:#?}", self.of(what));
-        }
-    }
-
     /// The answer for a list of gets and what is in the list.
     pub fn note_list(&mut self, monitor: &Monitor, gets: &[Get], answer: StartOrder) {
         let word = match answer {

@@ -2,7 +2,8 @@
 
 use circmon::StartOrder;
 use reference::{orders, reply, Get, Kind, Level, Mode, Monitor, Request};
-use sidebyside::start_order::{after_order, agree, answer, bytes, Met, LISTS_MET};
+use sidebyside::orders::Met;
+use sidebyside::start_order::{after_order, agree, answer, bytes, LISTS_MET};
 use sidebyside::{image, Both};
 
 const LOW: Option<Level> = level(0, 0);

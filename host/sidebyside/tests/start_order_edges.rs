@@ -4,9 +4,10 @@
 use circmon::{StartOrder, Unit, MOST_GETS, OBJECTS, SUBJECTS};
 use load::Random;
 use reference::{Get, Kind, Level, Mode, Monitor, Object, Request};
+use sidebyside::orders::Met;
 use sidebyside::pair::Pair;
 use sidebyside::rows::{is_live, label_of, CLEARANCES, HELD, REST};
-use sidebyside::start_order::{answer, bytes, Met};
+use sidebyside::start_order::{answer, bytes};
 use sidebyside::{image, random_rows, Both};
 
 /// Subject 3 is cleared for everything and has all rights: object 0 has a label above that of object 63.

@@ -4,8 +4,9 @@
 use circmon::{StartOrder, Unit};
 use load::{Random, Shape};
 use reference::{Get, Kind, Mode, Monitor, Request, OBJECTS, SUBJECTS};
-use sidebyside::start_order::{after_order, agree, answer, beginning_with, bytes, shuffled, Met, LISTS_MET};
-use sidebyside::{drawn, image, shape, Both, RUNS};
+use sidebyside::orders::{beginning_with, shuffled, Met};
+use sidebyside::start_order::{after_order, agree, answer, bytes, LISTS_MET};
+use sidebyside::{drawn, held, image, shape, Both, RUNS};
 
 /// So many requests in a run, and lists after so many of them.
 const REQUESTS: usize = 300;
@@ -72,14 +73,10 @@ fn with_right(monitor: &Monitor, actor: usize) -> Vec<Get> {
 
 /// The state with every access released: as after a power return, when nobody holds anything yet.
 fn released(both: &Both) -> Both {
-    let mut after = Both { monitor: both.monitor.clone(), unit: both.unit.clone() };
-    for (actor, object) in (0..SUBJECTS).flat_map(|actor| (0..OBJECTS).map(move |object| (actor, object))) {
-        for mode in Mode::ALL {
-            if both.monitor.objects[object].as_ref().is_some_and(|it| it.held[actor] & mode.bit() != 0) {
-                let release = Request { actor, object, kind: Kind::Release(mode) }.encode();
-                assert_eq!((after.unit.ask(&release), after.monitor.request(&release)), (0, 0), "{release:02x?}");
-            }
-        }
+    let mut after = both.clone();
+    for Get { actor, object, mode } in held(&both.monitor) {
+        let release = Request { actor, object, kind: Kind::Release(mode) }.encode();
+        assert_eq!((after.unit.ask(&release), after.monitor.request(&release)), (0, 0), "{release:02x?}");
     }
     after
 }
@@ -154,8 +151,7 @@ fn a_million_gets_in_lists_along_runs() {
         for (at, request) in requests.iter().enumerate() {
             assert_eq!(both.unit.ask(request), both.monitor.request(request), "seed {seed}, request {at}");
             if (at + 1) % EVERY == 0 {
-                let as_it_is = Both { monitor: both.monitor.clone(), unit: both.unit.clone() };
-                all += check_state(random, shape, as_it_is, &mut met);
+                all += check_state(random, shape, both.clone(), &mut met);
                 all += check_state(random, shape, released(&both), &mut met);
             }
         }
