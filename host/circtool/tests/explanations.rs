@@ -241,10 +241,12 @@ fn a_lowered_label_is_named_with_the_old_one() {
 }
 
 /// The replies that each example is written to show.
-const EXAMPLES: [(&str, &[u8]); 8] = [
+const EXAMPLES: [(&str, &[u8]); 10] = [
     ("four-answers", &[0, 0, 0, 0, 0, 0, 0, 0, 0, 0, 0, 8, 8, 8, 8, 8, 8, 0, 0, 9, 0, 9, 0, 0]),
     ("lobby-display", &[0, 0, 0, 0, 7, 7, 7, 0, 8, 8, 0, 14, 8]),
     ("marked-run", &[0, 7, 0, 1, 0, 0, 0, 0, 9, 0, 8, 0, 9, 6, 0, 1]),
+    ("rights-by-object", &[0, 0, 0, 0, 0, 0, 6, 1, 0, 0, 0, 0, 6, 0]),
+    ("rights-by-task", &[0, 0, 0, 0, 0, 0, 6, 0, 0, 0, 1, 0, 0, 6]),
     // subjects alone, for `load --table`
     ("seeded-load", &[]),
     ("slot-again", &[0, 0, 0, 0, 0, 4, 0, 7, 0, 6, 6, 6, 0]),
