@@ -196,20 +196,31 @@ fn given_to(bytes: &[u8]) -> Option<usize> {
     }
 }
 
+/// All these gives, a release of all that is held, and copies of some of both.
+fn whole_list(monitor: &Monitor) -> Vec<Vec<u8>> {
+    let release = |it: Get| Request { actor: it.actor, object: it.object, kind: Kind::Release(it.mode) };
+    let mut list = every_give(monitor);
+    list.extend(held(monitor).into_iter().map(|it| release(it).encode().to_vec()));
+    let copies: Vec<Vec<u8>> = list.iter().step_by(7).cloned().collect();
+    [list, copies].concat()
+}
+
 #[test]
 fn whole_lists_of_rights_by_object_by_subject_and_shuffled() {
+    let mut met = Met::default();
     for seed in 0..10 {
         let random = &mut Random::new(seed);
         let both = Both::new(load::rich(seed, 64, 1000));
-        let release = |it: Get| Request { actor: it.actor, object: it.object, kind: Kind::Release(it.mode) };
-        let (mut list, held) = (every_give(&both.monitor), held(&both.monitor));
-        assert!(list.len() == 4096 && held.len() > 20, "{} accesses held", held.len());
-        list.extend(held.into_iter().map(|it| release(it).encode().to_vec()));
+        let list = whole_list(&both.monitor);
         let mut by_subject: Vec<usize> = (0..list.len()).collect();
         by_subject.sort_by_key(|&place| given_to(&list[place]));
         let orders: Vec<Vec<usize>> = some_orders(random, list.len()).into_iter().chain([by_subject]).collect();
         let carried = check(&both, &list, &orders);
         check_images(&carried);
-        assert!(carried.after[0].both.monitor != both.monitor, "seed {seed}: nothing is changed");
+        met.note_rights_list(&both.monitor, &list, &carried);
     }
+    println!("{met:#?}");
+    met.check(9, &["lists: a right is given and its access released"]);
+    met.check(50, &["give: 0", "give: 1", "release: 0", "copies of a give: 0 and 1", "copies of a release: 0 and 1"]);
+    met.check(50, &["give: 0 in one order and 1 in another", "release: 0 in one order and 1 in another"]);
 }

@@ -148,7 +148,8 @@ fn every_list_of_up_to_three_gives_and_releases_with_a_subject_that_is_absent() 
     let requests = requests(3, 2, &gives_and_releases(3, &[Mode::Read]));
     assert_eq!(requests.len(), 24);
     let met = check_all(&states(), &lists(&requests));
-    met.check(300, &["give: 0", "give: 1", "give: 3", "give: 6", "release: 0", "release: 1", "release: 3"]);
+    met.check(300, &RIGHTS_LISTS_MET);
+    met.check(300, &["give: 3", "release: 3"]);
 }
 
 /// The requests of the other kinds, by a name.
