@@ -47,6 +47,12 @@ impl Carried {
     pub fn grant_as_alone(&self) -> bool {
         self.after.iter().all(|it| same_grants(&it.replies, &self.alone))
     }
+
+    /// What is refused gets the number in every order that it gets alone.
+    pub fn refuse_as_alone(&self) -> bool {
+        let alike = |it: &After| it.replies.iter().zip(&self.alone).all(|(a, b)| is_granted(*a) || a == b);
+        self.after.iter().all(alike)
+    }
 }
 
 /// The places of each copy: of the first byte string that is the same, and its own.
@@ -129,6 +135,7 @@ pub fn check(both: &Both, list: &[Vec<u8>], orders: &[Vec<usize>]) -> Carried {
     assert!(carried.grant_the_same(), "granted in one order and refused in another: {}", which());
     assert!(carried.treat_copies_alike(list), "one copy is granted and another refused: {}", which());
     assert!(carried.grant_as_alone(), "granted alone and refused in the list, or the other way: {}", which());
+    assert!(carried.refuse_as_alone(), "refused with another number than alone: {}", which());
     let expected = expected(&both.monitor, list, &carried.alone);
     let rows = rows::of(&expected);
     for after in &carried.after {
@@ -136,6 +143,14 @@ pub fn check(both: &Both, list: &[Vec<u8>], orders: &[Vec<usize>]) -> Carried {
         assert!(*after.both.unit.rows() == rows, "another unit than the one expected: {}", which());
     }
     carried
+}
+
+/// That the list changes nothing where it comes again, in an order that was not the first.
+pub fn check_again(carried: &Carried, list: &[Vec<u8>], order: &[usize]) {
+    let before = &carried.after[0].both;
+    let again = after_order(before, list, order);
+    assert!(again.both.unit == before.unit, "{list:02x?} changes something when it comes again in the order {order:?}");
+    assert!(!again.replies.contains(&reply::CHANGED), "{list:02x?} says so when it comes again in the order {order:?}");
 }
 
 /// That the images saved after the orders are equal, and that of the second implementation too.

@@ -5,7 +5,7 @@ use circmon::Unit;
 use load::{Random, Shape};
 use reference::{Get, Kind, Mode, Monitor, Request, OBJECTS, SUBJECTS};
 use sidebyside::orders::{shuffled, Met};
-use sidebyside::rights_lists::{check, check_images, RIGHTS_LISTS_MET};
+use sidebyside::rights_lists::{check, check_again, check_images, RIGHTS_LISTS_MET};
 use sidebyside::{drawn, held, shape, Both, RUNS};
 
 /// So many requests in a run, and lists after so many of them.
@@ -145,6 +145,7 @@ fn check_state(random: &mut Random, shape: Shape, state: Both, done: &mut Done) 
         let orders = some_orders(random, list.len());
         let carried = check(&offered.both, &list, &orders);
         check_images(&carried);
+        check_again(&carried, &list, &orders[1]);
         done.met.note_rights_list(&offered.both.monitor, &list, &carried);
         done.lists += 1;
         done.in_lists += list.len();
@@ -217,6 +218,7 @@ fn whole_lists_of_rights_by_object_by_subject_and_shuffled() {
         let orders: Vec<Vec<usize>> = some_orders(random, list.len()).into_iter().chain([by_subject]).collect();
         let carried = check(&both, &list, &orders);
         check_images(&carried);
+        check_again(&carried, &list, &orders[4]);
         met.note_rights_list(&both.monitor, &list, &carried);
     }
     println!("{met:#?}");

@@ -4,7 +4,7 @@
 
 use reference::{orders, reply, Kind, Level, Mode, Monitor, Request};
 use sidebyside::orders::Met;
-use sidebyside::rights_lists::{check, check_images, Carried, RIGHTS_LISTS_MET};
+use sidebyside::rights_lists::{check, check_again, check_images, Carried, RIGHTS_LISTS_MET};
 use sidebyside::Both;
 
 const LOW: Level = Level { class: 0, needs: 0 };
@@ -110,6 +110,7 @@ fn check_all(states: &[Both], lists: &[Vec<Vec<u8>>]) -> Met {
         met.note_rights_list(&both.monitor, list, &carried);
         if list.len() < 3 {
             check_images(&carried);
+            check_again(&carried, list, &all[list.len()][list.len().saturating_sub(1)]);
         }
     }
     println!("{} states, {} lists in each: {met:#?}", states.len(), lists.len());
