@@ -103,7 +103,8 @@ uint8_t circmon_page(const circmon_unit *unit, uint8_t object, uint8_t *page, ci
  * 1 CIRCMON_ORDERS_CLASH: the gets at the places FIRST and SECOND are each granted if it came alone, and would together break
  *   the star property: no order grants both, and not all orders leave equal states. FIRST is the lower place, the least that
  *   there is, and SECOND the least for it.
- * 0 CIRCMON_ORDERS_AGREE: none of these; all orders of the list leave equal states.
+ * 0 CIRCMON_ORDERS_AGREE: none of these; all orders of the list leave equal states, and each get is granted in all of them, with
+ *   0 or 1, or refused in all.
  * What 0 and 1 say of orders is proved of a unit that was opened or started with 0 and then only asked; which code is returned
  * is proved of every unit. The unit is only read. */
 uint64_t circmon_clash(const circmon_unit *unit, const uint8_t *requests, circmon_size requests_len);

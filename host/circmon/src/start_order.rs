@@ -6,7 +6,7 @@ pub const MOST_GETS: usize = 4096;
 /// What the library says of a list of gets, with its codes. Places count from 0.
 #[derive(Clone, Copy, Debug, PartialEq, Eq)]
 pub enum StartOrder {
-    /// all orders of the list leave equal states
+    /// all orders of the list leave equal states, and each get is granted in all of them or refused in all
     Agree,
     /// the gets at these two places are each granted if it came alone, and would together break the star property: so the
     /// order matters; first is the lower place, the least that there is, and second the least for it

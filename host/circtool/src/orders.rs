@@ -97,7 +97,8 @@ fn about(image: &Named, gets: &Gets) -> String {
 
 fn agree(image: &Named, gets: &Gets) -> String {
     format!(
-        "the order does not matter: {}All orders of these gets leave equal states; only replies may differ. {PROVED}\n",
+        "the order does not matter: {}All orders of these gets leave equal states, and each get is granted in all of them or refused in all; a \
+         grant may say 0 or 1. {PROVED}\n",
         about(image, gets)
     )
 }

@@ -72,7 +72,8 @@ fn gets_whose_order_does_not_matter() {
         ended(&output, 0);
         let expected = format!(
             "the order does not matter: {how_many} of <stdin>, on the state in {file}\n\
-             All orders of these gets leave equal states; only replies may differ. \
+             All orders of these gets leave equal states, and each get is granted in all of them or refused in all; \
+             a grant may say 0 or 1. \
              This is proved: docs/THEOREMS.md, start order of tasks.\n"
         );
         assert_eq!((out(&output), err(&output)), (expected, String::new()), "{script}");

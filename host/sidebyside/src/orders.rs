@@ -2,6 +2,7 @@
 
 use crate::{rows, Both};
 use load::Random;
+use reference::reply;
 use std::collections::BTreeMap;
 use std::fmt::Debug;
 
@@ -36,6 +37,20 @@ pub fn equal_states(after: &[After]) -> bool {
     let proved = after.iter().all(|it| it.both.unit == after[0].both.unit);
     assert_eq!(after.iter().all(|it| it.both.monitor == after[0].both.monitor), proved);
     proved
+}
+
+/// Granted: the state changed, or it was so already. Which of the two is replied may differ between orders.
+pub fn is_granted(reply: u8) -> bool {
+    matches!(reply, reply::CHANGED | reply::ALREADY)
+}
+
+pub fn same_grants(some: &[u8], others: &[u8]) -> bool {
+    some.len() == others.len() && some.iter().zip(others).all(|(&a, &b)| is_granted(a) == is_granted(b))
+}
+
+/// Whether the byte string at each place of the list is granted in all of them or refused in all.
+pub fn equal_grants(after: &[After]) -> bool {
+    after.iter().all(|it| same_grants(&it.replies, &after[0].replies))
 }
 
 /// A random order of so many places.

@@ -1,18 +1,9 @@
 //! Lists of gives and releases, with malformed byte strings among them, in both implementations: orders carried out, what every
 //! order must grant and leave, which is computed from the state before the list, and what was met.
 
-use crate::orders::{after_order, after_orders, equal_states, After, Met};
+use crate::orders::{after_order, after_orders, equal_grants, equal_states, is_granted, same_grants, After, Met};
 use crate::{image, rows, Both};
 use reference::{reply, Kind, Mode, Monitor, Request, OBJECTS, REQUEST_BYTES, SUBJECTS};
-
-/// Granted: the state changed, or it was so already. Which of the two is replied may differ between orders.
-fn is_granted(reply: u8) -> bool {
-    matches!(reply, reply::CHANGED | reply::ALREADY)
-}
-
-fn same_grants(some: &[u8], others: &[u8]) -> bool {
-    some.len() == others.len() && some.iter().zip(others).all(|(&a, &b)| is_granted(a) == is_granted(b))
-}
 
 /// Orders of a list carried out on a state, and the reply to each of its byte strings if it came alone.
 pub struct Carried {
@@ -33,7 +24,7 @@ impl Carried {
 
     /// "each give must be granted in both or refused in both", by its place in the list
     pub fn grant_the_same(&self) -> bool {
-        self.after.iter().all(|it| same_grants(&it.replies, &self.after[0].replies))
+        equal_grants(&self.after)
     }
 
     /// In each order every copy of one byte string is granted, or every copy is refused.

@@ -1,6 +1,6 @@
 //! Lists of gets in both implementations: the answer, orders carried out, and what was met.
 
-use crate::orders::{self, equal_states, Met};
+use crate::orders::{self, equal_grants, equal_states, Met};
 use crate::Both;
 use circmon::{StartOrder, REQUEST_BYTES};
 use reference::{Get, Mode, Monitor};
@@ -34,9 +34,12 @@ pub fn after_order(both: &Both, gets: &[Get], order: &[usize]) -> Both {
     orders::after_order(both, &encoded(gets), order).both
 }
 
-/// Whether all these orders leave equal states.
+/// Whether all these orders leave equal states. Where they do, each get is granted in all of them or refused in all.
 pub fn agree(both: &Both, gets: &[Get], orders: &[Vec<usize>]) -> bool {
-    equal_states(&orders::after_orders(both, &encoded(gets), orders))
+    let after = orders::after_orders(both, &encoded(gets), orders);
+    let equal = equal_states(&after);
+    assert!(!equal || equal_grants(&after), "{gets:?}: granted in one of {orders:?} and refused in another");
+    equal
 }
 
 /// What lists of gets of enrolled subjects on live objects meet, if there are enough of them.
