@@ -70,23 +70,25 @@ pub fn script(place: &Path, text: &str) {
 }
 
 /// `rt`, which first copies the proofs of the repository where it finds none. The program `circmon` is not among them. The
-/// archive of the library is built once in a clone and then handed out again, since `rt` proves the library anew each time.
+/// archive of the library is built once in a clone and then handed out again, since `rt` proves the library anew each time; no
+/// proofs are copied for it, which takes longer than all else in the documents' commands.
 fn toolchain(kept: &Path) -> String {
     let target = root().join("target");
     format!(
         "#!/usr/bin/env bash\n\
          PATH=${{PATH#*:}}\n\
+         if [ \"$*\" = 'staticlib capi' ] && [ -d {1} ]; then\n    \
+             mkdir -p target/staticlib && cp -r {1}/. target/staticlib\n    \
+             exit\n\
+         fi\n\
          if [ ! -d target/stamp ]; then\n    \
              mkdir -p target && cp -r {0}/rlib {0}/stamp {0}/log target 2> /dev/null\n    \
              rm -f target/stamp/circmon\n\
          fi\n\
-         if [ \"$*\" != 'staticlib capi' ]; then\n    \
-             exec rt \"$@\"\n\
-         fi\n\
-         if [ ! -d {1} ]; then\n    \
+         if [ \"$*\" = 'staticlib capi' ]; then\n    \
              rt staticlib capi && cp -r target/staticlib {1}\n\
          else\n    \
-             mkdir -p target/staticlib && cp -r {1}/. target/staticlib\n\
+             exec rt \"$@\"\n\
          fi\n",
         target.display(),
         kept.display()
