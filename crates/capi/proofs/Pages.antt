@@ -17,7 +17,8 @@ use Rattle.model.proofs.Modes.{has-none}
 use Rattle.images.proofs.Reached.{reached-left}
 use Rattle.effects.proofs.Demand2.{always-secure}
 use Rattle.unit.specs.Rows.{stateIn}
-use Rattle.page.specs.Page.{dash, page, paging, paged}
+use Rattle.page_sets.specs.Sets.{dash}
+use Rattle.page.specs.Page.{page, paging, paged}
 use Rattle.page.specs.Printed.{lineChar, place, rightShown, accessShown}
 use Rattle.page.proofs.Printed.{right-shown, right-dash, access-shown, access-dash}
 use Rattle.runs.specs.MarkedRun.{tableW}

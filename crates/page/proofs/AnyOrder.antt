@@ -11,7 +11,8 @@ use Rattle.model.specs.declared.Object.{Object}
 use Rattle.orders.specs.Sums.{sumOver}
 use Rattle.orders.specs.Orders.{OrderOf, timesIn}
 use Rattle.orders.proofs.Orders.{orders-counted}
-use Rattle.page.specs.Page.{modes, page}
+use Rattle.page_sets.specs.Sets.{modes}
+use Rattle.page.specs.Page.{page}
 use Rattle.page.specs.Printed.{place, sameMode, holdersPrinted, totalPrinted}
 use Rattle.page.proofs.Printed.{printed-in-any-order}
 

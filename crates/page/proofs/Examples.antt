@@ -15,7 +15,9 @@ use Rattle.model.specs.Modes.{has}
 use Rattle.model.specs.State.{noObject, withOwner, withRows, withObject, emptyMonitor}
 use Rattle.model.specs.Buffers.{tooShort}
 use Rattle.orders.specs.Sums.{sumBelow, sumOver}
-use Rattle.page.specs.Page.{mark, modeCount, line, lines, holders, total, lastLine, page, paging}
+use Rattle.page_sets.specs.Sets.{mark, modeCount}
+use Rattle.page_lines.specs.Lines.{line, lines, holders, total, lastLine}
+use Rattle.page.specs.Page.{page, paging}
 use Rattle.page.specs.Printed.{IsDigit, rightShown, accessShown, subjectPrinted, heldPrinted, holdersPrinted, totalPrinted}
 
 -- subject 1 has r, w and e and holds r and e; subject 2 has a and holds it; subject 15 has and holds all four

@@ -15,7 +15,8 @@ use Rattle.model.specs.Decisions.{refuses}
 use Rattle.model.specs.Buffers.{front}
 use Rattle.model.proofs.Tests.{cond-true, cond-false}
 use Rattle.model.proofs.Buffers.{short-is, room-is}
-use Rattle.page.specs.Page.{page, pageSize, paging, paged}
+use Rattle.page_lines.specs.Lines.{pageSize}
+use Rattle.page.specs.Page.{page, paging, paged}
 
 module _ (m : Monitor) (o : ℕ) (buffer : List ℕ) where
   -- refused, "the buffer is untouched"

@@ -19,10 +19,13 @@ use Rattle.model.specs.Buffers.{digit}
 use Rattle.model.proofs.Tests.{le-or-lt}
 use Rattle.orders.specs.Sums.{sumBelow, sumOver}
 use Rattle.orders.specs.Orders.{OrderOf}
-use Rattle.page.specs.Page.{space, newline, dash, letter, modes, mark, modeCount, line, lines, lineSize, holders, total, lastLine, page}
+use Rattle.page_sets.specs.Sets.{dash, letter, modes, mark, modeCount}
+use Rattle.page_lines.specs.Lines.{space, newline, line, lines, lineSize, holders, total, lastLine}
+use Rattle.page.specs.Page.{page}
 use Rattle.page.specs.Printed.{lineChar, lastChar, place, rightShown, accessShown, IsDigit, valueOf, valueOfTwo, subjectPrinted, heldPrinted, holdersPrinted, totalPrinted}
 use Rattle.orders.proofs.Sums.{sum-same, sum-over-same}
-use Rattle.page.proofs.Sizes.{count-small, holders-small, total-small, total-in-any-order, lines-length}
+use Rattle.page_sets.proofs.Counts.{count-small}
+use Rattle.page_lines.proofs.Sizes.{holders-small, total-small, total-in-any-order, lines-length}
 
 -- ---- places
 

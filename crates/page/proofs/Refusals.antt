@@ -14,7 +14,8 @@ use Rattle.model.proofs.Tests.{apart, not-on, not-off}
 use Rattle.model.proofs.Buffers.{is-short, has-room, front-new, front-later}
 use Rattle.refusals.specs.First.{AnswersFirst, orderOf}
 use Rattle.refusals.proofs.First.{answers-end, answers-check}
-use Rattle.page.specs.Page.{page, pageSize, paging, paged}
+use Rattle.page_lines.specs.Lines.{pageSize}
+use Rattle.page.specs.Page.{page, paging, paged}
 use Rattle.page.specs.Causes.{pageCauses}
 use Rattle.page.proofs.Sizes.{page-length}
 use Rattle.page.proofs.Paging.{page-granted-front}

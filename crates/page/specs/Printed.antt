@@ -8,7 +8,8 @@ use lib.Dec.{eqb}
 use Rattle.model.specs.declared.Mode.{Mode}
 use Rattle.model.specs.declared.Mode.the-variants.{Read, Write, Append, Execute}
 use Rattle.model.specs.State.{subjectCount}
-use Rattle.page.specs.Page.{letter, lineSize}
+use Rattle.page_sets.specs.Sets.{letter}
+use Rattle.page_lines.specs.Lines.{lineSize}
 
 -- the character at a place, and one of a line
 abbrev pub charAt : List ℕ → ℕ → ℕ

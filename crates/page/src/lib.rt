@@ -1,18 +1,14 @@
 // The access page of an object: who has which rights and holds which accesses, for a terminal.
-mod last;
-mod lines;
-mod sets;
-
 ghost use mathlib.Core.Path.{_≡_};
 ghost use Rattle.unit.specs.Rows.{rowCount, stateIn};
 ghost use Rattle.page.specs.Page.{paging, paged};
-use crate::last::LAST_BYTES;
-use crate::last::last_line;
-use crate::lines::LINE_BYTES;
-use crate::lines::put_lines;
 use buffers::put_bytes;
 use model::Decision;
 use model::Monitor;
+use page_lines::LAST_BYTES;
+use page_lines::LINE_BYTES;
+use page_lines::last_line;
+use page_lines::put_lines;
 use unit::is_live;
 
 // Where the last line begins, and the size of a page.

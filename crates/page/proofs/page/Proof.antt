@@ -10,8 +10,10 @@ use Rattle.model.specs.Buffers.{put, front}
 use Rattle.model.proofs.Tests.{not-on, not-off}
 use Rattle.model.proofs.Buffers.{put-more, put-front}
 use Rattle.unit.specs.Rows.{stateIn}
-use Rattle.page.specs.Page.{page, pageSize, lines, lastLine}
-use Rattle.page.proofs.Sizes.{lines-length, page-length}
+use Rattle.page_lines.specs.Lines.{pageSize, lines, lastLine}
+use Rattle.page.specs.Page.{page}
+use Rattle.page_lines.proofs.Sizes.{lines-length}
+use Rattle.page.proofs.Sizes.{page-length}
 use Rattle.page.proofs.Paging.{page-above, page-not-live, page-short, page-done}
 use borrow.Author.Needs.{needs}
 use Rattle.page.proofs.page.Statement.{statement}

@@ -1,11 +1,11 @@
--- `page::lines::line` meets its contract.
+-- `page_lines::lines::line` meets its contract.
 -- Assumes nothing.
 use native.Mathlib.Omega.{arith}
-use Rattle.page.specs.Page.{line}
-use Rattle.page.proofs.Sizes.{count-small}
+use Rattle.page_lines.specs.Lines.{line}
+use Rattle.page_sets.proofs.Counts.{count-small}
 use borrow.Author.Needs.{needs}
-use Rattle.page.proofs.lines.line.Statement.{statement}
-use Rattle.page.proofs.lines.line.Tie as tie
+use Rattle.page_lines.proofs.lines.line.Statement.{statement}
+use Rattle.page_lines.proofs.lines.line.Tie as tie
 
 two-digits-requires : tie.Need-two-digits-requires
 two-digits-requires c κs = search needs

@@ -1,4 +1,4 @@
--- `page::last::holders` meets its contract: after s turns the holders among the subjects below s are counted.
+-- `page_lines::last::holders` meets its contract: after s turns the holders among the subjects below s are counted.
 -- Assumes nothing.
 use Prim.Native.Nat.{_-_, _+_, _≤_}
 use native.Mathlib.Omega.{arith}
@@ -9,11 +9,11 @@ use Rattle.model.specs.Modes.{has}
 use Rattle.model.specs.State.{subjectCount, object, heldBy}
 use Rattle.unit.specs.Rows.{stateIn}
 use Rattle.orders.specs.Sums.{sumBelow}
-use Rattle.page.specs.Page.{holders}
+use Rattle.page_lines.specs.Lines.{holders}
 use Rattle.orders.proofs.Sums.{no-sum, sum-more}
-use Rattle.page.proofs.Sizes.{bit-most}
-use Rattle.page.proofs.last.holders.Statement.{statement}
-use Rattle.page.proofs.last.holders.Tie as tie
+use Rattle.page_sets.proofs.Counts.{bit-most}
+use Rattle.page_lines.proofs.last.holders.Statement.{statement}
+use Rattle.page_lines.proofs.last.holders.Tie as tie
 
 abbrev Inv-loop : tie.InvT-loop
 Inv-loop unit o x count₀ s₀ count s = (s ≤ subjectCount) × (count ≤ s) × (count ≡ sumBelow s (λ t. bit (has x (heldBy (object (stateIn unit) o) t))))

@@ -1,10 +1,10 @@
--- `page::sets::bit_of` meets its contract.
+-- `page_sets::bit_of` meets its contract.
 -- Assumes nothing.
 use mathlib.Core.Path.{ap, _∙_}
 use Rattle.bits.specs.Bits.{bit}
 use borrow.Author.Needs.{needs}
-use Rattle.page.proofs.sets.bit_of.Statement.{statement}
-use Rattle.page.proofs.sets.bit_of.Tie as tie
+use Rattle.page_sets.proofs.bit_of.Statement.{statement}
+use Rattle.page_sets.proofs.bit_of.Tie as tie
 
 has-requires : tie.Need-has-requires
 has-requires c κs = search needs

@@ -1,13 +1,13 @@
--- `page::sets::count` meets its contract: the sum is at most four, and so is each part of it.
+-- `page_sets::count` meets its contract: the sum is at most four, and so is each part of it.
 -- Assumes nothing.
 use native.Mathlib.Omega.{arith}
 use Rattle.bits.specs.Bits.{bit}
 use Rattle.model.specs.Modes.{has}
-use Rattle.page.specs.Page.{modeCount}
-use Rattle.page.proofs.Sizes.{count-small, over-modes}
+use Rattle.page_sets.specs.Sets.{modeCount}
+use Rattle.page_sets.proofs.Counts.{count-small, over-modes}
 use borrow.Author.Needs.{needs}
-use Rattle.page.proofs.sets.count.Statement.{statement}
-use Rattle.page.proofs.sets.count.Tie as tie
+use Rattle.page_sets.proofs.count.Statement.{statement}
+use Rattle.page_sets.proofs.count.Tie as tie
 
 bit-of-requires : tie.Need-bit-of-requires
 bit-of-requires c κs = search needs

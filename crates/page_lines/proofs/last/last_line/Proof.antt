@@ -1,4 +1,4 @@
--- `page::last::last_line` meets its contract: the sum over the modes is the sum down the lines, and so small that no part of it overflows.
+-- `page_lines::last::last_line` meets its contract: the sum over the modes is the sum down the lines, and so small that no part of it overflows.
 -- Assumes nothing.
 use native.Mathlib.Omega.{arith}
 use mathlib.Core.Path.{_≡_, ap, _∙_}
@@ -6,11 +6,12 @@ use Rattle.bits.specs.Bits.{join}
 use Rattle.model.specs.State.{object}
 use Rattle.model.specs.Buffers.{twoDigits}
 use Rattle.unit.specs.Rows.{stateIn}
-use Rattle.page.specs.Page.{holders, total, lastLine}
-use Rattle.page.proofs.Sizes.{total-small, total-over-modes, over-modes}
+use Rattle.page_lines.specs.Lines.{holders, total, lastLine}
+use Rattle.page_sets.proofs.Counts.{over-modes}
+use Rattle.page_lines.proofs.Sizes.{total-small, total-over-modes}
 use borrow.Author.Needs.{needs}
-use Rattle.page.proofs.last.last_line.Statement.{statement}
-use Rattle.page.proofs.last.last_line.Tie as tie
+use Rattle.page_lines.proofs.last.last_line.Statement.{statement}
+use Rattle.page_lines.proofs.last.last_line.Tie as tie
 
 holders-requires : tie.Need-holders-requires
 holders-requires c κs = search needs

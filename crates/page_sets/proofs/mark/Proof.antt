@@ -1,11 +1,11 @@
--- `page::sets::mark` meets its contract.
+-- `page_sets::mark` meets its contract.
 -- Assumes nothing.
 use mathlib.Core.Path.{sym, _∙_}
 use Rattle.model.proofs.Tests.{cond-true, cond-false}
-use Rattle.page.specs.Page.{mark, letter, dash}
+use Rattle.page_sets.specs.Sets.{mark, letter, dash}
 use borrow.Author.Needs.{needs}
-use Rattle.page.proofs.sets.mark.Statement.{statement}
-use Rattle.page.proofs.sets.mark.Tie as tie
+use Rattle.page_sets.proofs.mark.Statement.{statement}
+use Rattle.page_sets.proofs.mark.Tie as tie
 
 has-requires : tie.Need-has-requires
 has-requires c κs = search needs

@@ -1,4 +1,4 @@
--- `page::lines::put_lines` meets its contract: after s turns the lines of the subjects below s are put.
+-- `page_lines::lines::put_lines` meets its contract: after s turns the lines of the subjects below s are put.
 -- Assumes nothing.
 use Prim.Native.Nat.{_-_, _*_, _≤_}
 use native.Mathlib.Omega.{arith}
@@ -9,10 +9,10 @@ use Rattle.model.specs.State.{subjectCount, object}
 use Rattle.model.specs.Buffers.{put}
 use Rattle.model.proofs.Buffers.{put-none, put-more}
 use Rattle.unit.specs.Rows.{stateIn}
-use Rattle.page.specs.Page.{line, lines}
-use Rattle.page.proofs.Sizes.{line-length, lines-length, lines-more, no-lines, lines-put}
-use Rattle.page.proofs.lines.put_lines.Statement.{statement}
-use Rattle.page.proofs.lines.put_lines.Tie as tie
+use Rattle.page_lines.specs.Lines.{line, lines}
+use Rattle.page_lines.proofs.Sizes.{line-length, lines-length, lines-more, no-lines, lines-put}
+use Rattle.page_lines.proofs.lines.put_lines.Statement.{statement}
+use Rattle.page_lines.proofs.lines.put_lines.Tie as tie
 
 abbrev Inv-loop : tie.InvT-loop
 Inv-loop out₀ unit o s₀ out s = (s ≤ subjectCount) × (out ≡ put out₀ 0 (lines (object (stateIn unit) o) s))

@@ -3,11 +3,11 @@ ghost use mathlib.Core.Path.{_≡_};
 ghost use Prim.Native.Nat.{_<_};
 ghost use Rattle.model.specs.State.{objectCount, object};
 ghost use Rattle.unit.specs.Rows.{rowCount, stateIn};
-ghost use Rattle.page.specs.Page.{holders, lastLine};
-use crate::sets::bit_of;
+ghost use Rattle.page_lines.specs.Lines.{holders, lastLine};
 use buffers::two_digits;
 use model::Mode;
 use model::Monitor;
+use page_sets::bit_of;
 use unit::held_by;
 
 pub const LAST_BYTES: usize = 18;

@@ -5,12 +5,12 @@ ghost use lib.ListN.{length};
 ghost use Rattle.model.specs.State.{subjectCount, objectCount, object};
 ghost use Rattle.model.specs.Buffers.{put};
 ghost use Rattle.unit.specs.Rows.{rowCount, stateIn};
-ghost use Rattle.page.specs.Page.{line, lines, pageSize};
-use crate::sets::count;
-use crate::sets::marks;
+ghost use Rattle.page_lines.specs.Lines.{line, lines, pageSize};
 use buffers::put_bytes;
 use buffers::two_digits;
 use model::Monitor;
+use page_sets::count;
+use page_sets::marks;
 use unit::held_by;
 use unit::rights_of;
 

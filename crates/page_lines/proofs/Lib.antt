@@ -1,0 +1,2 @@
+-- The lines of an access page: their sizes and sums.
+pub mod Sizes

@@ -1,0 +1,2 @@
+-- The lines of an access page as bytes.
+pub mod Lines

@@ -1,0 +1,2 @@
+-- How many modes a set has.
+pub mod Counts

@@ -1,0 +1,2 @@
+-- What a page shows of a set of modes.
+pub mod Sets
