@@ -1,4 +1,4 @@
--- `objects::change_level` meets its contract.
+-- `level_changes::change_level` meets its contract.
 -- Assumes nothing.
 use mathlib.Core.Path.{refl, sym, ap, ap₂, _∙_}
 use lib.ListN.{set}
@@ -13,8 +13,8 @@ use Rattle.unit.proofs.Stores.{rest-put-back}
 use Rattle.kinds.specs.Carried.{stores}
 use Rattle.kinds.proofs.Answers.{does-refused, does-granted, level-refused, level-lowered, level-last}
 use borrow.Author.Needs.{needs}
-use Rattle.objects.proofs.change_level.Statement.{statement}
-use Rattle.objects.proofs.change_level.Tie as tie
+use Rattle.level_changes.proofs.change_level.Statement.{statement}
+use Rattle.level_changes.proofs.change_level.Tie as tie
 
 by-owner-requires : tie.Need-by-owner-requires
 by-owner-requires c κs = search needs

@@ -1,4 +1,4 @@
--- `objects::label_fits` meets its contract.
+-- `level_changes::label_fits` meets its contract.
 -- Assumes nothing.
 use mathlib.Core.Path.{sym, ap, _∙_}
 use mathlib.Core.Bool.{not}
@@ -8,8 +8,8 @@ use Rattle.model.proofs.Tests.{not-on, not-off, not-not, pass, stop}
 use Rattle.star.proofs.Between.{between-all}
 use Rattle.kinds.specs.Stages.{afterChange}
 use borrow.Author.Needs.{needs}
-use Rattle.objects.proofs.label_fits.Statement.{statement}
-use Rattle.objects.proofs.label_fits.Tie as tie
+use Rattle.level_changes.proofs.label_fits.Statement.{statement}
+use Rattle.level_changes.proofs.label_fits.Tie as tie
 
 keeps-simple-requires : tie.Need-keeps-simple-requires
 keeps-simple-requires c κs = search needs
