@@ -10,8 +10,8 @@ use lib.Dec.{lit≤}
 use Rattle.bits.specs.Bits.{toBits}
 use Rattle.bits.specs.Stream.{next, ends}
 use Rattle.model.specs.Layout.{labelBits, setsBits, objectBits}
-use Rattle.writing.proofs.Words.{flag-bits}
-use Rattle.writing.proofs.Streams.{appended}
+use Rattle.record_fields.proofs.Words.{flag-bits}
+use Rattle.record_fields.proofs.Streams.{appended}
 use Rattle.model.proofs.Records.{none-bits}
 use borrow.Author.Needs.{needs}
 use Rattle.writing.proofs.write_object.Statement.{statement}

@@ -1,13 +1,13 @@
--- `writing::label_word` meets its contract.
+-- `record_fields::label_word` meets its contract.
 -- Assumes nothing.
 -- The number has the bits of the label's record, by the two cases of a label.
 -- Assumes nothing.
 use mathlib.Core.Path.{sym, ap, _∙_}
 use Rattle.model.specs.Layout.{labelBits}
-use Rattle.writing.proofs.Words.{absent-bits, present-bits}
+use Rattle.record_fields.proofs.Words.{absent-bits, present-bits}
 use borrow.Author.Needs.{needs}
-use Rattle.writing.proofs.label_word.Statement.{statement}
-use Rattle.writing.proofs.label_word.Tie as tie
+use Rattle.record_fields.proofs.label_word.Statement.{statement}
+use Rattle.record_fields.proofs.label_word.Tie as tie
 
 enum-told : tie.Need-enum-told
 enum-told c = search needs

@@ -1,4 +1,4 @@
--- `writing::write_zeros` meets its contract: the bits that fill no byte, eight, and then bytes, all 0.
+-- `empty_slots::write_zeros` meets its contract: the bits that fill no byte, eight, and then bytes, all 0.
 -- Assumes nothing.
 use Prim.Native.Nat.{ℕ, _+_, _-_, _*_, _/_, _%_, _≤_}
 use native.Mathlib.Omega.{arith}
@@ -10,10 +10,10 @@ use lib.ListN.{length, replicate}
 use borrow.Author.Needs.{needs}
 use Rattle.bits.specs.Bits.{toBits}
 use Rattle.bits.specs.Stream.{Appends, stay, next, ends}
-use Rattle.writing.proofs.Streams.{appended, appended-less}
-use Rattle.writing.proofs.Zeros.{zeros-wait, zeros-more, all-zeros}
-use Rattle.writing.proofs.write_zeros.Statement.{statement}
-use Rattle.writing.proofs.write_zeros.Tie as tie
+use Rattle.record_fields.proofs.Streams.{appended, appended-less}
+use Rattle.empty_slots.proofs.Zeros.{zeros-wait, zeros-more, all-zeros}
+use Rattle.empty_slots.proofs.write_zeros.Statement.{statement}
+use Rattle.empty_slots.proofs.write_zeros.Tie as tie
 
 -- behind the first bits and eight more, k - 1 bytes are 0, and nothing else waits
 abbrev Inv-loop : tie.InvT-loop

@@ -1,4 +1,4 @@
--- `writing::write_sets` meets its contract.
+-- `record_fields::write_sets` meets its contract.
 -- Assumes nothing.
 -- After s turns the sets of the subjects below s are appended.
 -- Assumes nothing.
@@ -15,10 +15,10 @@ use Rattle.bits.specs.Bits.{toBits}
 use Rattle.bits.specs.Stream.{Appends, stay, next, ends}
 use Rattle.model.specs.State.{subjectCount}
 use Rattle.model.specs.Layout.{pairWidth, setsBits}
-use Rattle.writing.proofs.Words.{pair-bits}
-use Rattle.writing.proofs.Streams.{appended, sets-more, no-sets}
-use Rattle.writing.proofs.write_sets.Statement.{statement}
-use Rattle.writing.proofs.write_sets.Tie as tie
+use Rattle.record_fields.proofs.Words.{pair-bits}
+use Rattle.record_fields.proofs.Streams.{appended, sets-more, no-sets}
+use Rattle.record_fields.proofs.write_sets.Statement.{statement}
+use Rattle.record_fields.proofs.write_sets.Tie as tie
 
 abbrev Inv-loop : tie.InvT-loop
 Inv-loop out₀ at acc rights held waiting₀ s₀ out waiting s =

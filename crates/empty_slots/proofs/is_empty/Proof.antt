@@ -1,4 +1,4 @@
--- `writing::is_empty` meets its contract: where every set below s is empty so far, it was seen to be.
+-- `empty_slots::is_empty` meets its contract: where every set below s is empty so far, it was seen to be.
 -- Assumes nothing.
 use Prim.Native.Nat.{ℕ, _-_, _<_, _≤_}
 use native.Mathlib.Omega.{arith}
@@ -11,8 +11,8 @@ use borrow.Author.Needs.{needs}
 use borrow.Author.Tests.{eqb-true}
 use Rattle.model.specs.State.{noModes}
 use Rattle.model.proofs.Tests.{and-left, and-right, replicate-at}
-use Rattle.writing.proofs.is_empty.Statement.{statement}
-use Rattle.writing.proofs.is_empty.Tie as tie
+use Rattle.empty_slots.proofs.is_empty.Statement.{statement}
+use Rattle.empty_slots.proofs.is_empty.Tie as tie
 
 abbrev Inv-loop : tie.InvT-loop
 Inv-loop row empty₀ s₀ empty s = (s ≤ 16) × (length row ≡ 16) × (empty ≡ true → (k : ℕ) → k < s → getD row k 0 ≡ 0)

@@ -1,4 +1,4 @@
--- `writing::is_none` meets its contract.
+-- `empty_slots::is_none` meets its contract.
 -- Assumes nothing.
 use mathlib.Core.Path.{_≡_, sym, _∙_}
 use mathlib.Core.Bool.{false, not}
@@ -10,8 +10,8 @@ use Rattle.model.specs.State.{noModes, noObject}
 use Rattle.model.proofs.Equal.{object-ext}
 use Rattle.model.proofs.Levels.{absent}
 use Rattle.model.proofs.Tests.{and-left, and-right, not-on}
-use Rattle.writing.proofs.is_none.Statement.{statement}
-use Rattle.writing.proofs.is_none.Tie as tie
+use Rattle.empty_slots.proofs.is_none.Statement.{statement}
+use Rattle.empty_slots.proofs.is_none.Tie as tie
 
 is-empty-requires : tie.Need-is-empty-requires
 is-empty-requires c κs = search needs

@@ -1,11 +1,11 @@
--- `writing::side_by_side` meets its contract.
+-- `record_fields::side_by_side` meets its contract.
 -- Assumes nothing.
 -- Two masks and a shift put the low bits of two numbers side by side.
 -- Assumes nothing.
 use native.Mathlib.Omega.{arith}
 use Rattle.bits.proofs.Machine.{low-four, low-four-lt, behind}
-use Rattle.writing.proofs.side_by_side.Statement.{statement}
-use Rattle.writing.proofs.side_by_side.Tie as tie
+use Rattle.record_fields.proofs.side_by_side.Statement.{statement}
+use Rattle.record_fields.proofs.side_by_side.Tie as tie
 
 cast-result : tie.Need-cast-result
 cast-result c = record { fits = omega (arith, low-four-lt (c .args .high)) }

@@ -11,7 +11,7 @@ use lib.Dec.{lit≤}
 use Rattle.bits.specs.Bits.{toBits, joined, waiting, stored}
 use Rattle.bits.specs.Laws.{toBits-zero}
 use Rattle.bits.specs.Stream.{Appends, stored-full, next, ends}
-use Rattle.writing.proofs.Streams.{appended}
+use Rattle.record_fields.proofs.Streams.{appended}
 
 -- whatever waited, eight bits later only they do
 pub zeros-wait : (acc : ℕ) → waiting acc 8 0 ≡ 0

@@ -1,4 +1,4 @@
--- `writing::write_label` meets its contract.
+-- `record_fields::write_label` meets its contract.
 -- Assumes nothing.
 -- Three appends, of 5, 8 and 8 bits, append the bits of the label's record.
 -- Assumes nothing.
@@ -7,11 +7,11 @@ use Prim.Native.Nat.{_+_, _/_}
 use native.Mathlib.Omega.{arith}
 use lib.Dec.{lit≤}
 use Rattle.bits.specs.Stream.{next, ends}
-use Rattle.writing.proofs.Words.{three-parts}
-use Rattle.writing.proofs.Streams.{appended}
+use Rattle.record_fields.proofs.Words.{three-parts}
+use Rattle.record_fields.proofs.Streams.{appended}
 use borrow.Author.Needs.{needs}
-use Rattle.writing.proofs.write_label.Statement.{statement}
-use Rattle.writing.proofs.write_label.Tie as tie
+use Rattle.record_fields.proofs.write_label.Statement.{statement}
+use Rattle.record_fields.proofs.write_label.Tie as tie
 
 label-word-requires : tie.Need-label-word-requires
 label-word-requires c κs = search needs
