@@ -9,13 +9,13 @@ ghost use Rattle.kinds.specs.Stages.{beforeStar};
 ghost use Rattle.kinds.specs.Carried.{Does};
 use labels::check;
 use labels::dominates;
-use labels::has;
 use labels::implies;
 use labels::is_present;
-use labels::needs_label;
 use labels::number;
-use labels::observes;
 use labels::refuses;
+use mode_sets::has;
+use mode_sets::needs_label;
+use mode_sets::observes;
 use model::Decision;
 use model::Mode;
 use model::Request;
@@ -40,7 +40,7 @@ pub fn get(unit: &mut [[u8; 16]], s: u8, o: u8, x: Mode) -> u8
         return number(d);
     }
     let had = held_by(unit, o, s);
-    let new = labels::add(x, had);
+    let new = mode_sets::add(x, had);
     set_held(unit, o, s, new);
     if needs_label(x) {
         let i = s as usize;
@@ -85,7 +85,7 @@ pub fn release(unit: &mut [[u8; 16]], s: u8, o: u8, x: Mode) -> u8
         return number(d);
     }
     let held = held_by(unit, o, s);
-    let left = labels::remove(x, held);
+    let left = mode_sets::remove(x, held);
     set_held(unit, o, s, left);
     flag(!has(x, held))
 }

@@ -1,2 +1,2 @@
--- What the machine's bits say of sets of modes and of needs.
+-- What the machine's bits say of a set within another.
 pub mod Sets

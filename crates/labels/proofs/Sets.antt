@@ -1,54 +1,17 @@
--- Sets by the machine's bits: of modes in a byte, by a test over all 256 bytes; of needs, bit by bit.
+-- A set within another by the machine's bits, of needs or of modes, bit by bit.
 -- Assumes nothing.
-use Prim.Native.Nat.{ℕ, zero, suc, _+_, _-_, _*_, _/_, _%_, _^_, _≤_, _<_, min}
+use Prim.Native.Nat.{ℕ, zero, suc, _+_, _*_, _/_, _%_, _^_, _≤_, _<_, min}
 use native.Mathlib.Nat.{pow-suc}
 use native.Mathlib.Numerals.{add-one}
 use native.Mathlib.Omega.{arith}
 use mathlib.Core.Path.{_≡_, refl, sym, ap, _∙_}
-use mathlib.Core.Bool.{Bool, true, not, _&&_, Bool·beq}
+use mathlib.Core.Bool.{_&&_}
 use lib.Dec.{leb, eqb}
-use lib.Bits.{bitAnd, bitOr, and-step, and-zero-l}
+use lib.Bits.{bitAnd, and-step, and-zero-l}
 use lib.Pow.{field, mod-mod-pow}
 use borrow.Author.Tests.{eqb-true, eqb-false, eq-eqb, ne-eqb}
-use Rattle.model.specs.declared.Mode.{Mode}
-use Rattle.model.specs.Tests.{allBelow}
 use Rattle.model.specs.Levels.{subset}
-use Rattle.model.specs.Modes.{weight, has, add, remove, anyObserves, anyNeedsLabel}
-use Rattle.model.proofs.Tests.{split, below-out, same-bool}
-use Rattle.model.proofs.Modes.{allModes, modes-out}
-
--- ---- sets of modes
-
--- a test at each mode and byte
-bytes : (f : Mode → ℕ → Bool) → allModes (λ x. allBelow 256 (f x)) ≡ true → (x : Mode) (n : ℕ) → n < 256 → f x n ≡ true
-bytes f e x n h = below-out 256 (f x) (modes-out (λ x. allBelow 256 (f x)) e x) n h
-
-pub has-and : (x : Mode) (n : ℕ) → n < 256 → not (eqb (bitAnd n (weight x)) 0) ≡ has x n
-unfolding has
-has-and x n h = same-bool _ _ (bytes (λ x n. Bool·beq (not (eqb (bitAnd n (weight x)) 0)) (has x n)) refl x n h)
-
-pub add-or : (x : Mode) (n : ℕ) → n < 256 → bitOr n (weight x) ≡ add x n
-unfolding has add
-add-or x n h = eqb-true _ _ (bytes (λ x n. eqb (bitOr n (weight x)) (add x n)) refl x n h)
-
-pub remove-and : (x : Mode) (n : ℕ) → n < 256 → n - bitAnd n (weight x) ≡ remove x n
-unfolding has remove
-remove-and x n h = eqb-true _ _ (bytes (λ x n. eqb (n - bitAnd n (weight x)) (remove x n)) refl x n h)
-
--- a test at each byte that some modes are in the set
-pub some-and : (k : ℕ) (f : ℕ → Bool) → allBelow 256 (λ n. Bool·beq (not (eqb (bitAnd n k) 0)) (f n)) ≡ true
-    → (n : ℕ) → n < 256 → not (eqb (bitAnd n k) 0) ≡ f n
-some-and k f e n h = same-bool _ _ (below-out 256 (λ n. Bool·beq (not (eqb (bitAnd n k) 0)) (f n)) e n h)
-
-pub observes-and : (n : ℕ) → n < 256 → not (eqb (bitAnd n 12) 0) ≡ anyObserves n
-unfolding has
-observes-and = some-and 12 anyObserves refl
-
-pub needs-label-and : (n : ℕ) → n < 256 → not (eqb (bitAnd n 14) 0) ≡ anyNeedsLabel n
-unfolding has
-needs-label-and = some-and 14 anyNeedsLabel refl
-
--- ---- a set within another
+use Rattle.model.proofs.Tests.{split}
 
 -- a number is kept exactly when its last bit and its half are
 join-eqb : (x r b : ℕ) → r ≤ b % 2 → eqb (x * 2 + r) b ≡ (eqb r (b % 2) && eqb x (b / 2))

@@ -1,16 +1,14 @@
-// Labels, sets of modes and answers. Each function computes the definition that its contract names, for every argument.
+// Labels and answers. Each function computes the definition that its contract names, for every argument.
 ghost use mathlib.Core.Path.{_≡_};
 ghost use mathlib.Core.Bool.{_&&_};
 ghost use Rattle.model.specs.Tests.{implies, unless};
 ghost use Rattle.model.specs.Levels.{subset, atLeast, answered, compare, equalOrAbove, dominates, present, sameLabel};
-ghost use Rattle.model.specs.Modes.{weight, has, add, remove, observes, needsLabel, anyObserves, anyNeedsLabel};
 ghost use Rattle.model.specs.Decisions.{number, refuses};
 ghost use Rattle.model.specs.Rules.{notLowered};
 use model::Comparison;
 use model::Decision;
 use model::Label;
 use model::Level;
-use model::Mode;
 
 // ---- tests
 
@@ -120,83 +118,6 @@ pub fn not_lowered(old: Label, new: Level) -> bool
     ensures { λ r. ⌜ r ≡ notLowered old (Label.Present new) ⌝ }
 {
     implies(is_present(old), dominates(Label::Present(new), old))
-}
-
-// ---- modes
-
-fn weight(x: Mode) -> u8
-    ensures { λ r. ⌜ r ≡ weight x ⌝ }
-{
-    match x {
-        Mode::Read => 8,
-        Mode::Write => 4,
-        Mode::Append => 2,
-        Mode::Execute => 1,
-    }
-}
-
-pub fn observes(x: Mode) -> bool
-    ensures { λ r. ⌜ r ≡ observes x ⌝ }
-{
-    match x {
-        Mode::Read => true,
-        Mode::Write => true,
-        Mode::Append => false,
-        Mode::Execute => false,
-    }
-}
-
-pub fn needs_label(x: Mode) -> bool
-    ensures { λ r. ⌜ r ≡ needsLabel x ⌝ }
-{
-    match x {
-        Mode::Read => true,
-        Mode::Write => true,
-        Mode::Append => true,
-        Mode::Execute => false,
-    }
-}
-
-// ---- sets of modes, one bit for each mode; also of numbers above 15, which are no sets of four modes
-
-pub fn has(x: Mode, n: u8) -> bool
-    ensures { λ r. ⌜ r ≡ has x n ⌝ }
-{
-    n & weight(x) != 0
-}
-
-pub fn add(x: Mode, n: u8) -> u8
-    ensures { λ r. ⌜ r ≡ add x n ⌝ }
-{
-    n | weight(x)
-}
-
-pub fn remove(x: Mode, n: u8) -> u8
-    ensures { λ r. ⌜ r ≡ remove x n ⌝ }
-{
-    n - (n & weight(x))
-}
-
-// r or w
-pub fn any_observes(n: u8) -> bool
-    ensures { λ r. ⌜ r ≡ anyObserves n ⌝ }
-{
-    n & 12 != 0
-}
-
-// r, w or a
-pub fn any_needs_label(n: u8) -> bool
-    ensures { λ r. ⌜ r ≡ anyNeedsLabel n ⌝ }
-{
-    n & 14 != 0
-}
-
-// Each of the four modes that is in h is in r.
-pub fn within(h: u8, r: u8) -> bool
-    ensures { λ t. ⌜ t ≡ subset 4 h r ⌝ }
-{
-    let x = h % 16;
-    x & r == x
 }
 
 // ---- answers

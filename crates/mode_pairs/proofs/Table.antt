@@ -16,7 +16,7 @@ use Rattle.model.specs.ModePairs.{Asked, neither, wanted, held, both, entry, as
 use Rattle.model.proofs.Tests.{toT}
 use Rattle.model.proofs.Modes.{modes-out}
 use Rattle.model.proofs.ModePairs.{pairs-out}
-use Rattle.labels.proofs.Sets.{some-and}
+use Rattle.mode_sets.proofs.Sets.{some-and}
 use Rattle.mode_pairs.specs.Table.{place, coded, rowAsks, modesAsking}
 
 -- ---- the table

@@ -3,9 +3,9 @@ ghost use mathlib.Core.Path.{_≡_};
 ghost use Rattle.model.specs.Modes.{anyObserves, anyAlters, anyNeedsLabel};
 ghost use Rattle.mode_pairs.specs.Table.{place, coded, rowAsks, ifAsking, modesAsking};
 ghost use Rattle.model.specs.ModePairs.{entry, kept};
-use labels::add;
 use labels::dominates;
 use labels::implies;
+use mode_sets::add;
 use model::Label;
 use model::Mode;
 

@@ -3,7 +3,7 @@ ghost use mathlib.Core.Path.{_≡_};
 ghost use Rattle.bits.specs.Bits.{bit};
 ghost use Rattle.model.specs.Modes.{has};
 ghost use Rattle.page_sets.specs.Sets.{letter, mark, marks, modeCount};
-use labels::has;
+use mode_sets::has;
 use model::Mode;
 use unit::flag;
 

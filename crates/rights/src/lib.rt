@@ -7,9 +7,9 @@ ghost use Rattle.model.specs.Rules.{checks};
 ghost use Rattle.unit.specs.Rows.{rowCount, stateIn};
 ghost use Rattle.kinds.specs.Carried.{Does};
 use labels::check;
-use labels::has;
 use labels::number;
 use labels::refuses;
+use mode_sets::has;
 use model::Decision;
 use model::Mode;
 use model::Request;
@@ -33,7 +33,7 @@ pub fn give(unit: &mut [[u8; 16]], s: u8, t: u8, o: u8, x: Mode) -> u8
         return number(d);
     }
     let rights = rights_of(unit, o, t);
-    let new = labels::add(x, rights);
+    let new = mode_sets::add(x, rights);
     set_rights(unit, o, t, new);
     flag(has(x, rights))
 }
@@ -50,8 +50,8 @@ pub fn rescind(unit: &mut [[u8; 16]], s: u8, t: u8, o: u8, x: Mode) -> u8
     }
     let rights = rights_of(unit, o, t);
     let held = held_by(unit, o, t);
-    let rights_left = labels::remove(x, rights);
-    let held_left = labels::remove(x, held);
+    let rights_left = mode_sets::remove(x, rights);
+    let held_left = mode_sets::remove(x, held);
     set_rights(unit, o, t, rights_left);
     set_held(unit, o, t, held_left);
     flag(!has(x, rights) & !has(x, held))

@@ -1,9 +1,9 @@
--- `labels::has` meets its contract.
+-- `mode_sets::has` meets its contract.
 -- Assumes nothing.
 use native.Mathlib.Omega.{arith}
-use Rattle.labels.proofs.Sets.{has-and}
-use Rattle.labels.proofs.has.Statement.{statement}
-use Rattle.labels.proofs.has.Tie as tie
+use Rattle.mode_sets.proofs.Sets.{has-and}
+use Rattle.mode_sets.proofs.has.Statement.{statement}
+use Rattle.mode_sets.proofs.has.Tie as tie
 
 weight-requires : tie.Need-weight-requires
 weight-requires c κs = tt

@@ -1,9 +1,9 @@
--- `labels::add` meets its contract.
+-- `mode_sets::add` meets its contract.
 -- Assumes nothing.
 use native.Mathlib.Omega.{arith}
-use Rattle.labels.proofs.Sets.{add-or}
-use Rattle.labels.proofs.add.Statement.{statement}
-use Rattle.labels.proofs.add.Tie as tie
+use Rattle.mode_sets.proofs.Sets.{add-or}
+use Rattle.mode_sets.proofs.add.Statement.{statement}
+use Rattle.mode_sets.proofs.add.Tie as tie
 
 weight-requires : tie.Need-weight-requires
 weight-requires c κs = tt

@@ -1,10 +1,10 @@
--- `labels::remove` meets its contract.
+-- `mode_sets::remove` meets its contract.
 -- Assumes nothing.
 use native.Mathlib.Omega.{arith}
 use lib.Bits.{and-le-l}
-use Rattle.labels.proofs.Sets.{remove-and}
-use Rattle.labels.proofs.remove.Statement.{statement}
-use Rattle.labels.proofs.remove.Tie as tie
+use Rattle.mode_sets.proofs.Sets.{remove-and}
+use Rattle.mode_sets.proofs.remove.Statement.{statement}
+use Rattle.mode_sets.proofs.remove.Tie as tie
 
 weight-requires : tie.Need-weight-requires
 weight-requires c κs = tt

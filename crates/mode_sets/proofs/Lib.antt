@@ -1,0 +1,2 @@
+-- What the machine's bits say of sets of modes.
+pub mod Sets
