@@ -8,5 +8,5 @@ pub mod Comparing
 pub mod Counts
 pub mod Labels
 pub mod StartOrders
-pub mod RightsLists
+pub mod UnitOrders
 pub mod RightsExamples

@@ -8,7 +8,6 @@ use mathlib.Core.List.{List, [], _∷_, Permᴰ·refl, List·Permᴰ·swap}
 use lib.ListN.{getD}
 use Rattle.bits.specs.Bits.{odd, toBits, fromBits, bytesToBits, field, cut, allZero}
 use Rattle.model.specs.declared.Monitor.{Monitor}
-use Rattle.model.specs.declared.Mode.{Mode}
 use Rattle.model.specs.declared.Mode.the-variants.{Read, Write, Execute}
 use Rattle.model.specs.declared.Request.the-variants.{Get, Release, Give, Rescind}
 use Rattle.model.specs.declared.Decoded.the-variants.{Says}
@@ -16,17 +15,18 @@ use Rattle.model.specs.Tests.{implies, unless}
 use Rattle.model.specs.Levels.{compare, levelDominates, dominates, sameLabel}
 use Rattle.model.specs.Modes.{has, add, remove}
 use Rattle.model.specs.State.{object, rightsOf}
-use Rattle.model.specs.Properties.{Permits}
+use Rattle.model.specs.Properties.{Holds, Permits}
 use Rattle.model.specs.Requests.{fields, modeAllowed, unusedZero, wellFormed, request, decodeFields, decode}
 use Rattle.model.specs.Rules.{simpleAll, starPair, starFrom, starFor, starAll, notLowered, changed, already, checks, answer, step}
 use Rattle.model.specs.Runs.{respond, after, replies}
 use Rattle.model.specs.Reading.{labelFrom, labelForm, tableFrom, tableForm, tableChecks, begin, readTable}
 use Rattle.model.specs.Beginnings.{Reached}
 use Rattle.model.proofs.Tests.{clash, apart}
+use Rattle.images.proofs.Reached.{reached-after}
 use Rattle.orders.specs.Orders.{Each}
 use Rattle.request_orders.specs.AnyOrder.{OrdersAgree, GrantedAt}
 use Rattle.request_orders.specs.RightsLists.{IsGive, IsRelease, NothingElse}
-use Rattle.request_orders.proofs.RightsLeft.{no-other}
+use Rattle.request_orders.proofs.RightsLists.{two-kinds}
 use Rattle.runs.specs.MarkedRun.{tableW}
 use Rattle.start_order.proofs.Examples.{bytes, made, read-1}
 use Rattle.capi.proofs.StartOrders.{there, reached-there}
@@ -46,7 +46,7 @@ give-e-itself = bytes 0x30 0x84 0x04
 unfoldable pub give-a-on : List ℕ
 give-a-on = bytes 0x31 0x00 0x03
 
--- s1 takes back from s2 w
+-- s1 rescinds w from s2
 unfoldable pub rescind-w : List ℕ
 rescind-w = bytes 0x40 0x88 0x02
 
@@ -55,7 +55,7 @@ unfoldable pub release-r : List ℕ
 release-r = bytes 0x20 0x80 0x09
 
 -- a copy of a give, or of a release, is granted too, with 1 where the first one says 0; a right that the owner has not itself is not given,
--- whichever comes first, and who is not the owner gives nothing; what is no give or release and malformed gets 2
+-- whichever comes first, and who is not the owner gives nothing; malformed bytes get 2
 pub computed : (replies (give-w ∷ give-e ∷ give-w ∷ []) there ≡ 0 ∷ 6 ∷ 1 ∷ [])
     × (replies (give-e ∷ give-e-itself ∷ give-a-on ∷ []) there ≡ 6 ∷ 6 ∷ 6 ∷ [])
     × (replies (give-e-itself ∷ give-a-on ∷ give-e ∷ []) there ≡ 6 ∷ 6 ∷ 6 ∷ [])
@@ -69,32 +69,33 @@ says : (decode give-w ≡ Says (Give 1 2 0 Write)) × (decode give-e ≡ Says (G
 unfolding give-w give-e rescind-w release-r read-1 bytesToBits toBits odd fromBits field decode decodeFields fields wellFormed modeAllowed unusedZero request
 says = (refl, refl, refl, refl, refl)
 
--- gives are no releases and releases no gives, and a list with a rescind or a get is another one
-pub kinds-apart : (IsRelease give-w → ⊥) × (IsGive release-r → ⊥) × (NothingElse rescind-w → ⊥) × (NothingElse read-1 → ⊥)
-kinds-apart = (
-  λ w. not-both (sym (says .0) ∙ w .3),
-  λ w. not-both (sym (w .3 .1) ∙ says .3),
-  λ w. clash (sym (no-other _ _ (w _ (says .2)) refl)),
-  λ w. clash (sym (no-other _ _ (w _ (says .4)) refl)),
-)
-  where
-    not-both : {a s t o p : ℕ} {x y : Mode} → Says (Give a t o x) ≡ Says (Release s p y) → ⊥
-    not-both e = let z : _≡_ {A = ℕ} 0 1 = cc in omega arith
+-- a list of gives on a state that a run reaches, with a copy and with one that is refused
+abbrev listed : List (List ℕ)
+listed = give-w ∷ give-e ∷ give-w ∷ []
 
--- a list of gives on a state that a run reaches, with a copy and with one that is refused: both copies are granted and the other is not, and the right of
--- the one is there in the end and that of the other is not
-pub gives-met : Reached there × Each IsGive (give-w ∷ give-e ∷ give-w ∷ [])
+pub gives-met : Reached there × Each IsGive listed
 gives-met = (reached-there, ((2, 0, Write, (1, says .0)), ((2, 0, Execute, (1, says .1)), ((2, 0, Write, (1, says .0)), tt))))
 
-pub gives-granted : GrantedAt (give-w ∷ give-e ∷ give-w ∷ []) there 0 × (GrantedAt (give-w ∷ give-e ∷ give-w ∷ []) there 1 → ⊥) × GrantedAt (give-w ∷ give-e ∷ give-w ∷ []) there 2
+-- both copies are granted and the other is not
+pub gives-granted : GrantedAt listed there 0 × (GrantedAt listed there 1 → ⊥) × GrantedAt listed there 2
 gives-granted = (omega (arith, at 0), λ h. omega (arith, at 1, h), omega (arith, at 2))
   where
-    at : (i : ℕ) → getD (replies (give-w ∷ give-e ∷ give-w ∷ []) there) i 2 ≡ getD (0 ∷ 6 ∷ 1 ∷ []) i 2
+    at : (i : ℕ) → getD (replies listed there) i 2 ≡ getD (0 ∷ 6 ∷ 1 ∷ []) i 2
     at i = ap (λ (l : List ℕ). getD l i 2) (computed .0)
 
-pub rights-there : Permits (after (give-w ∷ give-e ∷ give-w ∷ []) there) 2 0 Write × (has Execute (rightsOf (object (after (give-w ∷ give-e ∷ give-w ∷ []) there) 0) 2) ≡ false)
+-- the right of the one is there in the end, and that of the other is not
+pub rights-there : Permits (after listed there) 2 0 Write × (has Execute (rightsOf (object (after listed there) 0) 2) ≡ false)
 unfolding give-w give-e there tableW tableFrom tableForm labelForm labelFrom tableChecks begin readTable allZero cut made bytesToBits toBits odd fromBits field decode decodeFields fields wellFormed modeAllowed unusedZero request respond step after checks already changed starAll starFor starFrom starPair implies unless answer simpleAll notLowered has add remove sameLabel dominates levelDominates compare
 rights-there = (refl, refl)
+
+-- a list of releases, of an access that is held
+pub releases-met : Reached (after (read-1 ∷ []) there) × Holds (after (read-1 ∷ []) there) 1 1 Read × Each IsRelease (release-r ∷ release-r ∷ [])
+unfolding there give-w give-e give-e-itself give-a-on release-r replies tableW tableFrom tableForm labelForm labelFrom tableChecks begin readTable allZero cut made read-1 bytesToBits toBits odd fromBits field decode decodeFields fields wellFormed modeAllowed unusedZero request respond step after checks already changed starAll starFor starFrom starPair implies unless answer simpleAll notLowered has add remove sameLabel dominates levelDominates compare
+releases-met = (reached-after there reached-there (read-1 ∷ []), refl, ((1, 1, Read, says .3), ((1, 1, Read, says .3), tt)))
+
+-- a rescind and a get stand in no such list
+pub kinds-apart : (NothingElse rescind-w → ⊥) × (NothingElse read-1 → ⊥)
+kinds-apart = (λ w. clash (sym (two-kinds _ (w _ (says .2)))), λ w. clash (sym (two-kinds _ (w _ (says .4)))))
 
 -- with a rescind among them the order matters: the last of the two decides
 last-decides : (has Write (rightsOf (object (after (give-w ∷ rescind-w ∷ []) there) 0) 2) ≡ false) × (has Write (rightsOf (object (after (rescind-w ∷ give-w ∷ []) there) 0) 2) ≡ true)

@@ -3,3 +3,4 @@ pub mod Boundary
 pub mod Calls
 pub mod UnitRuns
 pub mod Comparing
+pub mod UnitOrders

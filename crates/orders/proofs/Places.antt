@@ -3,11 +3,11 @@
 use Prim.Native.Nat.{ℕ, zero, suc, _<_}
 use native.Mathlib.Nat.{le-of-suc-le-suc, not-suc-le-zero}
 use native.Mathlib.Omega.{arith}
-use mathlib.Core.Path.{refl, subst}
+use mathlib.Core.Path.{refl, sym, subst}
 use mathlib.Core.Logic.{inl, inr}
 use mathlib.Core.List.{List, [], _∷_, List·Permᴰ·nil, List·Permᴰ·cons, List·Permᴰ·swap, List·Permᴰ·trans, Permᴰ·refl}
 use lib.ListN.{length, getD}
-use Rattle.orders.specs.Orders.{OrderOf, Each, Some}
+use Rattle.orders.specs.Orders.{OrderOf, Each, Some, StandsIn}
 
 -- what holds of each element holds of each in every order
 pub each-order : {A : Type 0} (P : A → Type 0) {xs ys : List A} → OrderOf xs ys → Each P xs → Each P ys
@@ -21,11 +21,38 @@ pub each-map : {A : Type 0} {P Q : A → Type 0} → ((x : A) → P x → Q x) �
 each-map f [] p = tt
 each-map f (x ∷ xs) p = (f x (p .0), each-map f xs (p .1))
 
--- what holds of some, beside what holds of each
-pub each-some : {A : Type 0} {P Q R : A → Type 0} → ((x : A) → P x → Q x → R x) → (xs : List A) → Each P xs → Some Q xs → Some R xs
-each-some f [] p q = q
-each-some f (x ∷ xs) p (inl q) = inl (f x (p .0) q)
-each-some f (x ∷ xs) p (inr q) = inr (each-some f xs (p .1) q)
+-- what holds of some element holds of some in every order
+pub some-order : {A : Type 0} (P : A → Type 0) {xs ys : List A} → OrderOf xs ys → Some P xs → Some P ys
+some-order P List·Permᴰ·nil q = q
+some-order P (List·Permᴰ·cons e d) (inl q) = inl (subst P e q)
+some-order P (List·Permᴰ·cons e d) (inr q) = inr (some-order P d q)
+some-order P (List·Permᴰ·swap e f) (inl q) = inr (inl (subst P e q))
+some-order P (List·Permᴰ·swap e f) (inr (inl q)) = inl (subst P f q)
+some-order P (List·Permᴰ·swap e f) (inr (inr q)) = inr (inr q)
+some-order P (List·Permᴰ·trans d k) q = some-order P k (some-order P d q)
+
+-- what follows for one element of which both are so
+pub some-out : {A B : Type 0} {P Q : A → Type 0} → ((x : A) → P x → Q x → B) → (xs : List A) → Each P xs → Some Q xs → B
+some-out f [] p q = absurd q
+some-out f (x ∷ xs) p (inl q) = f x (p .0) q
+some-out f (x ∷ xs) p (inr q) = some-out f xs (p .1) q
+
+-- an element that stands in a list: what holds of each holds of it, and what holds of it holds of some
+pub each-of : {A : Type 0} (P : A → Type 0) {x : A} (xs : List A) → Each P xs → StandsIn x xs → P x
+each-of P xs p = some-out (λ y q e. subst P e q) xs p
+
+pub some-of : {A : Type 0} (P : A → Type 0) {x : A} (xs : List A) → StandsIn x xs → P x → Some P xs
+some-of P [] q p = q
+some-of P (y ∷ ys) (inl e) p = inl (subst P (sym e) p)
+some-of P (y ∷ ys) (inr q) p = inr (some-of P ys q p)
+
+-- each element of a list stands in every longer one
+stands-behind : {A : Type 0} (y : A) (xs zs : List A) → Each (λ x. StandsIn x zs) xs → Each (λ x. StandsIn x (y ∷ zs)) xs
+stands-behind y xs zs = each-map (λ x q. inr q) xs
+
+pub each-stands : {A : Type 0} (xs : List A) → Each (λ x. StandsIn x xs) xs
+each-stands [] = tt
+each-stands (x ∷ xs) = (inl refl, stands-behind x xs xs (each-stands xs))
 
 module _ {A : Type 0} (d : A) where
   pub each-at : (P : A → Type 0) (xs : List A) → Each P xs → (i : ℕ) → i < length xs → P (getD xs i d)

@@ -1,6 +1,7 @@
 -- Orders of a list.
 -- Assumes nothing.
 use Prim.Native.Nat.{ℕ}
+use mathlib.Core.Path.{_≡_}
 use mathlib.Core.Bool.{Bool}
 use mathlib.Core.Logic.{_⊎_}
 use mathlib.Core.List.{List, [], _∷_, List·Permᴰ}
@@ -25,3 +26,7 @@ Each P (x ∷ xs) = P x × Each P xs
 abbrev pub Some : {A : Type 0} → (A → Type 0) → List A → Type 0
 Some P [] = ⊥
 Some P (x ∷ xs) = P x ⊎ Some P xs
+
+-- it is an element of the list
+abbrev pub StandsIn : {A : Type 0} → A → List A → Type 0
+StandsIn x xs = Some (λ y. y ≡ x) xs

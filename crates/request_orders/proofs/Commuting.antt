@@ -24,7 +24,7 @@ use Rattle.invariants.proofs.Outcomes.{reply-granted}
 use Rattle.images.proofs.Reached.{respond-says}
 use Rattle.orders.specs.Orders.{OrderOf, Each}
 use Rattle.orders.proofs.Places.{each-order}
-use Rattle.request_orders.specs.AnyOrder.{GrantedAt, AnyOrder}
+use Rattle.request_orders.specs.AnyOrder.{IsGranted, GrantedAt, AnyOrder}
 
 -- requests on a monitor m: I holds of the states that they may pass through, Q of the requests themselves
 pub record Commuting (m : Monitor) (I : Monitor → Type 0) (Q : Request → Type 0) : Type 0 where
@@ -101,7 +101,7 @@ module _ (m : Monitor) (I : Monitor → Type 0) (Q : Request → Type 0) (S : Co
 
   -- a reply is 0 or 1 exactly where it is if the bytes came alone
   granted-turn : (d : Decoded) → Only Q d → (n : Monitor) → I n
-      → (number (carryOut d n .decision) < 2) ↔ (number (carryOut d m .decision) < 2)
+      → IsGranted (number (carryOut d n .decision)) ↔ IsGranted (number (carryOut d m .decision))
   granted-turn Malformed w n i = (λ h. h, λ h. h)
   granted-turn (Says q) w n i =
       let same = S .alone q n (w q refl) i in
@@ -115,7 +115,7 @@ module _ (m : Monitor) (I : Monitor → Type 0) (Q : Request → Type 0) (S : Co
   unfolding respond
   two-comm b c = turns-comm (decode b) (decode c)
 
-  pub granted-one : (b : List ℕ) → Saying Q b → (n : Monitor) → I n → (reply b n < 2) ↔ (reply b m < 2)
+  pub granted-one : (b : List ℕ) → Saying Q b → (n : Monitor) → I n → IsGranted (reply b n) ↔ IsGranted (reply b m)
   unfolding respond
   granted-one b = granted-turn (decode b)
 
@@ -138,7 +138,7 @@ module _ (m : Monitor) (I : Monitor → Type 0) (Q : Request → Type 0) (S : Co
   after-order (List·Permᴰ·trans d k) p n i = after-order d p n i ∙ after-order k (each-order (Saying Q) d p) n i
 
   -- at each place of a list what is granted is granted alone
-  granted-at : (bs : List (List ℕ)) → Each (Saying Q) bs → (n : Monitor) → I n → (i : ℕ) → i < length bs → GrantedAt bs n i ↔ (reply (getD bs i []) m < 2)
+  granted-at : (bs : List (List ℕ)) → Each (Saying Q) bs → (n : Monitor) → I n → (i : ℕ) → i < length bs → GrantedAt bs n i ↔ IsGranted (reply (getD bs i []) m)
   unfolding replies
   granted-at [] p n w i h = absurd (not-suc-le-zero h)
   granted-at (b ∷ bs) p n w zero h = granted-one b (p .0) n w
@@ -146,7 +146,7 @@ module _ (m : Monitor) (I : Monitor → Type 0) (Q : Request → Type 0) (S : Co
 
   -- in every order, and with it granted in two orders or refused in both
   module _ (bs : List (List ℕ)) (p : Each (Saying Q) bs) where
-    pub granted-alone : (cs : List (List ℕ)) → OrderOf bs cs → (i : ℕ) → i < length cs → GrantedAt cs m i ↔ (reply (getD cs i []) m < 2)
+    pub granted-alone : (cs : List (List ℕ)) → OrderOf bs cs → (i : ℕ) → i < length cs → GrantedAt cs m i ↔ IsGranted (reply (getD cs i []) m)
     granted-alone cs c = granted-at cs (each-order (Saying Q) c p) m (S .start)
 
     pub any-order : AnyOrder bs m
@@ -156,7 +156,7 @@ module _ (m : Monitor) (I : Monitor → Type 0) (Q : Request → Type 0) (S : Co
           grants = λ cs ds c d i j h k e.
               let here = granted-alone cs c i h in
               let there = granted-alone ds d j k in (
-                λ g. there .1 (subst (λ (b : List ℕ). reply b m < 2) e (here .0 g)),
-                λ g. here .1 (subst (λ (b : List ℕ). reply b m < 2) (sym e) (there .0 g)),
+                λ g. there .1 (subst (λ (b : List ℕ). IsGranted (reply b m)) e (here .0 g)),
+                λ g. here .1 (subst (λ (b : List ℕ). IsGranted (reply b m)) (sym e) (there .0 g)),
               );
         }

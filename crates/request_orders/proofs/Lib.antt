@@ -12,3 +12,4 @@ pub mod StartOrder
 pub mod Owners
 pub mod RightsLists
 pub mod RightsLeft
+pub mod RightsAgain

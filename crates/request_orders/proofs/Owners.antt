@@ -98,8 +98,8 @@ module _ (m : Monitor) where
   -- two of them do the same in both orders
   two-comm : (q r : Request) (n : Monitor) → GiveOrRelease q → GiveOrRelease r → OwnersKept m n → afterwards q (afterwards r n) ≡ afterwards r (afterwards q n)
   two-comm _ _ n (give a s o x) (give b t p y) P = gives-comm n (P .sound .formed) a s o x b t p y
-  two-comm _ _ n (give a s o x) (release t p y) P = give-release-comm n (P .sound .formed) a s o x t p y
-  two-comm _ _ n (release s o x) (give b t p y) P = sym (give-release-comm n (P .sound .formed) b t p y s o x)
+  two-comm _ _ n (give a s o x) (release t p y) P = give-release-comm n a s o x t p y
+  two-comm _ _ n (release s o x) (give b t p y) P = sym (give-release-comm n b t p y s o x)
   two-comm _ _ n (release s o x) (release t p y) P = releases-comm n (P .sound .formed) s o x t p y
 
   pub rights-commuting : Sound m → Commuting m (OwnersKept m) Ranged

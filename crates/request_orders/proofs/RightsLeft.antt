@@ -1,18 +1,18 @@
 -- What a list of gives and releases leaves, said without an order.
 -- Assumes nothing.
-use Prim.Native.Nat.{ℕ, _<_}
+use Prim.Native.Nat.{ℕ}
 use native.Mathlib.Omega.{arith}
 use mathlib.Core.Path.{_≡_, refl, sym, ap, _∙_, subst}
 use mathlib.Core.Logic.{_↔_, _⊎_, inl, inr, ⊎-elim}
-use mathlib.Core.Bool.{Bool, true, false}
-use mathlib.Core.List.{List, [], _∷_, Permᴰ·refl}
+use mathlib.Core.Bool.{true, false}
+use mathlib.Core.List.{List, [], _∷_, Permᴰ·symm}
 use lib.ListN.{getD}
 use Rattle.model.specs.declared.Subject.{Subject}
 use Rattle.model.specs.declared.Object.{Object}
 use Rattle.model.specs.declared.Monitor.{Monitor}
 use Rattle.model.specs.declared.Mode.{Mode}
 use Rattle.model.specs.declared.Request.{Request}
-use Rattle.model.specs.declared.Request.the-variants.{Get, Release, Give, Rescind, Create, Delete, ChangeLevel}
+use Rattle.model.specs.declared.Request.the-variants.{Release, Give}
 use Rattle.model.specs.declared.Decoded.{Decoded}
 use Rattle.model.specs.declared.Decoded.the-variants.{Malformed, Says}
 use Rattle.model.specs.declared.Decision.the-variants.{Granted}
@@ -38,25 +38,12 @@ use Rattle.effects.specs.Effects.{Effect, GivesRight}
 use Rattle.effects.proofs.Effects.{granted-effect}
 use Rattle.effects.proofs.Frames.{right-by-give, right-kept, access-by-get, access-kept}
 use Rattle.orders.specs.Orders.{OrderOf, Each, Some}
-use Rattle.orders.proofs.Places.{each-some}
-use Rattle.request_orders.specs.RightsLists.{Gives, Releases, GiveOrRelease, give, release, NothingElse, Left}
-use Rattle.request_orders.proofs.Commuting.{Commuting, Only, Saying, says-one, keeps-step, keeps-one, granted-one, keeps-all}
+use Rattle.orders.proofs.Places.{each-order, some-order}
+use Rattle.request_orders.specs.AnyOrder.{IsGranted, OrdersAgree}
+use Rattle.request_orders.specs.RightsLists.{Gives, Releases, NothingElse, Left}
+use Rattle.request_orders.proofs.Commuting.{Commuting, Only, Saying, says-one, keeps-step, keeps-one, keeps-all}
 use Rattle.request_orders.proofs.Owners.{OwnersKept, Ranged, same-checks, rights-commuting}
-use Rattle.request_orders.proofs.RightsLists.{ranged, rights-any-order}
-
--- no give or release is of another kind
-abbrev pub giveOrRelease : Request → Bool
-giveOrRelease (Get s o x) = false
-giveOrRelease (Release s o x) = true
-giveOrRelease (Give s t o x) = true
-giveOrRelease (Rescind s t o x) = false
-giveOrRelease (Create s o c) = false
-giveOrRelease (Delete s o) = false
-giveOrRelease (ChangeLevel s o l) = false
-
-pub no-other : (q r : Request) → GiveOrRelease q → q ≡ r → giveOrRelease r ≡ true
-no-other _ r (give s t o x) e = sym (ap giveOrRelease e)
-no-other _ r (release s o x) e = sym (ap giveOrRelease e)
+use Rattle.request_orders.proofs.RightsLists.{ranged, of-kind}
 
 -- on an object that is not live nobody has a right, and nobody holds an access
 none-there : {P : Type 0} (row : Object → List ℕ) → row noObject ≡ noModes → (n : Monitor) → WellFormed n → (t o : ℕ) (x : Mode)
@@ -91,7 +78,7 @@ module _ (m : Monitor) (S : Sound m) where
               (λ g. ⊎-elim (λ p. inl p) (λ k. inr (k, sym (same-checks m q n (w .1) P) ∙ g)) (right-by-give q n formed o live (same-life ∙ live) t x h))
               (λ k. inl (subst (λ (r : Response). Permits (r .monitor) t o x) (step-refused q n k) h)),
           ⊎-elim
-              (λ h. ⊎-elim (λ p. p) (λ k. clash (sym (no-other q (Rescind (k .0) t o x) (w .1) (k .1)))) (right-kept q n formed o live (same-life ∙ live) t x h))
+              (λ h. ⊎-elim (λ p. p) (λ k. clash (sym (of-kind q _ (w .1) (k .1)))) (right-kept q n formed o live (same-life ∙ live) t x h))
               (λ k. subst (λ (r : Request). Effect r (step q n .monitor)) (k .0 .1) (granted-effect n formed q (w .0) (same-checks m q n (w .1) P ∙ k .1))),
         ))
         (λ dead. (
@@ -110,9 +97,9 @@ module _ (m : Monitor) (S : Sound m) where
                 λ e. subst (λ (r : Request). Effect r (step q n .monitor)) e (granted-effect n formed q (w .0)
                     (subst (λ (r : Request). checks r n ≡ Granted) (sym e) (grants-release n s o x (record { there = holder-enrolled n formed s o x p; live = live })))) h,
               ))
-              (λ k. clash (sym (no-other q (Get s o x) (w .1) k))) (access-by-get q n formed o live (same-life ∙ live) s x h),
+              (λ k. clash (sym (of-kind q _ (w .1) k))) (access-by-get q n formed o live (same-life ∙ live) s x h),
           λ h. ⊎-elim (λ p. p)
-              (λ k. absurd (⊎-elim (h .1) (λ j. clash (sym (no-other q (Rescind (j .0) s o x) (w .1) (j .1)))) k)) (access-kept q n formed o live (same-life ∙ live) s x (h .0)),
+              (λ k. absurd (⊎-elim (h .1) (λ j. clash (sym (of-kind q _ (w .1) (j .1)))) k)) (access-kept q n formed o live (same-life ∙ live) s x (h .0)),
         ))
         (λ dead. (
           λ h. none-there (λ ob. ob .held) refl (step q n .monitor) (kept .sound .formed) s o x (same-life ∙ dead) h,
@@ -125,7 +112,7 @@ module _ (m : Monitor) (S : Sound m) where
   says-give q t o x = (λ k. (k .0, ap Says (k .1)), λ k. (k .0, says-one refl (k .1)))
 
   right-turn : (d : Decoded) → Only Ranged d → (n : Monitor) → OwnersKept m n → (t o : ℕ) (x : Mode)
-      → Permits (carryOut d n .monitor) t o x ↔ (Permits n t o x ⊎ (((s : ℕ) × (d ≡ Says (Give s t o x))) × (number (carryOut d m .decision) < 2)))
+      → Permits (carryOut d n .monitor) t o x ↔ (Permits n t o x ⊎ (((s : ℕ) × (d ≡ Says (Give s t o x))) × IsGranted (number (carryOut d m .decision))))
   right-turn Malformed w n P t o x = (λ h. inl h, ⊎-elim (λ h. h) (λ k. absurd (omega (arith, k .1))))
   right-turn (Says q) w n P t o x =
       let one = right-step q (w q refl) n P o t x in
@@ -145,7 +132,7 @@ module _ (m : Monitor) (S : Sound m) where
   -- ---- lists
 
   rights-all : (bs : List (List ℕ)) → Each (Saying Ranged) bs → (n : Monitor) → OwnersKept m n → (t o : ℕ) (x : Mode)
-      → Permits (after bs n) t o x ↔ (Permits n t o x ⊎ Some (λ b. Gives t o x b × (reply b m < 2)) bs)
+      → Permits (after bs n) t o x ↔ (Permits n t o x ⊎ Some (λ b. Gives t o x b × IsGranted (reply b m)) bs)
   unfolding after respond
   rights-all [] p n P t o x = (λ h. inl h, ⊎-elim (λ h. h) (λ k. absurd k))
   rights-all (b ∷ bs) p n P t o x =
@@ -171,16 +158,22 @@ pub rights-left : (m : Monitor) → Reached m → (bs : List (List ℕ)) → Eac
 rights-left m r bs p cs c =
     let S = sound-reached m r in
     let C = rights-commuting m S in
-    let K = keeps-all m (OwnersKept m) Ranged C bs (ranged bs p) m (C .start) in
-    subst (Left bs m) (rights-any-order m r bs p .states bs cs (Permᴰ·refl bs) c)
-    (record {
-      rights = rights-all m S bs (ranged bs p) m (C .start);
-      accesses = accesses-all m S bs (ranged bs p) m (C .start);
+    let v = each-order (Saying Ranged) c (ranged bs p) in
+    let K = keeps-all m (OwnersKept m) Ranged C cs v m (C .start) in
+    let back = Permᴰ·symm c in
+    record {
+      rights = λ t o x.
+          let here = rights-all m S cs v m (C .start) t o x in
+          (λ h. ⊎-elim (λ k. inl k) (λ k. inr (some-order _ back k)) (here .0 h), λ h. here .1 (⊎-elim (λ k. inl k) (λ k. inr (some-order _ c k)) h));
+      accesses = λ s o x.
+          let here = accesses-all m S cs v m (C .start) s o x in
+          let none : List ℕ → Type 0 = λ b. Releases s o x b → ⊥ in
+          (λ h. let k = here .0 h in (k .0, each-order none back (k .1)), λ h. here .1 (h .0, each-order none c (h .1)));
       subjects = K .subjects;
       lives = λ o. K .objects o .live;
       owners = λ o. K .objects o .owner;
       labels = λ o. K .objects o .label;
-    })
+    }
 
 -- and that is all of the state: two well-formed states of which it is so are one
 pub left-one : (bs : List (List ℕ)) (m n k : Monitor) → WellFormed n → WellFormed k → Left bs m n → Left bs m k → n ≡ k
@@ -191,25 +184,8 @@ left-one bs m n k N K L M =
     (λ t h x. bool-ext _ _ (λ e. M .rights t o x .1 (L .rights t o x .0 e)) (λ e. L .rights t o x .1 (M .rights t o x .0 e)))
     (λ s h x. bool-ext _ _ (λ e. M .accesses s o x .1 (L .accesses s o x .0 e)) (λ e. L .accesses s o x .1 (M .accesses s o x .0 e))))
 
--- a list that comes again, in whatever order, changes nothing
-pub rights-again : (m : Monitor) → Reached m → (bs : List (List ℕ)) → Each NothingElse bs → (cs : List (List ℕ)) → OrderOf bs cs → after cs (after bs m) ≡ after bs m
-rights-again m r bs p cs c =
-    let S = sound-reached m r in
-    let C = rights-commuting m S in
-    let n = after bs m in
-    let K = keeps-all m (OwnersKept m) Ranged C bs (ranged bs p) m (C .start) in
-    let L = rights-left m r bs p bs (Permᴰ·refl bs) in
-    let T = reached-after m r bs in
-    let same : Left bs n n = record {
-      rights = λ t o x. (
-        λ h. inl h,
-        ⊎-elim (λ h. h) (λ k. L .rights t o x .1 (inr
-            (each-some (λ b w j. (j .0, granted-one m (OwnersKept m) Ranged C b w n K .0 (j .1))) bs (ranged bs p) k))),
-      );
-      accesses = λ s o x. (λ h. (h, L .accesses s o x .0 h .1), λ h. h .0);
-      subjects = refl;
-      lives = λ o. refl;
-      owners = λ o. refl;
-      labels = λ o. refl;
-    } in
-    left-one bs n (after cs n) n (sound-reached (after cs n) (reached-after n T cs) .formed) (K .sound .formed) (rights-left n T bs p cs c) same
+-- so the order does not matter for the state: this once more, from what single requests do
+pub left-agree : (m : Monitor) → Reached m → (bs : List (List ℕ)) → Each NothingElse bs → OrdersAgree bs m
+left-agree m r bs p cs ds c d =
+    let formed : (es : List (List ℕ)) → WellFormed (after es m) = λ es. sound-reached (after es m) (reached-after m r es) .formed in
+    left-one bs m (after cs m) (after ds m) (formed cs) (formed ds) (rights-left m r bs p cs c) (rights-left m r bs p ds d)

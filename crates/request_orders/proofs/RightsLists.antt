@@ -5,12 +5,13 @@ use native.Mathlib.Nat.{le-of-suc-le-suc, not-suc-le-zero}
 use native.Mathlib.Omega.{arith}
 use mathlib.Core.Path.{_≡_, refl, sym, ap, _∙_, subst}
 use mathlib.Core.Logic.{_↔_, _⊎_, inl, inr, ⊎-elim}
+use mathlib.Core.Bool.{Bool, true, false}
 use mathlib.Core.List.{List, [], _∷_, Permᴰ·refl}
 use lib.ListN.{length, getD}
 use Rattle.model.specs.declared.Monitor.{Monitor}
 use Rattle.model.specs.declared.Mode.{Mode}
 use Rattle.model.specs.declared.Request.{Request}
-use Rattle.model.specs.declared.Request.the-variants.{Release, Give}
+use Rattle.model.specs.declared.Request.the-variants.{Get, Release, Give, Rescind, Create, Delete, ChangeLevel}
 use Rattle.model.specs.declared.Decoded.{Decoded}
 use Rattle.model.specs.declared.Decoded.the-variants.{Malformed, Says}
 use Rattle.model.specs.declared.Response.{Response}
@@ -25,12 +26,12 @@ use Rattle.invariants.proofs.Outcomes.{reply-granted}
 use Rattle.images.proofs.Reached.{sound-reached}
 use Rattle.orders.specs.Orders.{OrderOf, Each}
 use Rattle.orders.proofs.Places.{each-order, each-map}
-use Rattle.request_orders.specs.AnyOrder.{GrantedAt, AnyOrder}
+use Rattle.request_orders.specs.AnyOrder.{IsGranted, GrantedAt, AnyOrder}
 use Rattle.request_orders.specs.RightsLists.{IsGive, IsRelease, GiveOrRelease, give, release, NothingElse}
 use Rattle.request_orders.proofs.Commuting.{Only, Saying, says-one, keeps-one, granted-alone, any-order}
 use Rattle.request_orders.proofs.Owners.{OwnersKept, Ranged, same-checks, rights-commuting}
 
--- what its bytes say is in range
+-- what the bytes of such a list say is in range
 pub ranged : (bs : List (List ℕ)) → Each NothingElse bs → Each (Saying Ranged) bs
 ranged = each-map (λ b w q e. (decode-range b q e, w q e))
 
@@ -40,7 +41,7 @@ rights-any-order m r bs p = any-order m (OwnersKept m) Ranged (rights-commuting 
 
 -- in every order each is granted exactly where it is granted if it came alone
 pub rights-granted-alone : (m : Monitor) → Reached m → (bs : List (List ℕ)) → Each NothingElse bs
-    → (cs : List (List ℕ)) → OrderOf bs cs → (i : ℕ) → i < length cs → GrantedAt cs m i ↔ (reply (getD cs i []) m < 2)
+    → (cs : List (List ℕ)) → OrderOf bs cs → (i : ℕ) → i < length cs → GrantedAt cs m i ↔ IsGranted (reply (getD cs i []) m)
 rights-granted-alone m r bs p = granted-alone m (OwnersKept m) Ranged (rights-commuting m (sound-reached m r)) bs (ranged bs p)
 
 -- ---- refused ones
@@ -73,10 +74,10 @@ rights-refused-alone m r bs p cs c =
 
 -- ---- the two laws of the request
 
-pub gives-only : (bs : List (List ℕ)) → Each IsGive bs → Each NothingElse bs
+gives-only : (bs : List (List ℕ)) → Each IsGive bs → Each NothingElse bs
 gives-only = each-map (λ b w q e. subst GiveOrRelease (says-one (w .3 .1) e) (give (w .3 .0) (w .0) (w .1) (w .2)))
 
-pub releases-only : (bs : List (List ℕ)) → Each IsRelease bs → Each NothingElse bs
+releases-only : (bs : List (List ℕ)) → Each IsRelease bs → Each NothingElse bs
 releases-only = each-map (λ b w q e. subst GiveOrRelease (says-one (w .3) e) (release (w .0) (w .1) (w .2)))
 
 -- "Any two orders of one list of gives must leave equal states, and each give must be granted in both or refused in both"
@@ -87,7 +88,7 @@ gives-any-order m r bs p = rights-any-order m r bs (gives-only bs p)
 pub releases-any-order : (m : Monitor) → Reached m → (bs : List (List ℕ)) → Each IsRelease bs → AnyOrder bs m
 releases-any-order m r bs p = rights-any-order m r bs (releases-only bs p)
 
--- "Copies of one give": every copy is granted, or every copy refused, in one order as in two
+-- every copy of one is granted, or every copy refused, in one order as in two
 pub each-copy : (m : Monitor) → Reached m → (bs : List (List ℕ)) → Each NothingElse bs → (i j : ℕ) → i < length bs → j < length bs
     → getD bs i [] ≡ getD bs j [] → (getD (replies bs m) i 2 < 2) ↔ (getD (replies bs m) j 2 < 2)
 each-copy m r bs p = rights-any-order m r bs p .grants bs bs (Permᴰ·refl bs) (Permᴰ·refl bs)
@@ -101,16 +102,17 @@ every-give s t o x r = (t, o, x, (s, encode-decode (Give s t o x) r))
 pub every-release : (s o : ℕ) (x : Mode) → InRange (Release s o x) → IsRelease (encode (Release s o x))
 every-release s o x r = (s, o, x, encode-decode (Release s o x) r)
 
+-- malformed bytes say nothing
+not-said : {d : Decoded} {q : Request} → d ≡ Malformed → d ≡ Says q → ⊥
+not-said e f = let z : _≡_ {A = ℕ} 0 1 = cc in omega arith
+
 -- and nothing else stands in a list that has both but malformed bytes
 pub nothing-else-exactly : (b : List ℕ) → NothingElse b ↔ (IsGive b ⊎ IsRelease b ⊎ (decode b ≡ Malformed))
 nothing-else-exactly b = (
   go (decode b) refl,
-  ⊎-elim (λ w. gives-only (b ∷ []) (w, tt) .0) (⊎-elim (λ w. releases-only (b ∷ []) (w, tt) .0) (λ e q f. absurd (never e f))),
+  ⊎-elim (λ w. gives-only (b ∷ []) (w, tt) .0) (⊎-elim (λ w. releases-only (b ∷ []) (w, tt) .0) (λ e q f. absurd (not-said e f))),
 )
   where
-    never : {q : Request} → decode b ≡ Malformed → decode b ≡ Says q → ⊥
-    never e f = let z : _≡_ {A = ℕ} 0 1 = cc in omega arith
-
     named : (q : Request) → decode b ≡ Says q → GiveOrRelease q → IsGive b ⊎ IsRelease b ⊎ (decode b ≡ Malformed)
     named _ e (give s t o x) = inl (t, o, x, (s, e))
     named _ e (release s o x) = inr (inl (s, o, x, e))
@@ -118,3 +120,31 @@ nothing-else-exactly b = (
     go : (d : Decoded) → decode b ≡ d → NothingElse b → IsGive b ⊎ IsRelease b ⊎ (decode b ≡ Malformed)
     go Malformed e w = inr (inr e)
     go (Says q) e w = named q e (w q e)
+
+-- gives, releases and malformed bytes are three kinds
+pub apart-kinds : (b : List ℕ) → (IsGive b → IsRelease b → ⊥) × (IsGive b → decode b ≡ Malformed → ⊥) × (IsRelease b → decode b ≡ Malformed → ⊥)
+apart-kinds b = (λ v w. give-release (v .3 .1) (w .3), λ v e. not-said e (v .3 .1), λ v e. not-said e (v .3))
+  where
+    give-release : {s t o u p : ℕ} {x y : Mode} → decode b ≡ Says (Give s t o x) → decode b ≡ Says (Release u p y) → ⊥
+    give-release e f = let z : _≡_ {A = ℕ} 0 1 = cc in omega arith
+
+-- and what says another request is none of them
+pub no-other-kind : (b : List ℕ) (q : Request) → decode b ≡ Says q → NothingElse b ↔ GiveOrRelease q
+no-other-kind b q e = (λ w. w q e, λ g r f. subst GiveOrRelease (says-one e f) g)
+
+-- of the seven kinds these are two
+abbrev pub giveOrRelease : Request → Bool
+giveOrRelease (Get s o x) = false
+giveOrRelease (Release s o x) = true
+giveOrRelease (Give s t o x) = true
+giveOrRelease (Rescind s t o x) = false
+giveOrRelease (Create s o c) = false
+giveOrRelease (Delete s o) = false
+giveOrRelease (ChangeLevel s o l) = false
+
+pub two-kinds : (q : Request) → GiveOrRelease q → giveOrRelease q ≡ true
+two-kinds _ (give s t o x) = refl
+two-kinds _ (release s o x) = refl
+
+pub of-kind : (q r : Request) → GiveOrRelease q → q ≡ r → giveOrRelease r ≡ true
+of-kind q r w e = two-kinds r (subst GiveOrRelease e w)

@@ -48,7 +48,7 @@ module _ (Property : Monitor → Type 0) (R : PairProperty Property) (m : Monito
       subst (Getting bs) (says-one (w .3) e) (getting (w .0) (w .1) (w .2) (record { at = i; within = h; says = w .3 }))
 
   -- where no two clash, the order changes neither the state nor what is granted
-  pub pairs-any-order : NoClash Property bs m → AnyOrder bs m
+  pairs-any-order : NoClash Property bs m → AnyOrder bs m
   pairs-any-order N =
       any-order m (Between bs m) (Getting bs) (gets-commuting Property R bs m S (held-together Property R bs m S N)) bs
       (each-in [] (Saying (Getting bs)) bs gets-say)

@@ -62,6 +62,12 @@ objects-comm q r m h =
     let p = update-comm (changed q) (changed r) noObject (m .objects) (target q) (target r) h in
     λ i. record { subjects = m .subjects; objects = p i }
 
+-- a give changes rights and a release accesses
+pub give-release-comm : (m : Monitor) (a s o : ℕ) (x : Mode) (t p : ℕ) (y : Mode)
+    → afterwards (Give a s o x) (afterwards (Release t p y) m) ≡ afterwards (Release t p y) (afterwards (Give a s o x) m)
+unfolding changed
+give-release-comm m a s o x t p y = objects-comm (Give a s o x) (Release t p y) m (λ e. refl)
+
 module _ (m : Monitor) (W : WellFormed m) where
   pub gets-comm : (s o : ℕ) (x : Mode) (t p : ℕ) (y : Mode)
       → afterwards (Get s o x) (afterwards (Get t p y) m) ≡ afterwards (Get t p y) (afterwards (Get s o x) m)
@@ -86,9 +92,3 @@ module _ (m : Monitor) (W : WellFormed m) where
       let ob = object m o in
       let row = row-comm (add x) (add y) (ob .rights) s t (W .objects-formed o .shape .rights-fit) (add-comm x y) in
       objects-comm (Give a s o x) (Give b t p y) m (λ e i. withRows ob (row i) (ob .held))
-
-  -- a give changes rights and a release accesses
-  pub give-release-comm : (a s o : ℕ) (x : Mode) (t p : ℕ) (y : Mode)
-      → afterwards (Give a s o x) (afterwards (Release t p y) m) ≡ afterwards (Release t p y) (afterwards (Give a s o x) m)
-  unfolding changed
-  give-release-comm a s o x t p y = objects-comm (Give a s o x) (Release t p y) m (λ e. refl)

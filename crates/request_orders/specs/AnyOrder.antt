@@ -23,9 +23,13 @@ sameBytes (x ∷ xs) (y ∷ ys) = eqb x y && sameBytes xs ys
 abbrev pub OrdersAgree : List (List ℕ) → Monitor → Type 0
 OrdersAgree bs m = (cs ds : List (List ℕ)) → OrderOf bs cs → OrderOf bs ds → after cs m ≡ after ds m
 
--- "granted": the reply at place i of the list is 0 or 1
+-- "granted": a reply of 0 or 1
+abbrev pub IsGranted : ℕ → Type 0
+IsGranted n = n < 2
+
+-- the reply at place i of the list is one of these
 abbrev pub GrantedAt : List (List ℕ) → Monitor → ℕ → Type 0
-GrantedAt bs m i = getD (replies bs m) i 2 < 2
+GrantedAt bs m i = IsGranted (getD (replies bs m) i 2)
 
 -- "Any two orders of one list .. must leave equal states, and each .. must be granted in both or refused in both": wherever the same bytes
 -- stand in the one and in the other, and so every copy of them is granted, or every copy refused

@@ -1,6 +1,6 @@
 -- Rights lists: gives, and releases ("Gives in any order", change request §7), and what they leave.
 -- Assumes nothing.
-use Prim.Native.Nat.{ℕ, _<_}
+use Prim.Native.Nat.{ℕ}
 use mathlib.Core.Path.{_≡_}
 use mathlib.Core.Logic.{_↔_, _⊎_}
 use mathlib.Core.List.{List}
@@ -14,6 +14,7 @@ use Rattle.model.specs.Properties.{Holds, Permits}
 use Rattle.model.specs.Requests.{decode}
 use Rattle.model.specs.Runs.{reply}
 use Rattle.orders.specs.Orders.{Each, Some}
+use Rattle.request_orders.specs.AnyOrder.{IsGranted}
 
 -- bytes that say a give of right x at object o to subject t, by some subject
 abbrev pub Gives : ℕ → ℕ → Mode → List ℕ → Type 0
@@ -42,7 +43,7 @@ NothingElse b = (q : Request) → decode b ≡ Says q → GiveOrRelease q
 -- what such a list leaves of m, said without an order: the rights that were there and those of every give that is granted if it came alone;
 -- the accesses that were held and that no release of the list is about; and all else as it was
 pub record Left (bs : List (List ℕ)) (m n : Monitor) : Type 0 where
-  pub rights : (t o : ℕ) (x : Mode) → Permits n t o x ↔ (Permits m t o x ⊎ Some (λ b. Gives t o x b × (reply b m < 2)) bs)
+  pub rights : (t o : ℕ) (x : Mode) → Permits n t o x ↔ (Permits m t o x ⊎ Some (λ b. Gives t o x b × IsGranted (reply b m)) bs)
   pub accesses : (s o : ℕ) (x : Mode) → Holds n s o x ↔ (Holds m s o x × Each (λ b. Releases s o x b → ⊥) bs)
   pub subjects : n .subjects ≡ m .subjects
   pub lives : (o : ℕ) → object n o .live ≡ object m o .live

@@ -1,0 +1,17 @@
+-- A list of byte strings asked of a unit in any order.
+-- Assumes nothing.
+use Prim.Native.Nat.{ℕ, _<_}
+use mathlib.Core.Path.{_≡_}
+use mathlib.Core.Logic.{_↔_}
+use mathlib.Core.List.{List, []}
+use lib.ListN.{length, getD}
+use Rattle.unit.specs.Rows.{Rows}
+use Rattle.orders.specs.Orders.{OrderOf}
+use Rattle.asking.specs.Asked.{askedAll, repliesOf}
+
+-- "Any two orders of one list .. must leave equal states, and each .. must be granted in both or refused in both": of a unit, whose every byte
+-- is the same in the end, with the replies of `circmon_ask`
+pub record UnitOrders (u : Rows) (bs : List (List ℕ)) : Type 0 where
+  pub units : (cs ds : List (List ℕ)) → OrderOf bs cs → OrderOf bs ds → askedAll cs u ≡ askedAll ds u
+  pub grants : (cs ds : List (List ℕ)) → OrderOf bs cs → OrderOf bs ds → (i j : ℕ) → i < length cs → j < length ds
+      → getD cs i [] ≡ getD ds j [] → (getD (repliesOf cs u) i 2 < 2) ↔ (getD (repliesOf ds u) j 2 < 2)
