@@ -93,8 +93,8 @@ fn asked(bytes: &[u8]) -> Asked {
 }
 
 /// The state that every order leaves. A right is there where it was there before or a give of it is granted alone; an access is
-/// held where it was held and no release of it is granted alone; everything else is as it was. The order of the list is of no
-/// account here: what is given and what is released are two sets.
+/// held where it was held and no release of it is granted alone; everything else is as it was. The order of the list does
+/// not matter here: what is given and what is released are two sets.
 fn expected(before: &Monitor, list: &[Vec<u8>], alone: &[u8]) -> Monitor {
     let (mut given, mut released) = ([[0; SUBJECTS]; OBJECTS], [[0; SUBJECTS]; OBJECTS]);
     for (bytes, _) in list.iter().zip(alone).filter(|(_, &reply)| is_granted(reply)) {
@@ -141,7 +141,7 @@ pub fn check_again(carried: &Carried, list: &[Vec<u8>], order: &[usize]) {
     let before = &carried.after[0].both;
     let again = after_order(before, list, order);
     assert!(again.both.unit == before.unit, "{list:02x?} changes something when it comes again in the order {order:?}");
-    assert!(!again.replies.contains(&reply::CHANGED), "{list:02x?} says so when it comes again in the order {order:?}");
+    assert!(!again.replies.contains(&reply::CHANGED), "{list:02x?}: a reply of 0 when it comes again in the order {order:?}");
 }
 
 /// That the images saved after the orders are equal, and that of the second implementation too.

@@ -1,6 +1,6 @@
 //! Lists of gives and releases over small states: every list of up to three, with all its orders carried out by both
-//! implementations. And lists with requests of the other kinds among them, for which the law does not hold: there the tests must
-//! find both outcomes.
+//! implementations. And lists with requests of the other kinds among them, for which the law need not hold: there the tests
+//! must find both outcomes.
 
 use reference::{orders, reply, Kind, Level, Mode, Monitor, Request};
 use sidebyside::orders::Met;
@@ -197,13 +197,13 @@ fn with_a_request_of_another_kind_two_orders_may_differ() {
 }
 
 #[test]
-fn lists_for_which_the_law_does_not_hold() {
+fn two_requests_of_which_one_is_of_another_kind_by_name() {
     let both = state(FIRST[0], SECOND[0], THEN[0]);
     let give = bytes(0, 0, Kind::Give(1, Mode::Read));
     for (other, states, grants) in [
         // s1 has the right where the give comes second
         (bytes(0, 0, Kind::Rescind(1, Mode::Read)), false, true),
-        // the owner takes r from itself: who comes second is refused, or it is not
+        // the owner takes r from itself: behind that the give is refused
         (bytes(0, 0, Kind::Rescind(0, Mode::Read)), false, false),
         // s1 reads with the right and not before it has it
         (bytes(1, 0, Kind::Get(Mode::Read)), false, false),
