@@ -141,7 +141,10 @@ pub fn check_again(carried: &Carried, list: &[Vec<u8>], order: &[usize]) {
     let before = &carried.after[0].both;
     let again = after_order(before, list, order);
     assert!(again.both.unit == before.unit, "{list:02x?} changes something when it comes again in the order {order:?}");
-    assert!(!again.replies.contains(&reply::CHANGED), "{list:02x?}: a reply of 0 when it comes again in the order {order:?}");
+    assert!(
+        !again.replies.contains(&reply::CHANGED),
+        "{list:02x?}: a reply of 0 when it comes again in the order {order:?}"
+    );
 }
 
 /// That the images saved after the orders are equal, and that of the second implementation too.
