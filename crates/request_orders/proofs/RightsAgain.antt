@@ -27,7 +27,7 @@ module _ (m : Monitor) (r : Reached m) (bs : List (List ℕ)) (p : Each NothingE
   granted-behind c w =
       granted-one m (OwnersKept m) Ranged (rights-commuting m (sound-reached m r)) c (each-of (Saying Ranged) bs (ranged bs p) w) (after bs m) kept
 
-  -- what is left of the state behind the list by what stands in it
+  -- the state behind the list is what is left of it by what stands in the list
   left-same : (cs : List (List ℕ)) → Each (λ c. StandsIn c bs) cs → Left cs (after bs m) (after bs m)
   left-same cs w =
       let L = rights-left m r bs p bs (Permᴰ·refl bs) in
@@ -52,7 +52,7 @@ module _ (m : Monitor) (r : Reached m) (bs : List (List ℕ)) (p : Each NothingE
       left-one cs n (after cs n) n (sound-reached (after cs n) (reached-after n T cs) .formed) (kept .sound .formed)
       (rights-left n T cs only cs (Permᴰ·refl cs)) (left-same cs w)
 
-  -- so it does where the whole list comes again in another order
+  -- nor does the whole list in another order
   pub list-again : (cs : List (List ℕ)) → OrderOf bs cs → after cs (after bs m) ≡ after bs m
   list-again cs c = rights-again cs (each-order (λ b. StandsIn b bs) c (each-stands bs))
 

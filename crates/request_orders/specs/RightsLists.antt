@@ -32,11 +32,12 @@ IsGive b = (t : ℕ) × (o : ℕ) × (x : Mode) × Gives t o x b
 abbrev pub IsRelease : List ℕ → Type 0
 IsRelease b = (s : ℕ) × (o : ℕ) × (x : Mode) × Releases s o x b
 
--- a list may have both, and bytes that are malformed: whatever its bytes say is a give or a release
+-- a request that is a give or a release
 pub data GiveOrRelease : Request → Type 0 where
   give : (s t o : ℕ) (x : Mode) → GiveOrRelease (Give s t o x)
   release : (s o : ℕ) (x : Mode) → GiveOrRelease (Release s o x)
 
+-- a list may have both, and malformed bytes: whatever request the bytes say is one of these
 abbrev pub NothingElse : List ℕ → Type 0
 NothingElse b = (q : Request) → decode b ≡ Says q → GiveOrRelease q
 
