@@ -3,11 +3,12 @@
 use Prim.Native.Nat.{ℕ}
 use native.Mathlib.Omega.{arith}
 use mathlib.Core.Path.{_≡_, refl, sym, ap, _∙_}
-use mathlib.Core.Bool.{true, false}
+use mathlib.Core.Bool.{Bool, true, false}
 use mathlib.Core.List.{List, [], _∷_, Permᴰ·refl, List·Permᴰ·swap}
 use lib.ListN.{getD}
 use Rattle.bits.specs.Bits.{odd, toBits, fromBits, bytesToBits, field, cut, allZero}
 use Rattle.model.specs.declared.Monitor.{Monitor}
+use Rattle.model.specs.declared.Mode.{Mode}
 use Rattle.model.specs.declared.Mode.the-variants.{Read, Write, Execute}
 use Rattle.model.specs.declared.Request.the-variants.{Get, Release, Give, Rescind}
 use Rattle.model.specs.declared.Decoded.the-variants.{Says}
@@ -15,7 +16,7 @@ use Rattle.model.specs.Tests.{implies, unless}
 use Rattle.model.specs.Levels.{compare, levelDominates, dominates, sameLabel}
 use Rattle.model.specs.Modes.{has, add, remove}
 use Rattle.model.specs.State.{object, rightsOf}
-use Rattle.model.specs.Properties.{Holds, Permits}
+use Rattle.model.specs.Properties.{Holds}
 use Rattle.model.specs.Requests.{fields, modeAllowed, unusedZero, wellFormed, request, decodeFields, decode}
 use Rattle.model.specs.Rules.{simpleAll, starPair, starFrom, starFor, starAll, notLowered, changed, already, checks, answer, step}
 use Rattle.model.specs.Runs.{respond, after, replies}
@@ -54,14 +55,28 @@ rescind-w = bytes 0x40 0x88 0x02
 unfoldable pub release-r : List ℕ
 release-r = bytes 0x20 0x80 0x09
 
+-- a list of gives with a copy and with one that is refused
+abbrev listed : List (List ℕ)
+listed = give-w ∷ give-e ∷ give-w ∷ []
+
+-- whether s2 has a right at o0
+abbrev right : Mode → Monitor → Bool
+right x m = has x (rightsOf (object m 0) 2)
+
 -- a copy of a give, or of a release, is granted too, with 1 where the first one says 0; a right that the owner has not itself is not given,
--- whichever comes first, and who is not the owner gives nothing; malformed bytes get 2
-pub computed : (replies (give-w ∷ give-e ∷ give-w ∷ []) there ≡ 0 ∷ 6 ∷ 1 ∷ [])
+-- whichever comes first, and who is not the owner gives nothing; malformed bytes get 2. The right of a give that is granted is there in the end, and
+-- that of one that is refused is not. Of a give and a rescind the last one decides.
+pub computed : (replies listed there ≡ 0 ∷ 6 ∷ 1 ∷ [])
     × (replies (give-e ∷ give-e-itself ∷ give-a-on ∷ []) there ≡ 6 ∷ 6 ∷ 6 ∷ [])
     × (replies (give-e-itself ∷ give-a-on ∷ give-e ∷ []) there ≡ 6 ∷ 6 ∷ 6 ∷ [])
     × (replies (read-1 ∷ release-r ∷ release-r ∷ [] ∷ []) there ≡ 0 ∷ 0 ∷ 1 ∷ 2 ∷ [])
-unfolding there give-w give-e give-e-itself give-a-on release-r replies tableW tableFrom tableForm labelForm labelFrom tableChecks begin readTable allZero cut made read-1 bytesToBits toBits odd fromBits field decode decodeFields fields wellFormed modeAllowed unusedZero request respond step after checks already changed starAll starFor starFrom starPair implies unless answer simpleAll notLowered has add remove sameLabel dominates levelDominates compare
-computed = (refl, refl, refl, refl)
+    × (right Write (after listed there) ≡ true)
+    × (right Execute (after listed there) ≡ false)
+    × (right Write (after (give-w ∷ rescind-w ∷ []) there) ≡ false)
+    × (right Write (after (rescind-w ∷ give-w ∷ []) there) ≡ true)
+    × Holds (after (read-1 ∷ []) there) 1 1 Read
+unfolding there give-w rescind-w give-e give-e-itself give-a-on release-r replies tableW tableFrom tableForm labelForm labelFrom tableChecks begin readTable allZero cut made read-1 bytesToBits toBits odd fromBits field decode decodeFields fields wellFormed modeAllowed unusedZero request respond step after checks already changed starAll starFor starFrom starPair implies unless answer simpleAll notLowered has add remove sameLabel dominates levelDominates compare
+computed = (refl, refl, refl, refl, refl, refl, refl, refl, refl)
 
 -- what the bytes say
 says : (decode give-w ≡ Says (Give 1 2 0 Write)) × (decode give-e ≡ Says (Give 1 2 0 Execute)) × (decode rescind-w ≡ Says (Rescind 1 2 0 Write))
@@ -69,10 +84,7 @@ says : (decode give-w ≡ Says (Give 1 2 0 Write)) × (decode give-e ≡ Says (G
 unfolding give-w give-e rescind-w release-r read-1 bytesToBits toBits odd fromBits field decode decodeFields fields wellFormed modeAllowed unusedZero request
 says = (refl, refl, refl, refl, refl)
 
--- a list of gives on a state that a run reaches, with a copy and with one that is refused
-abbrev listed : List (List ℕ)
-listed = give-w ∷ give-e ∷ give-w ∷ []
-
+-- on a state that a run reaches
 pub gives-met : Reached there × Each IsGive listed
 gives-met = (reached-there, ((2, 0, Write, (1, says .0)), ((2, 0, Execute, (1, says .1)), ((2, 0, Write, (1, says .0)), tt))))
 
@@ -83,26 +95,16 @@ gives-granted = (omega (arith, at 0), λ h. omega (arith, at 1, h), omega (arith
     at : (i : ℕ) → getD (replies listed there) i 2 ≡ getD (0 ∷ 6 ∷ 1 ∷ []) i 2
     at i = ap (λ (l : List ℕ). getD l i 2) (computed .0)
 
--- the right of the one is there in the end, and that of the other is not
-pub rights-there : Permits (after listed there) 2 0 Write × (has Execute (rightsOf (object (after listed there) 0) 2) ≡ false)
-unfolding give-w give-e there tableW tableFrom tableForm labelForm labelFrom tableChecks begin readTable allZero cut made bytesToBits toBits odd fromBits field decode decodeFields fields wellFormed modeAllowed unusedZero request respond step after checks already changed starAll starFor starFrom starPair implies unless answer simpleAll notLowered has add remove sameLabel dominates levelDominates compare
-rights-there = (refl, refl)
-
 -- a list of releases, of an access that is held
 pub releases-met : Reached (after (read-1 ∷ []) there) × Holds (after (read-1 ∷ []) there) 1 1 Read × Each IsRelease (release-r ∷ release-r ∷ [])
-unfolding there give-w give-e give-e-itself give-a-on release-r replies tableW tableFrom tableForm labelForm labelFrom tableChecks begin readTable allZero cut made read-1 bytesToBits toBits odd fromBits field decode decodeFields fields wellFormed modeAllowed unusedZero request respond step after checks already changed starAll starFor starFrom starPair implies unless answer simpleAll notLowered has add remove sameLabel dominates levelDominates compare
-releases-met = (reached-after there reached-there (read-1 ∷ []), refl, ((1, 1, Read, says .3), ((1, 1, Read, says .3), tt)))
+releases-met = (reached-after there reached-there (read-1 ∷ []), computed .8, ((1, 1, Read, says .3), ((1, 1, Read, says .3), tt)))
 
 -- a rescind and a get stand in no such list
 pub kinds-apart : (NothingElse rescind-w → ⊥) × (NothingElse read-1 → ⊥)
 kinds-apart = (λ w. clash (sym (two-kinds _ (w _ (says .2)))), λ w. clash (sym (two-kinds _ (w _ (says .4)))))
 
--- with a rescind among them the order matters: the last of the two decides
-last-decides : (has Write (rightsOf (object (after (give-w ∷ rescind-w ∷ []) there) 0) 2) ≡ false) × (has Write (rightsOf (object (after (rescind-w ∷ give-w ∷ []) there) 0) 2) ≡ true)
-unfolding there give-w rescind-w tableW tableFrom tableForm labelForm labelFrom tableChecks begin readTable allZero cut made bytesToBits toBits odd fromBits field decode decodeFields fields wellFormed modeAllowed unusedZero request respond step after checks already changed starAll starFor starFrom starPair implies unless answer simpleAll notLowered has add remove sameLabel dominates levelDominates compare
-last-decides = (refl, refl)
-
+-- with a rescind among them the order matters
 pub rescinds-differ : OrdersAgree (give-w ∷ rescind-w ∷ []) there → ⊥
 rescinds-differ agree =
     let same = agree (give-w ∷ rescind-w ∷ []) (rescind-w ∷ give-w ∷ []) (Permᴰ·refl _) (List·Permᴰ·swap refl refl) in
-    apart (last-decides .1) (sym (ap (λ (m : Monitor). has Write (rightsOf (object m 0) 2)) same) ∙ last-decides .0)
+    apart (computed .7) (sym (ap (right Write) same) ∙ computed .6)

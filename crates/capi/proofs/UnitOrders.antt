@@ -51,6 +51,11 @@ module _ (b : Beginning) (e : Accepted b) (qs : List (List ℕ)) where
     pub unit-rights : UnitOrders (unitAfter b qs) bs
     unit-rights = in-any-order bs (rights-any-order (left b qs) (reached-left b e qs) bs p)
 
+    -- in full: the same bytes, at whatever places of two orders, are granted in both or refused in both
+    pub unit-grants : (cs ds : List (List ℕ)) → OrderOf bs cs → OrderOf bs ds → (i j : ℕ) → i < length cs → j < length ds → getD cs i [] ≡ getD ds j []
+        → (getD (repliesOf cs (unitAfter b qs)) i 2 < 2) ↔ (getD (repliesOf ds (unitAfter b qs)) j 2 < 2)
+    unit-grants = unit-rights .grants
+
     -- the images saved are equal
     pub saved-equal : (cs ds : List (List ℕ)) → OrderOf bs cs → OrderOf bs ds → (buffer : List ℕ)
         → saved (askedAll cs (unitAfter b qs)) buffer ≡ saved (askedAll ds (unitAfter b qs)) buffer
