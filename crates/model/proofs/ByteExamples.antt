@@ -13,8 +13,8 @@ use Rattle.model.specs.declared.Mode.the-variants.{Read, Write, Append, 
 use Rattle.model.specs.declared.Request.the-variants.{Get, Release, Give, Rescind, Create, Delete, ChangeLevel}
 use Rattle.model.specs.declared.Decoded.the-variants.{Says}
 use Rattle.model.specs.Levels.{need}
-use Rattle.model.specs.State.{noObject, withOwner, withLabel, withRows}
-use Rattle.model.specs.Requests.{fields, modeAllowed, unusedZero, wellFormed, request, creation, decodeFields, decode}
+use Rattle.model.specs.State.{widest, noObject, withOwner, withLabel, withRows}
+use Rattle.model.specs.Requests.{fields, modeAllowed, unusedZero, fieldsFormed, within, wellFormed, request, creation, decodeFields, decode}
 use Rattle.model.specs.Layout.{labelWidth, objectWidth, tableWidth, tableSize, objectsWidth, objectsSize, imageSize, labelBits, setsBits, objectBits}
 use Rattle.model.specs.Reading.{labelFrom, labelForm, objectFrom, objectForm}
 
@@ -31,7 +31,7 @@ abbrev level : ℕ → ℕ → Level
 level class needs = record { class = class; needs = needs }
 
 -- the seven kinds, 1 to 7, by subject 5, in give and rescind for subject 9, on object 42; "Modes: .. 1 r, 2 w, 3 a, 4 e"
-pub every-kind : map decode
+pub every-kind : map (decode widest)
     ((0x12 ∷ 0x80 ∷ 0x01 ∷ 0x00 ∷ 0x00 ∷ 0x00 ∷ [])
     ∷ (0x22 ∷ 0x81 ∷ 0x52 ∷ 0x00 ∷ 0x00 ∷ 0x00 ∷ [])
     ∷ (0x32 ∷ 0xA5 ∷ 0x53 ∷ 0x00 ∷ 0x00 ∷ 0x00 ∷ [])
@@ -51,7 +51,7 @@ pub every-kind : map decode
     ∷ Delete 5 42
     ∷ ChangeLevel 5 42 (level 11 0x1234)
     ∷ [])
-unfolding decode decodeFields fields field bytesToBits toBits odd fromBits wellFormed modeAllowed unusedZero request
+unfolding decode decodeFields fields field bytesToBits toBits odd fromBits wellFormed fieldsFormed within modeAllowed unusedZero request
 every-kind = refl
 
 -- "need k weighs 2^k": 8005 has the needs 0, 2 and 15

@@ -20,8 +20,8 @@ use Rattle.model.proofs.Modes.{modes-ext}
 pub object-ext : (a b : Object) → a .live ≡ b .live → a .owner ≡ b .owner → a .label ≡ b .label → a .rights ≡ b .rights → a .held ≡ b .held → a ≡ b
 object-ext a b live owner label rights held = λ i. record { live = live i; owner = owner i; label = label i; rights = rights i; held = held i }
 
-pub monitor-ext : (m n : Monitor) → m .subjects ≡ n .subjects → m .objects ≡ n .objects → m ≡ n
-monitor-ext m n subjects objects = λ i. record { subjects = subjects i; objects = objects i }
+pub monitor-ext : (m n : Monitor) → m .profile ≡ n .profile → m .subjects ≡ n .subjects → m .objects ≡ n .objects → m ≡ n
+monitor-ext m n profile subjects objects = λ i. record { profile = profile i; subjects = subjects i; objects = objects i }
 
 -- ---- set by set, subject by subject, object by object
 
@@ -39,10 +39,10 @@ object-same a b F G live owner label rights held =
     (row-ext (a .rights) (b .rights) (F .shape .rights-length) (G .shape .rights-length) (F .shape .rights-fit) (G .shape .rights-fit) rights)
     (row-ext (a .held) (b .held) (F .shape .held-length) (G .shape .held-length) (F .shape .held-fit) (G .shape .held-fit) held)
 
-pub state-same : (m n : Monitor) → WellFormed m → WellFormed n
+pub state-same : (m n : Monitor) → WellFormed m → WellFormed n → m .profile ≡ n .profile
     → ((s : ℕ) → s < 16 → clearance m s ≡ clearance n s) → ((o : ℕ) → o < 64 → object m o ≡ object n o) → m ≡ n
-state-same m n M N clearances objects =
-    monitor-ext m n
+state-same m n M N profile clearances objects =
+    monitor-ext m n profile
     (ext-getD nobody (m .subjects) (n .subjects) (M .subjects-length ∙ sym (N .subjects-length))
     (λ s h. ap (λ (l : Label). record { clearance = l }) (clearances s (omega (arith, M .subjects-length)))))
     (ext-getD noObject (m .objects) (n .objects) (M .objects-length ∙ sym (N .objects-length)) (λ o h. objects o (omega (arith, M .objects-length))))
@@ -62,4 +62,4 @@ with-label-same ob l e = object-ext (withLabel ob l) ob refl refl e refl refl
 
 pub with-object-same : (m : Monitor) (o : ℕ) (ob : Object) → ob ≡ object m o → withObject m o ob ≡ m
 with-object-same m o ob e =
-    monitor-ext (withObject m o ob) m refl (ap (λ (k : Object). set (m .objects) o k) e ∙ set-getD (m .objects) o noObject)
+    monitor-ext (withObject m o ob) m refl refl (ap (λ (k : Object). set (m .objects) o k) e ∙ set-getD (m .objects) o noObject)

@@ -15,7 +15,7 @@ use Rattle.model.specs.declared.Decision.the-variants.{Granted, NotLive,
 use Rattle.model.specs.Tests.{implies, unless}
 use Rattle.model.specs.Levels.{dominates, levelDominates, compare}
 use Rattle.model.specs.Modes.{has, add, remove}
-use Rattle.model.specs.State.{noObject, nobody, object, rightsOf, heldBy, withOwner, withLabel, withRows, withObject, fresh}
+use Rattle.model.specs.State.{noObject, nobody, object, rightsOf, heldBy, withOwner, withLabel, withRows, withObject, fresh, widest}
 use Rattle.model.specs.Requests.{creation}
 use Rattle.model.specs.Rules.{created, notLowered, changed, checks, simpleAll, starPair, starFrom, starFor}
 
@@ -25,7 +25,7 @@ level class needs = Present (record { class = class; needs = needs })
 -- subject 0 has (1, 0001), subject 1 (3, 0003); object 0 belongs to subject 1, who has r, w, a and e on it; subject 0 has r and e
 abbrev state : Label → ℕ → ℕ → Monitor
 state label held0 held1 =
-    withObject (fresh (record { clearance = level 1 1 } ∷ record { clearance = level 3 3 } ∷ replicate 14 nobody)) 0
+    withObject (fresh widest (record { clearance = level 1 1 } ∷ record { clearance = level 3 3 } ∷ replicate 14 nobody)) 0
     (withRows (withLabel (withOwner noObject 1) label) (9 ∷ 15 ∷ replicate 14 0) (held0 ∷ held1 ∷ replicate 14 0))
 
 -- an object of class 0 on which everybody has every right, and subject 1 holds the set

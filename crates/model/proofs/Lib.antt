@@ -7,6 +7,8 @@ pub mod Levels
 pub mod Comparisons
 pub mod ModePairs
 pub mod TwoAccesses
+pub mod Within
+pub mod Profiles
 pub mod Packing
 pub mod Requests
 pub mod Lists

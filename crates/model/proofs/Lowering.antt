@@ -17,7 +17,7 @@ use Rattle.model.specs.declared.Decision.the-variants.{Granted, NotEnrol
 use Rattle.model.specs.Tests.{implies, unless, firstFailing}
 use Rattle.model.specs.Levels.{Dominates, dominates, levelDominates, compare, present}
 use Rattle.model.specs.Modes.{has}
-use Rattle.model.specs.State.{noObject, nobody, enrolled, object, withOwner, withLabel, withRows, withObject, fresh}
+use Rattle.model.specs.State.{noObject, nobody, enrolled, object, withOwner, withLabel, withRows, withObject, fresh, widest}
 use Rattle.model.specs.Rules.{owns, notLowered, changed, afterwards, checks, simpleAll, starPair, starFrom, starFor, starAll}
 use Rattle.model.proofs.Tests.{clash}
 use Rattle.model.proofs.Levels.{dominates-decides, dominates-refl}
@@ -85,7 +85,7 @@ trace label held0 held1 = withRows (withLabel (withOwner noObject 1) label) (15 
 abbrev state : Label → ℕ → ℕ → ℕ → Monitor
 state label held0 held1 other =
     withObject
-    (withObject (fresh (record { clearance = Present (level 1 1) } ∷ record { clearance = Present (level 3 3) } ∷ replicate 14 nobody)) 0 (trace label held0 held1))
+    (withObject (fresh widest (record { clearance = Present (level 1 1) } ∷ record { clearance = Present (level 3 3) } ∷ replicate 14 nobody)) 0 (trace label held0 held1))
     1 (trace (Present (level 1 1)) 0 other)
 
 -- its owner asks for a new label of object 0 that nobody holds

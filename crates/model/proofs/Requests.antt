@@ -11,13 +11,15 @@ use borrow.Author.Tests.{lt-ltb, ltb-true, eqb-true, eq-eqb, leb-true}
 use Rattle.bits.specs.Bits.{Bytes}
 use Rattle.model.specs.declared.Mode.{Mode}
 use Rattle.model.specs.declared.Mode.the-variants.{Read, Write, Append, Execute}
+use Rattle.model.specs.declared.Profile.{Profile}
 use Rattle.model.specs.declared.Fields.{Fields}
 use Rattle.model.specs.declared.Request.{Request}
 use Rattle.model.specs.declared.Request.the-variants.{Get, Release, Give, Rescind, Create, Delete, ChangeLevel}
 use Rattle.model.specs.declared.Decoded.{Decoded}
 use Rattle.model.specs.declared.Decoded.the-variants.{Malformed, Says}
-use Rattle.model.specs.Requests.{requestSize, fields, modeNumber, modeOf, modeAllowed, unusedZero, wellFormed, request, creation, decodeFields, decode, fieldsOf, pack, encode, InRange}
+use Rattle.model.specs.Requests.{requestSize, fields, modeNumber, modeOf, modeAllowed, unusedZero, fieldsFormed, wellFormed, request, creation, decodeFields, decode, fieldsOf, pack, encode, InRange, Within}
 use Rattle.model.proofs.Tests.{and-left, and-right, and-both, or-cases, split, clash, apart, cond-true, cond-false}
+use Rattle.model.proofs.Within.{formed-of, within-of, well-formed, request-within, fieldsOf-within}
 use Rattle.model.proofs.Packing.{FieldsFit, fields-fit, pack-length, fields-packed, packed-fields}
 
 -- ---- what a request says, and back
@@ -55,17 +57,17 @@ create-number x e =
     (λ q. let z : x ≡ 4 = eqb-true x 4 q in ap (λ (y : ℕ). cond (eqb y 4) 4 0) z ∙ sym z)
 
 -- the parts of the test of the fields
-module _ (f : Fields) (e : wellFormed f ≡ true) where
+module _ (f : Fields) (e : fieldsFormed f ≡ true) where
   pub in-kinds : (leb 1 (f .kind) && leb (f .kind) 7) ≡ true
-  unfolding wellFormed
+  unfolding fieldsFormed
   in-kinds = and-left (leb 1 (f .kind) && leb (f .kind) 7) _ e
 
   pub actor-in : f .actor < 16
-  unfolding wellFormed
+  unfolding fieldsFormed
   actor-in = ltb-true _ _ (and-left (ltb (f .actor) 16) _ (and-right (leb 1 (f .kind) && leb (f .kind) 7) _ e))
 
   after-actor : (ltb (f .other) 16 && (ltb (f .object) 64 && (modeAllowed (f .kind) (f .mode) && unusedZero f))) ≡ true
-  unfolding wellFormed
+  unfolding fieldsFormed
   after-actor = and-right (ltb (f .actor) 16) _ (and-right (leb 1 (f .kind) && leb (f .kind) 7) _ e)
 
   pub other-in : f .other < 16
@@ -136,7 +138,7 @@ request-fields (suc (suc (suc (suc (suc (suc (suc (suc k)))))))) a t o x c n z h
     beyond-seven (suc (suc (suc (suc (suc (suc (suc (suc k)))))))) h (omega arith)
 
 -- what the fields say is in range
-request-in : (f : Fields) → FieldsFit f → wellFormed f ≡ true → InRange (request f)
+request-in : (f : Fields) → FieldsFit f → fieldsFormed f ≡ true → InRange (request f)
 unfolding request
 request-in f F e =
     let a = actor-in f e in
@@ -156,11 +158,11 @@ request-in f F e =
 -- ---- decoding
 
 -- what a byte string that is not malformed says: its length, its fields, the request
-pub decode-says : (b : List ℕ) (q : Request) → decode b ≡ Says q → (length b ≡ requestSize) × (wellFormed (fields b) ≡ true) × (request (fields b) ≡ q)
+pub decode-says : (p : Profile) (b : List ℕ) (q : Request) → decode p b ≡ Says q → (length b ≡ requestSize) × (wellFormed p (fields b) ≡ true) × (request (fields b) ≡ q)
 unfolding decode decodeFields
-decode-says b q e =
+decode-says p b q e =
     split (eqb (length b) 6)
-    (λ w. split (wellFormed (fields b))
+    (λ w. split (wellFormed p (fields b))
     (λ v. (eqb-true (length b) 6 w, v, says-inj (sym (cond-true _ _ _ v) ∙ sym (cond-true _ _ _ w) ∙ e)))
     (λ v. says-not (sym (cond-false _ _ _ v) ∙ sym (cond-true _ _ _ w) ∙ e)))
     (λ w. says-not (sym (cond-false _ _ _ w) ∙ e))
@@ -179,23 +181,31 @@ decode-says b q e =
     says-not : {P : Type 0} → Malformed ≡ Says q → P
     says-not p = clash (sym (ap isSays p))
 
-pub says-decode : (b : List ℕ) → length b ≡ requestSize → wellFormed (fields b) ≡ true → decode b ≡ Says (request (fields b))
+pub says-decode : (p : Profile) (b : List ℕ) → length b ≡ requestSize → wellFormed p (fields b) ≡ true → decode p b ≡ Says (request (fields b))
 unfolding decode decodeFields
-says-decode b l w = cond-true _ _ _ (eq-eqb (length b) 6 l) ∙ cond-true _ _ _ w
+says-decode p b l w = cond-true _ _ _ (eq-eqb (length b) 6 l) ∙ cond-true _ _ _ w
 
-pub decode-range : (b : List ℕ) (q : Request) → decode b ≡ Says q → InRange q
-decode-range b q e =
-    let d = decode-says b q e in
-    subst InRange (d .2) (request-in (fields b) (fields-fit b) (d .1))
+-- under every profile
+pub decode-range : (p : Profile) (b : List ℕ) (q : Request) → decode p b ≡ Says q → InRange q
+decode-range p b q e =
+    let d = decode-says p b q e in
+    subst InRange (d .2) (request-in (fields b) (fields-fit b) (formed-of p (fields b) (d .1)))
+
+-- and inside it
+pub decode-within : (p : Profile) (b : List ℕ) (q : Request) → decode p b ≡ Says q → Within p q
+decode-within p b q e =
+    let d = decode-says p b q e in
+    subst (Within p) (d .2) (request-within p (fields b) (within-of p (fields b) (d .1)))
 
 -- a request that decodes encodes back to its bytes
-pub decode-encode : (b : List ℕ) (q : Request) → Bytes b → decode b ≡ Says q → encode q ≡ b
-decode-encode b q hb e =
-    let d = decode-says b q e in
+pub decode-encode : (p : Profile) (b : List ℕ) (q : Request) → Bytes b → decode p b ≡ Says q → encode q ≡ b
+decode-encode p b q hb e =
+    let d = decode-says p b q e in
     let f = fields b in
+    let w = formed-of p f (d .1) in
     let back : fieldsOf (request f) ≡ f =
     request-fields (f .kind) (f .actor) (f .other) (f .object) (f .mode) (f .class) (f .needs) (f .spare)
-    (in-kinds f (d .1)) (and-left (modeAllowed (f .kind) (f .mode)) _ (last-two f (d .1))) (and-right (modeAllowed (f .kind) (f .mode)) _ (last-two f (d .1))) in
+    (in-kinds f w) (and-left (modeAllowed (f .kind) (f .mode)) _ (last-two f w)) (and-right (modeAllowed (f .kind) (f .mode)) _ (last-two f w)) in
     ap encode (sym (d .2)) ∙ ap pack back ∙ packed-fields b hb (d .0)
 
 -- ---- encoding
@@ -224,12 +234,12 @@ fieldsOf-fit (Delete s o) r = omega (arith, r .0, r .1)
 fieldsOf-fit (ChangeLevel s o l) r = omega (arith, r .0, r .1, r .2 .0, r .2 .1)
 
 pub in-range : (f : Fields) → (leb 1 (f .kind) && leb (f .kind) 7) ≡ true → f .actor < 16 → f .other < 16 → f .object < 64
-    → modeAllowed (f .kind) (f .mode) ≡ true → unusedZero f ≡ true → wellFormed f ≡ true
-unfolding wellFormed
+    → modeAllowed (f .kind) (f .mode) ≡ true → unusedZero f ≡ true → fieldsFormed f ≡ true
+unfolding fieldsFormed
 in-range f k a t o m u =
     and-both k (and-both (lt-ltb _ _ a) (and-both (lt-ltb _ _ t) (and-both (lt-ltb _ _ o) (and-both m u))))
 
-fieldsOf-formed : (q : Request) → InRange q → wellFormed (fieldsOf q) ≡ true
+fieldsOf-formed : (q : Request) → InRange q → fieldsFormed (fieldsOf q) ≡ true
 unfolding modeAllowed unusedZero
 fieldsOf-formed (Get s o x) r = in-range _ refl (r .0) (omega arith) (r .1) (mode-moded x) refl
 fieldsOf-formed (Release s o x) r = in-range _ refl (r .0) (omega arith) (r .1) (mode-moded x) refl
@@ -249,8 +259,8 @@ request-back (Create s o c) = ap (λ (e : Bool). Create s o (creation e)) (creat
 request-back (Delete s o) = refl
 request-back (ChangeLevel s o l) = refl
 
--- six bytes say each request in range
-pub encode-decode : (q : Request) → InRange q → decode (encode q) ≡ Says q
-encode-decode q r =
+-- six bytes say each request in range and inside the profile
+pub encode-decode : (p : Profile) (q : Request) → InRange q → Within p q → decode p (encode q) ≡ Says q
+encode-decode p q r v =
     let f = fields-packed (fieldsOf q) (fieldsOf-fit q r) in
-    says-decode (encode q) (pack-length (fieldsOf q)) (ap wellFormed f ∙ fieldsOf-formed q r) ∙ ap (λ (g : Fields). Says (request g)) f ∙ ap Says (request-back q)
+    says-decode p (encode q) (pack-length (fieldsOf q)) (ap (wellFormed p) f ∙ well-formed p (fieldsOf q) (fieldsOf-formed q r) (fieldsOf-within p q v)) ∙ ap (λ (g : Fields). Says (request g)) f ∙ ap Says (request-back q)

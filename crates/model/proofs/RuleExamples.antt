@@ -16,7 +16,7 @@ use Rattle.model.specs.declared.Decision.the-variants.{Granted, SimpleBr
 use Rattle.model.specs.Tests.{implies, unless}
 use Rattle.model.specs.Levels.{dominates, levelDominates, compare}
 use Rattle.model.specs.Modes.{has, add}
-use Rattle.model.specs.State.{noObject, nobody, withOwner, withLabel, withRows, withObject, fresh}
+use Rattle.model.specs.State.{noObject, nobody, withOwner, withLabel, withRows, withObject, fresh, widest}
 use Rattle.model.specs.Rules.{changed, checks, starPair, starFrom, starFor}
 
 abbrev level : ℕ → ℕ → Label
@@ -30,7 +30,7 @@ shared label held = withRows (withLabel (withOwner noObject 1) label) (replicate
 abbrev two : Label → ℕ → Label → Monitor
 two a held b =
     withObject
-    (withObject (fresh (record { clearance = level 1 1 } ∷ record { clearance = level 3 3 } ∷ replicate 14 nobody)) 0 (shared a held))
+    (withObject (fresh widest (record { clearance = level 1 1 } ∷ record { clearance = level 3 3 } ∷ replicate 14 nobody)) 0 (shared a held))
     1 (shared b 0)
 
 -- "8 (r, w)": subject 0 does not dominate (2, 0001), and is refused r and w, which also reads; a and e are granted

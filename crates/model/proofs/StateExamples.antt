@@ -6,6 +6,7 @@ use mathlib.Core.Bool.{false}
 use mathlib.Core.List.{List, [], _∷_, map}
 use Rattle.model.specs.declared.Label.the-variants.{Absent}
 use Rattle.model.specs.declared.Subject.{Subject}
+use Rattle.model.specs.declared.Profile.{Profile}
 use Rattle.model.specs.declared.Object.{Object}
 use Rattle.model.specs.declared.Decision.the-variants.{Granted, Already, MalformedRequest, NotEnrolled, NotLive, AlreadyLive, NoRight, NoLabel, SimpleBroken, StarBroken, WrongLength, StrayBits, AbsentSubject, ShortBuffer, LabelLowered, ZeroSeed}
 use Rattle.model.specs.Levels.{present}
@@ -27,11 +28,11 @@ pub no-object-has-nothing : (noObject .live ≡ false) × (noObject .label ≡ A
 no-object-has-nothing = (refl, refl, replicate-at 0 16, replicate-at 0 16)
 
 -- "begun fresh from an enrolment table with no live object"
-pub fresh-has-no-object : (l : List Subject) (o : ℕ) → object (fresh l) o .live ≡ false
-fresh-has-no-object l o = ap (λ (ob : Object). ob .live) (replicate-at noObject 64 o)
+pub fresh-has-no-object : (p : Profile) (l : List Subject) (o : ℕ) → object (fresh p l) o .live ≡ false
+fresh-has-no-object p l o = ap (λ (ob : Object). ob .live) (replicate-at noObject 64 o)
 
-pub fresh-has-its-table : (l : List Subject) (s : ℕ) → clearance (fresh l) s ≡ clearanceAt l s
-fresh-has-its-table l s = refl
+pub fresh-has-its-table : (p : Profile) (l : List Subject) (s : ℕ) → clearance (fresh p l) s ≡ clearanceAt l s
+fresh-has-its-table p l s = refl
 
 -- "the empty monitor, nobody enrolled", and so with no live object
 pub empty-enrols-nobody : (s : ℕ) → enrolled emptyMonitor s ≡ false

@@ -4,21 +4,22 @@ use Prim.Native.Nat.{ℕ}
 use mathlib.Core.Path.{_≡_}
 use mathlib.Core.List.{List, [], _∷_}
 use Rattle.bits.specs.Bits.{Bytes}
+use Rattle.model.specs.declared.Profile.{Profile}
 use Rattle.model.specs.declared.Monitor.{Monitor}
 use Rattle.model.specs.declared.Decision.the-variants.{Granted}
 use Rattle.model.specs.declared.Response.{Response}
 use Rattle.model.specs.Runs.{after}
 use Rattle.model.specs.Reading.{readTable, readImage}
 
--- "begun from an accepted table or image"
+-- "begun from an accepted table or image", under a profile
 pub data Beginning : Type 0 where
-  table : List ℕ → Beginning
-  image : List ℕ → Beginning
+  table : Profile → List ℕ → Beginning
+  image : Profile → List ℕ → Beginning
 
 -- what the reader returns
 abbrev pub begun : Beginning → Response
-begun (table b) = readTable b
-begun (image b) = readImage b
+begun (table p b) = readTable p b
+begun (image p b) = readImage p b
 
 -- "A table is accepted exactly when none of its checks refuses it"
 abbrev pub Accepted : Beginning → Type 0

@@ -4,7 +4,7 @@ use Prim.Native.Nat.{ℕ}
 use mathlib.Core.Bool.{Bool}
 use lib.Dec.{leb}
 use Rattle.model.specs.declared.Decision.{Decision}
-use Rattle.model.specs.declared.Decision.the-variants.{Granted, Already, MalformedRequest, NotEnrolled, NotLive, AlreadyLive, NoRight, NoLabel, SimpleBroken, StarBroken, WrongLength, StrayBits, AbsentSubject, ShortBuffer, LabelLowered, ZeroSeed}
+use Rattle.model.specs.declared.Decision.the-variants.{Granted, Already, MalformedRequest, NotEnrolled, NotLive, AlreadyLive, NoRight, NoLabel, SimpleBroken, StarBroken, WrongLength, StrayBits, AbsentSubject, ShortBuffer, LabelLowered, ZeroSeed, OutsideProfile}
 
 abbrev pub number : Decision → ℕ
 -- "granted and the state changed"; "An accepted table or image returns 0", "a writing returns 0"
@@ -39,6 +39,8 @@ number ShortBuffer = 13
 number LabelLowered = 14
 -- of a test load: "Refused: 15, seed 0" (change request §5)
 number ZeroSeed = 15
+-- "16, a profile outside these ranges, .. or a table or image with a clearance or label outside its profile" (change request §8)
+number OutsideProfile = 16
 
 -- every number from 2 on is a refusal
 abbrev pub refuses : Decision → Bool

@@ -3,6 +3,7 @@ pub mod Tests
 pub mod Levels
 pub mod Modes
 pub mod State
+pub mod Profiles
 pub mod Properties
 pub mod ModePairs
 pub mod Decisions

@@ -7,6 +7,7 @@ use lib.ListN.{length, take, drop}
 use lib.Dec.{ltb}
 use Rattle.bits.specs.Bits.{cut, join}
 use Rattle.model.specs.declared.Response.{Response}
+use Rattle.model.specs.State.{widest}
 use Rattle.model.specs.Decisions.{number, refuses}
 use Rattle.model.specs.Requests.{requestSize}
 use Rattle.model.specs.Runs.{replies}
@@ -35,6 +36,7 @@ linesAfter r requests =
     cond (refuses (r .decision)) (line (number (r .decision)))
     (join (map line (replies (pieces requests) (r .monitor))))
 
--- "reads from standard input 42 bytes of table, then at most 4,096 six-byte requests, with bytes after these unread"
+-- "reads from standard input 42 bytes of table, then at most 4,096 six-byte requests, with bytes after these unread"; "`circmon` runs under the
+-- widest" profile
 unfoldable pub program : List ℕ → List ℕ
-program input = linesAfter (readTable (take tableSize input)) (take (requestSize * mostRequests) (drop tableSize input))
+program input = linesAfter (readTable widest (take tableSize input)) (take (requestSize * mostRequests) (drop tableSize input))

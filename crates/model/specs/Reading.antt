@@ -10,14 +10,16 @@ use Rattle.model.specs.declared.Label.{Label}
 use Rattle.model.specs.declared.Label.the-variants.{Absent, Present}
 use Rattle.model.specs.declared.Subject.{Subject}
 use Rattle.model.specs.declared.Object.{Object}
+use Rattle.model.specs.declared.Profile.{Profile}
 use Rattle.model.specs.declared.Monitor.{Monitor}
 use Rattle.model.specs.declared.Decision.{Decision}
-use Rattle.model.specs.declared.Decision.the-variants.{NoRight, NoLabel, SimpleBroken, StarBroken, WrongLength, StrayBits, AbsentSubject}
+use Rattle.model.specs.declared.Decision.the-variants.{NoRight, NoLabel, SimpleBroken, StarBroken, WrongLength, StrayBits, AbsentSubject, OutsideProfile}
 use Rattle.model.specs.declared.Response.{Response}
 use Rattle.model.specs.Tests.{allBelow, allOf, implies, firstFailing}
 use Rattle.model.specs.Levels.{subset, present}
 use Rattle.model.specs.Modes.{anyNeedsLabel}
 use Rattle.model.specs.State.{subjectCount, objectCount, classWidth, needsWidth, noObject, clearanceAt, rightsOf, heldBy, fresh, emptyMonitor}
+use Rattle.model.specs.Profiles.{profileFits, absentBeyond, levelsInside}
 use Rattle.model.specs.Decisions.{refuses}
 use Rattle.model.specs.Rules.{simpleAll, starAll}
 use Rattle.model.specs.Layout.{labelWidth, objectWidth, ownerWidth, setWidth, pairWidth, labelOffset, setsOffset, setsWidth, tableSize, imageSize}
@@ -89,8 +91,8 @@ unfoldable pub objectsForm : List ℕ → Bool
 objectsForm b = allOf objectForm (objectRecords b)
 
 -- "The object records begin at byte 42 and are read as a part of their own"
-unfoldable pub monitorFrom : List ℕ → Monitor
-monitorFrom b = record { subjects = tableFrom (take tableSize b); objects = objectsFrom (drop tableSize b) }
+unfoldable pub monitorFrom : Profile → List ℕ → Monitor
+monitorFrom p b = record { profile = p; subjects = tableFrom (take tableSize b); objects = objectsFrom (drop tableSize b) }
 
 unfoldable pub imageForm : List ℕ → Bool
 imageForm b = tableForm (take tableSize b) && objectsForm (drop tableSize b)
@@ -124,13 +126,25 @@ stateList m =
 unfoldable pub stateChecks : Monitor → Decision
 stateChecks m = firstFailing (stateList m)
 
+-- the checks of a beginning under a profile, by whether it has its length, whether its records have their form, and the monitor that it says:
+-- "16, a profile outside these ranges, before anything else is read"; 10; 11, and "a record beyond the profile is absent, and a bit in it gets
+-- 11"; then 16, "a clearance or label outside its profile, checked directly after 11" (change request §8)
+abbrev pub beginningList : Bool → Bool → Monitor → List (Bool × Decision) → List (Bool × Decision)
+beginningList long formed m later =
+    (profileFits (m .profile), OutsideProfile)
+    ∷ (long, WrongLength)
+    ∷ (formed && absentBeyond m, StrayBits)
+    ∷ (levelsInside m, OutsideProfile)
+    ∷ later
+
 -- "Tables are checked 10, 11"
-unfoldable pub tableChecks : List ℕ → Decision
-tableChecks b = firstFailing ((eqb (length b) tableSize, WrongLength) ∷ (tableForm b, StrayBits) ∷ [])
+unfoldable pub tableChecks : Profile → List ℕ → Decision
+tableChecks p b = firstFailing (beginningList (eqb (length b) tableSize) (tableForm b) (fresh p (tableFrom b)) [])
 
 -- "images 10, 11, 12, 6, 7, 8, 9"
-unfoldable pub imageChecks : List ℕ → Decision
-imageChecks b = firstFailing ((eqb (length b) imageSize, WrongLength) ∷ (imageForm b, StrayBits) ∷ stateList (monitorFrom b))
+unfoldable pub imageChecks : Profile → List ℕ → Decision
+imageChecks p b =
+    firstFailing (beginningList (eqb (length b) imageSize) (imageForm b) (monitorFrom p b) (stateList (monitorFrom p b)))
 
 -- ---- the answers
 
@@ -138,8 +152,8 @@ imageChecks b = firstFailing ((eqb (length b) imageSize, WrongLength) ∷ (image
 unfoldable pub begin : Decision → Monitor → Response
 begin d m = record { decision = d; monitor = cond (refuses d) emptyMonitor m }
 
-unfoldable pub readTable : List ℕ → Response
-readTable b = begin (tableChecks b) (fresh (tableFrom b))
+unfoldable pub readTable : Profile → List ℕ → Response
+readTable p b = begin (tableChecks p b) (fresh p (tableFrom b))
 
-unfoldable pub readImage : List ℕ → Response
-readImage b = begin (imageChecks b) (monitorFrom b)
+unfoldable pub readImage : Profile → List ℕ → Response
+readImage p b = begin (imageChecks p b) (monitorFrom p b)

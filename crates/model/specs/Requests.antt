@@ -8,6 +8,8 @@ use lib.Dec.{leb, ltb, eqb}
 use Rattle.bits.specs.Bits.{field, toBits, bitsToBytes}
 use Rattle.model.specs.declared.Mode.{Mode}
 use Rattle.model.specs.declared.Mode.the-variants.{Read, Write, Append, Execute}
+use Rattle.model.specs.declared.Level.{Level}
+use Rattle.model.specs.declared.Profile.{Profile}
 use Rattle.model.specs.declared.Fields.{Fields}
 use Rattle.model.specs.declared.Creation.{Creation}
 use Rattle.model.specs.declared.Request.{Request}
@@ -15,6 +17,7 @@ use Rattle.model.specs.declared.Request.the-variants.{Get, Release, Give
 use Rattle.model.specs.declared.Decoded.{Decoded}
 use Rattle.model.specs.declared.Decoded.the-variants.{Malformed, Says}
 use Rattle.model.specs.State.{subjectCount, objectCount, classWidth, needsWidth, LevelFits}
+use Rattle.model.specs.Profiles.{levelInside, LevelInside}
 
 -- "Six bytes"
 abbrev pub requestSize : ℕ
@@ -97,15 +100,32 @@ unusedZero f =
     && ((eqb (f .kind) 7 || (eqb (f .class) 0 && eqb (f .needs) 0))
     && eqb (f .spare) 0)
 
--- the first row of "Refused causes", but for the length: what must be so of the fields
-unfoldable pub wellFormed : Fields → Bool
-wellFormed f =
+-- the first row of "Refused causes", but for the length: what must be so of the fields under every profile
+unfoldable pub fieldsFormed : Fields → Bool
+fieldsFormed f =
     (leb 1 (f .kind) && leb (f .kind) 7)
     && (ltb (f .actor) subjectCount
     && (ltb (f .other) subjectCount
     && (ltb (f .object) objectCount
     && (modeAllowed (f .kind) (f .mode)
     && unusedZero f))))
+
+-- the class and the needs of a request
+abbrev pub levelOf : Fields → Level
+levelOf f = record { class = f .class; needs = f .needs }
+
+-- "A subject, object, class or need outside it in a request is malformed" (change request §8)
+unfoldable pub within : Profile → Fields → Bool
+within p f =
+    ltb (f .actor) (p .subjects)
+    && (ltb (f .other) (p .subjects)
+    && (ltb (f .object) (p .objects)
+    && levelInside p (levelOf f)))
+
+-- what must be so of the fields for a monitor of a profile; the test under every profile stays beside it, so that a profile that says more
+-- than sixteen subjects or sixty-four objects lets no other number pass
+unfoldable pub wellFormed : Profile → Fields → Bool
+wellFormed p f = fieldsFormed f && within p f
 
 -- create with mode 4 gives the owner e too
 abbrev pub creation : Bool → Creation
@@ -120,14 +140,14 @@ request f =
     (cond (eqb (f .kind) 4) (Rescind (f .actor) (f .other) (f .object) (modeOf (f .mode)))
     (cond (eqb (f .kind) 5) (Create (f .actor) (f .object) (creation (eqb (f .mode) 4)))
     (cond (eqb (f .kind) 6) (Delete (f .actor) (f .object))
-    (ChangeLevel (f .actor) (f .object) (record { class = f .class; needs = f .needs })))))))
+    (ChangeLevel (f .actor) (f .object) (levelOf f)))))))
 
-unfoldable pub decodeFields : Fields → Decoded
-decodeFields f = cond (wellFormed f) (Says (request f)) Malformed
+unfoldable pub decodeFields : Profile → Fields → Decoded
+decodeFields p f = cond (wellFormed p f) (Says (request f)) Malformed
 
--- what a byte string of any length says
-unfoldable pub decode : List ℕ → Decoded
-decode b = cond (eqb (length b) requestSize) (decodeFields (fields b)) Malformed
+-- what a byte string of any length says to a monitor of a profile
+unfoldable pub decode : Profile → List ℕ → Decoded
+decode p b = cond (eqb (length b) requestSize) (decodeFields p (fields b)) Malformed
 
 -- ---- the other way: the bytes of a request
 
@@ -161,3 +181,13 @@ InRange (Rescind s t o x) = (s < subjectCount) × (t < subjectCount) × (o < obj
 InRange (Create s o c) = (s < subjectCount) × (o < objectCount)
 InRange (Delete s o) = (s < subjectCount) × (o < objectCount)
 InRange (ChangeLevel s o l) = (s < subjectCount) × (o < objectCount) × LevelFits l
+
+-- no "subject, object, class or need outside" the profile in a request (change request §8)
+abbrev pub Within : Profile → Request → Type 0
+Within p (Get s o x) = (s < p .subjects) × (o < p .objects)
+Within p (Release s o x) = (s < p .subjects) × (o < p .objects)
+Within p (Give s t o x) = (s < p .subjects) × (t < p .subjects) × (o < p .objects)
+Within p (Rescind s t o x) = (s < p .subjects) × (t < p .subjects) × (o < p .objects)
+Within p (Create s o c) = (s < p .subjects) × (o < p .objects)
+Within p (Delete s o) = (s < p .subjects) × (o < p .objects)
+Within p (ChangeLevel s o l) = (s < p .subjects) × (o < p .objects) × LevelInside p l

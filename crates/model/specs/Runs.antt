@@ -15,9 +15,9 @@ abbrev pub carryOut : Decoded → Monitor → Response
 carryOut Malformed m = record { decision = MalformedRequest; monitor = m }
 carryOut (Says q) m = step q m
 
--- the response to a byte string
+-- the response to a byte string, which is read under the profile of the monitor
 unfoldable pub respond : List ℕ → Monitor → Response
-respond b m = carryOut (decode b) m
+respond b m = carryOut (decode (m .profile) b) m
 
 -- "A reply is the number that a request returns: 0, 1 or that of a refusal"
 abbrev pub reply : List ℕ → Monitor → ℕ

@@ -10,6 +10,7 @@ use Rattle.model.specs.declared.Label.{Label}
 use Rattle.model.specs.declared.Label.the-variants.{Absent, Present}
 use Rattle.model.specs.declared.Subject.{Subject}
 use Rattle.model.specs.declared.Object.{Object}
+use Rattle.model.specs.declared.Profile.{Profile}
 use Rattle.model.specs.declared.Monitor.{Monitor}
 use Rattle.model.specs.Levels.{present}
 
@@ -26,6 +27,10 @@ classWidth = 4
 
 abbrev pub needsWidth : ℕ
 needsWidth = 16
+
+-- "the widest profile" (change request §8): every subject and object, every class and need is in use
+abbrev pub widest : Profile
+widest = record { subjects = subjectCount; objects = objectCount; highest = record { class = 15; needs = 65535 } }
 
 -- "a row of sixteen sets, one for each subject", all empty
 abbrev pub noModes : List ℕ
@@ -79,15 +84,15 @@ abbrev pub withHeld : Object → ℕ → ℕ → Object
 withHeld ob s n = withRows ob (ob .rights) (set (ob .held) s n)
 
 abbrev pub withObject : Monitor → ℕ → Object → Monitor
-withObject m o ob = record { subjects = m .subjects; objects = set (m .objects) o ob }
+withObject m o ob = record { profile = m .profile; subjects = m .subjects; objects = set (m .objects) o ob }
 
--- "A monitor is begun fresh from an enrolment table with no live object"
-abbrev pub fresh : List Subject → Monitor
-fresh l = record { subjects = l; objects = replicate objectCount noObject }
+-- "A monitor is begun fresh from an enrolment table with no live object", under a profile
+abbrev pub fresh : Profile → List Subject → Monitor
+fresh p l = record { profile = p; subjects = l; objects = replicate objectCount noObject }
 
--- "the empty monitor, nobody enrolled"
+-- "the empty monitor, nobody enrolled"; "the empty monitor that a refusal returns has it": the widest profile
 abbrev pub emptyMonitor : Monitor
-emptyMonitor = fresh (replicate subjectCount nobody)
+emptyMonitor = fresh widest (replicate subjectCount nobody)
 
 -- "a class, 0 to 15, and a set of needs-to-know numbered 0 to 15"
 abbrev pub LevelFits : Level → Type 0

@@ -1,6 +1,6 @@
 // The types of the reference monitor. What they mean is said in specs/, in the order of specs/Lib.antt.
 ghost use mathlib.Core.Path.{_≡_};
-ghost use Rattle.model.specs.State.{noObject, fresh};
+ghost use Rattle.model.specs.State.{widest, noObject, fresh};
 
 // A class, 0 to 15, and a set of needs-to-know, 0 to 15, where need k weighs 2^k.
 pub struct Level {
@@ -56,7 +56,29 @@ pub fn no_object() -> Object
     }
 }
 
+// A site profile: the subjects in use, 1 to 16, the objects in use, 1 to 64, and the level that has the highest class and every need in use.
+pub struct Profile {
+    pub subjects: u8,
+    pub objects: u8,
+    pub highest: Level,
+}
+
+// The profile that has everything in use.
+pub fn widest() -> Profile
+    ensures { λ r. ⌜ r ≡ widest ⌝ }
+{
+    Profile {
+        subjects: 16,
+        objects: 64,
+        highest: Level {
+            class: 15,
+            needs: 65535,
+        },
+    }
+}
+
 pub struct Monitor {
+    pub profile: Profile,
     pub subjects: [Subject; 16],
     pub objects: [Object; 64],
 }
@@ -83,11 +105,12 @@ impl Monitor {
 
     pub const IMAGE_BYTES: usize = Self::TABLE_BYTES + Self::OBJECTS * Self::OBJECT_BITS / 8;
 
-    // A monitor begun fresh from an enrolment table, with no live object.
-    pub fn begin(table: [Subject; Monitor::SUBJECTS]) -> Monitor
-        ensures { λ r. ⌜ r ≡ fresh table ⌝ }
+    // A monitor begun fresh under a profile from an enrolment table, with no live object.
+    pub fn begin(profile: Profile, table: [Subject; Monitor::SUBJECTS]) -> Monitor
+        ensures { λ r. ⌜ r ≡ fresh profile table ⌝ }
     {
         Monitor {
+            profile,
             subjects: table,
             objects: [no_object(); Monitor::OBJECTS],
         }
@@ -146,6 +169,7 @@ pub enum Decision {
     ShortBuffer,
     LabelLowered,
     ZeroSeed,
+    OutsideProfile,
 }
 
 // The answer to a request or to a beginning, and the monitor after it.

@@ -11,7 +11,7 @@ no-object-requires : tie.Need-no-object-requires
 no-object-requires c κs = search needs
 
 returns : tie.Need-returns
-returns c = monitor-ext _ _ refl (ap (replicate 64) (c .no-object .ensures))
+returns c = monitor-ext _ _ refl refl (ap (replicate 64) (c .no-object .ensures))
 
 pub begin-spec : {M : Type 1} → statement M
 begin-spec = tie.close (tie.spec no-object-requires returns)

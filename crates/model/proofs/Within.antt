@@ -1,0 +1,99 @@
+-- The test of a request's fields under a profile (change request §8): its two parts, and what is inside the profile.
+-- Assumes nothing.
+use Prim.Native.Nat.{ℕ, _<_}
+use native.Mathlib.Omega.{arith}
+use mathlib.Core.Path.{_≡_, refl}
+use mathlib.Core.Bool.{Bool, true, false, cond, not}
+use lib.Dec.{eqb, ltb}
+use borrow.Author.Tests.{lt-ltb, ltb-true}
+use Rattle.model.specs.declared.Level.{Level}
+use Rattle.model.specs.declared.Profile.{Profile}
+use Rattle.model.specs.declared.Fields.{Fields}
+use Rattle.model.specs.declared.Request.{Request}
+use Rattle.model.specs.declared.Request.the-variants.{Get, Release, Give, Rescind, Create, Delete, ChangeLevel}
+use Rattle.bits.specs.Bits.{odd}
+use Rattle.model.specs.Levels.{need}
+use Rattle.model.specs.Profiles.{LevelInside}
+use Rattle.model.specs.Requests.{fieldsFormed, levelOf, within, wellFormed, request, fieldsOf, Within}
+use Rattle.model.proofs.Tests.{and-left, and-right, and-both, apart, not-on, below-out}
+use Rattle.model.proofs.Levels.{at-least-decides}
+
+-- ---- the two tests of the fields, and what the second says
+
+pub formed-of : (p : Profile) (f : Fields) → wellFormed p f ≡ true → fieldsFormed f ≡ true
+unfolding wellFormed
+formed-of p f e = and-left (fieldsFormed f) (within p f) e
+
+pub within-of : (p : Profile) (f : Fields) → wellFormed p f ≡ true → within p f ≡ true
+unfolding wellFormed
+within-of p f e = and-right (fieldsFormed f) (within p f) e
+
+pub well-formed : (p : Profile) (f : Fields) → fieldsFormed f ≡ true → within p f ≡ true → wellFormed p f ≡ true
+unfolding wellFormed
+well-formed p f a b = and-both a b
+
+-- no field is outside the profile
+pub record FieldsWithin (p : Profile) (f : Fields) : Type 0 where
+  pub actor : f .actor < p .subjects
+  pub other : f .other < p .subjects
+  pub object : f .object < p .objects
+  pub level : LevelInside p (levelOf f)
+
+pub within-fields : (p : Profile) (f : Fields) → within p f ≡ true → FieldsWithin p f
+unfolding within
+within-fields p f e =
+    let a = and-right (ltb (f .actor) (p .subjects)) _ e in
+    let t = and-right (ltb (f .other) (p .subjects)) _ a in
+    record {
+      actor = ltb-true _ _ (and-left (ltb (f .actor) (p .subjects)) _ e);
+      other = ltb-true _ _ (and-left (ltb (f .other) (p .subjects)) _ a);
+      object = ltb-true _ _ (and-left (ltb (f .object) (p .objects)) _ t);
+      level = at-least-decides (p .highest) (levelOf f) .0 (and-right (ltb (f .object) (p .objects)) _ t);
+    }
+
+pub fields-within : (p : Profile) (f : Fields) → FieldsWithin p f → within p f ≡ true
+unfolding within
+fields-within p f F =
+    and-both (lt-ltb _ _ (F .actor))
+    (and-both (lt-ltb _ _ (F .other)) (and-both (lt-ltb _ _ (F .object)) (at-least-decides (p .highest) (levelOf f) .1 (F .level))))
+
+-- what the fields say is inside the profile
+pub request-within : (p : Profile) (f : Fields) → within p f ≡ true → Within p (request f)
+unfolding request
+request-within p f e =
+    let F = within-fields p f e in
+    let a = F .actor in
+    let t = F .other in
+    let o = F .object in
+    pick (eqb (f .kind) 1) _ _ (a, o)
+    (pick (eqb (f .kind) 2) _ _ (a, o)
+    (pick (eqb (f .kind) 3) _ _ (a, t, o)
+    (pick (eqb (f .kind) 4) _ _ (a, t, o)
+    (pick (eqb (f .kind) 5) _ _ (a, o)
+    (pick (eqb (f .kind) 6) _ _ (a, o) (a, o, F .level))))))
+  where
+    pick : (b : Bool) (x y : Request) → Within p x → Within p y → Within p (cond b x y)
+    pick true x y h k = h
+    pick false x y h k = k
+
+-- class 0 without needs is inside every profile
+pub lowest-inside : (p : Profile) → LevelInside p (record { class = 0; needs = 0 })
+unfolding need odd
+lowest-inside p =
+    record {
+      class = omega arith;
+      needs = λ k h e. apart e (not-on (need k 0) (below-out 16 (λ (i : ℕ). not (need i 0)) refl k h));
+    }
+
+-- and so are the fields of a request that is
+fieldsOf-inside : (p : Profile) (q : Request) → Within p q → FieldsWithin p (fieldsOf q)
+fieldsOf-inside p (Get s o x) v = record { actor = v .0; other = omega (arith, v .0); object = v .1; level = lowest-inside p }
+fieldsOf-inside p (Release s o x) v = record { actor = v .0; other = omega (arith, v .0); object = v .1; level = lowest-inside p }
+fieldsOf-inside p (Give s t o x) v = record { actor = v .0; other = v .1; object = v .2; level = lowest-inside p }
+fieldsOf-inside p (Rescind s t o x) v = record { actor = v .0; other = v .1; object = v .2; level = lowest-inside p }
+fieldsOf-inside p (Create s o c) v = record { actor = v .0; other = omega (arith, v .0); object = v .1; level = lowest-inside p }
+fieldsOf-inside p (Delete s o) v = record { actor = v .0; other = omega (arith, v .0); object = v .1; level = lowest-inside p }
+fieldsOf-inside p (ChangeLevel s o l) v = record { actor = v .0; other = omega (arith, v .0); object = v .1; level = v .2 }
+
+pub fieldsOf-within : (p : Profile) (q : Request) → Within p q → within p (fieldsOf q) ≡ true
+fieldsOf-within p q v = fields-within p (fieldsOf q) (fieldsOf-inside p q v)
