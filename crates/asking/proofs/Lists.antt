@@ -25,15 +25,15 @@ said-length (Says q) u = carried-length q u
 
 pub asked-length : (b : List ℕ) (u : Rows) → length (asked b u) ≡ length u
 unfolding asked
-asked-length b u = said-length (decode b) u
+asked-length b u = said-length (decode (stateIn u .profile) b) u
 
 pub asked-state : (b : List ℕ) (u : Rows) → length u ≡ rowCount → stateIn (asked b u) ≡ respond b (stateIn u) .monitor
 unfolding asked respond
-asked-state b u n = go (decode b) refl
+asked-state b u n = go (decode (stateIn u .profile) b) refl
   where
-    go : (d : Decoded) → decode b ≡ d → stateIn (askedSaid d u) ≡ carryOut d (stateIn u) .monitor
+    go : (d : Decoded) → decode (stateIn u .profile) b ≡ d → stateIn (askedSaid d u) ≡ carryOut d (stateIn u) .monitor
     go Malformed e = refl
-    go (Says q) e = carried-state q u n (decode-range b q e)
+    go (Says q) e = carried-state q u n (decode-range (stateIn u .profile) b q e)
 
 -- ---- a list of them
 
@@ -59,11 +59,11 @@ all-replies (b ∷ bs) u n = ap (λ l. reply b (stateIn u) ∷ l) (all-replies b
 
 -- ---- what the code returns and leaves
 
-pub ask-malformed : (b : List ℕ) (u : Rows) (r : ℕ) → decode b ≡ Malformed → r ≡ number MalformedRequest → (r ≡ reply b (stateIn u)) × (u ≡ asked b u)
+pub ask-malformed : (b : List ℕ) (u : Rows) (r : ℕ) → decode (stateIn u .profile) b ≡ Malformed → r ≡ number MalformedRequest → (r ≡ reply b (stateIn u)) × (u ≡ asked b u)
 unfolding respond asked
 ask-malformed b u r e f = (f ∙ ap (λ d. number (carryOut d (stateIn u) .decision)) (sym e), ap (λ d. askedSaid d u) (sym e))
 
-pub ask-says : (b : List ℕ) (u w : Rows) (q : Request) (r : ℕ) → decode b ≡ Says q → Does q u w r → (r ≡ reply b (stateIn u)) × (w ≡ asked b u)
+pub ask-says : (b : List ℕ) (u w : Rows) (q : Request) (r : ℕ) → decode (stateIn u .profile) b ≡ Says q → Does q u w r → (r ≡ reply b (stateIn u)) × (w ≡ asked b u)
 unfolding respond asked
 ask-says b u w q r e D = (D .answers ∙ ap (λ d. number (carryOut d (stateIn u) .decision)) (sym e), D .leaves ∙ ap (λ d. askedSaid d u) (sym e))
 

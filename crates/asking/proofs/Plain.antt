@@ -20,11 +20,11 @@ use Rattle.asking.proofs.Lists.{asked-length, all-length, all-state}
 
 asked-plain : (b : List ℕ) (u : Rows) → length u ≡ rowCount → Plain u → Plain (asked b u)
 unfolding asked
-asked-plain b u n F = go (decode b) refl
+asked-plain b u n F = go (decode (stateIn u .profile) b) refl
   where
-    go : (d : Decoded) → decode b ≡ d → Plain (askedSaid d u)
+    go : (d : Decoded) → decode (stateIn u .profile) b ≡ d → Plain (askedSaid d u)
     go Malformed e = F
-    go (Says q) e = carried-plain q u n (decode-range b q e) F
+    go (Says q) e = carried-plain q u n (decode-range (stateIn u .profile) b q e) F
 
 all-plain : (bs : List (List ℕ)) (u : Rows) → length u ≡ rowCount → Plain u → Plain (askedAll bs u)
 unfolding askedAll

@@ -14,9 +14,9 @@ abbrev pub askedSaid : Decoded → Rows → Rows
 askedSaid Malformed u = u
 askedSaid (Says q) u = carried q u
 
--- the rows after a byte string
+-- the rows after a byte string, which is read under their profile
 unfoldable pub asked : List ℕ → Rows → Rows
-asked b u = askedSaid (decode b) u
+asked b u = askedSaid (decode (stateIn u .profile) b) u
 
 -- "The first request gets the monitor just begun, each later one the monitor that the one before it left": the rows after a list
 unfoldable pub askedAll : List (List ℕ) → Rows → Rows

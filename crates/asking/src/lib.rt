@@ -17,6 +17,7 @@ use objects::create;
 use objects::delete;
 use rights::give;
 use rights::rescind;
+use unit::profile_of;
 
 fn carry_out(unit: &mut [[u8; 16]], q: Request) -> u8
     requires { do ⌜ (← ⟦unit.len()⟧) ≡ rowCount ⌝ }
@@ -39,7 +40,8 @@ pub fn ask(unit: &mut [[u8; 16]], bytes: &[u8]) -> u8
     requires { do ⌜ (← ⟦unit.len()⟧) ≡ rowCount ⌝ }
     ensures { λ r. ⌜ (r ≡ reply (now (bytes .entry)) (stateIn (now (unit .entry)))) × (now (unit .exit) ≡ asked (now (bytes .entry)) (now (unit .entry))) ⌝ }
 {
-    let said = decode(bytes);
+    let profile = profile_of(unit);
+    let said = decode(profile, bytes);
     match said {
         Decoded::Malformed => number(Decision::MalformedRequest),
         Decoded::Says(q) => carry_out(unit, q),

@@ -1,12 +1,14 @@
 // What the six bytes of a request say.
 ghost use mathlib.Core.Path.{_≡_};
-ghost use Rattle.model.specs.Requests.{modeAllowed, unusedZero, wellFormed, modeOf, request, decodeFields, decode};
+ghost use Rattle.model.specs.Requests.{modeAllowed, unusedZero, fieldsFormed, levelOf, within, wellFormed, modeOf, request, decodeFields, decode};
 ghost use Rattle.decoding.specs.Word.{fieldsOfWord};
+use labels::at_least;
 use model::Creation;
 use model::Decoded;
 use model::Fields;
 use model::Level;
 use model::Mode;
+use model::Profile;
 use model::Request;
 
 // The fields of 48 bits that were read as one number: kind 4 bits, actor 5, other subject 5, object 7, mode 3, class 4, needs 16, spare 4.
@@ -48,13 +50,39 @@ fn unused_zero(f: Fields) -> bool
         & (((f.kind == 7) | no_level) & (f.spare == 0))
 }
 
-pub fn well_formed(f: Fields) -> bool
-    ensures { λ r. ⌜ r ≡ wellFormed f ⌝ }
+// What must be so of the fields under every profile.
+fn fields_formed(f: Fields) -> bool
+    ensures { λ r. ⌜ r ≡ fieldsFormed f ⌝ }
 {
     let allowed = mode_allowed(f.kind, f.mode);
     let zero = unused_zero(f);
     ((1 <= f.kind) & (f.kind <= 7))
         & ((f.actor < 16) & ((f.other < 16) & ((f.object < 64) & (allowed & zero))))
+}
+
+// The class and the needs of a request.
+fn level_of(f: Fields) -> Level
+    ensures { λ r. ⌜ r ≡ levelOf f ⌝ }
+{
+    Level {
+        class: f.class,
+        needs: f.needs,
+    }
+}
+
+// No subject, object, class or need is outside the profile.
+fn within(p: Profile, f: Fields) -> bool
+    ensures { λ r. ⌜ r ≡ within p f ⌝ }
+{
+    let inside = at_least(p.highest, level_of(f));
+    (f.actor < p.subjects)
+        & ((f.other < p.subjects) & ((f.object < p.objects) & inside))
+}
+
+pub fn well_formed(p: Profile, f: Fields) -> bool
+    ensures { λ r. ⌜ r ≡ wellFormed p f ⌝ }
+{
+    fields_formed(f) & within(p, f)
 }
 
 // ---- the request
@@ -75,10 +103,7 @@ fn request_of(f: Fields) -> Request
 {
     let kind = f.kind;
     let x = mode_of(f.mode);
-    let l = Level {
-        class: f.class,
-        needs: f.needs,
-    };
+    let l = level_of(f);
     match kind {
         1 => Request::Get(f.actor, f.object, x),
         2 => Request::Release(f.actor, f.object, x),
@@ -96,21 +121,22 @@ fn request_of(f: Fields) -> Request
     }
 }
 
-pub fn decode_fields(f: Fields) -> Decoded
-    ensures { λ r. ⌜ r ≡ decodeFields f ⌝ }
+pub fn decode_fields(p: Profile, f: Fields) -> Decoded
+    ensures { λ r. ⌜ r ≡ decodeFields p f ⌝ }
 {
-    if well_formed(f) {
+    if well_formed(p, f) {
         Decoded::Says(request_of(f))
     } else {
         Decoded::Malformed
     }
 }
 
-pub fn decode(b: &[u8]) -> Decoded
-    ensures { λ r. ⌜ r ≡ decode (now (b .entry)) ⌝ }
+// What a byte string says to a monitor of a profile.
+pub fn decode(p: Profile, b: &[u8]) -> Decoded
+    ensures { λ r. ⌜ r ≡ decode p (now (b .entry)) ⌝ }
 {
     if b.len() != 6 {
         return Decoded::Malformed;
     }
-    decode_fields(fields_of(bits::read_word(b)))
+    decode_fields(p, fields_of(bits::read_word(b)))
 }

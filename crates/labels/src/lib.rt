@@ -41,7 +41,7 @@ fn includes(a: u16, b: u16) -> bool
 }
 
 // One direction of a comparison.
-fn at_least(a: Level, b: Level) -> bool
+pub fn at_least(a: Level, b: Level) -> bool
     ensures { λ r. ⌜ r ≡ atLeast a b ⌝ }
 {
     (b.class <= a.class) & includes(a.needs, b.needs)
@@ -142,6 +142,7 @@ pub fn number(d: Decision) -> u8
         Decision::ShortBuffer => 13,
         Decision::LabelLowered => 14,
         Decision::ZeroSeed => 15,
+        Decision::OutsideProfile => 16,
     }
 }
 

@@ -9,25 +9,28 @@ use lib.ListN.{length}
 use lib.Seq.{getD-set-same, getD-set-other}
 use Rattle.model.specs.declared.Label.{Label}
 use Rattle.model.specs.declared.Object.{Object}
+use Rattle.model.specs.declared.Profile.{Profile}
 use Rattle.model.specs.declared.Monitor.{Monitor}
 use Rattle.model.specs.State.{object, clearance, withLabel}
-use Rattle.unit.specs.Rows.{Rows, rowCount, heldRow, restRow, clearanceRow, rowAt, labelIn, objectOf, objectIn, stateIn}
-use Rattle.unit.specs.Stored.{restOf, clearanceOf, setRights, setHeld, setLabel, setObject, monitorRow, unitOf}
+use Rattle.unit.specs.Rows.{Rows, rowCount, heldRow, restRow, clearanceRow, profileRow, rowAt, labelIn, profileIn, objectOf, objectIn, stateIn}
+use Rattle.unit.specs.Stored.{restOf, clearanceOf, profileOf, setRights, setHeld, setLabel, setObject, monitorRow, unitOf}
 use Rattle.unit.proofs.Tabulated.{tabulated, same-or-not}
 use Rattle.unit.proofs.Readings.{read-object, read-held-row, read-clearance}
-use Rattle.unit.proofs.Stores.{label-back, object-back, object-others, object-rest}
-use Rattle.unit.proofs.Units.{row-rights, row-held, row-rest, row-clearance, in-parts, unit-at}
+use Rattle.unit.proofs.Stores.{label-back, profile-back, object-back, object-others, object-rest}
+use Rattle.unit.proofs.Units.{row-rights, row-held, row-rest, row-clearance, row-profile, in-parts, unit-at}
 
--- a row of the rest of a record is the one that is stored of some record, a row of a clearance that of some label
+-- a row of the rest of a record is the one that is stored of some record, a row of a clearance that of some label, the last that of some profile
 pub record Plain (u : Rows) : Type 0 where
   pub rests : (p : ℕ) → p < 64 → (ob : Object) × (rowAt u (restRow p) ≡ restOf ob)
   pub clearances : (s : ℕ) → s < 16 → (l : Label) × (rowAt u (clearanceRow s) ≡ clearanceOf l)
+  pub profile : (p : Profile) × (rowAt u profileRow ≡ profileOf p)
 
 pub unit-plain : (m : Monitor) → Plain (unitOf m)
 unit-plain m =
     record {
       rests = λ p h. (object m p, unit-at m (restRow p) (omega arith) ∙ row-rest m p h);
-      clearances = λ s h. (clearance m s, unit-at m (clearanceRow s) (omega arith) ∙ row-clearance m s);
+      clearances = λ s h. (clearance m s, unit-at m (clearanceRow s) (omega arith) ∙ row-clearance m s h);
+      profile = (m .profile, unit-at m profileRow (omega arith) ∙ row-profile m);
     }
 
 -- rows that differ from plain ones in no row of the rest or of a clearance, or in one that is stored of a record
@@ -37,6 +40,7 @@ module _ (u w : Rows) (F : Plain u) where
       record {
         rests = λ p h. let r = F .rests p h in (r .0, g (restRow p) (omega arith) ∙ r .1);
         clearances = λ s h. let r = F .clearances s h in (r .0, g (clearanceRow s) (omega arith) ∙ r .1);
+        profile = (F .profile .0, g profileRow (omega arith) ∙ F .profile .1);
       }
 
   record-plain : (o : ℕ) → o < 64 → (ob : Object) → rowAt w (restRow o) ≡ restOf ob → ((j : ℕ) → 128 ≤ j → j ≢ restRow o → rowAt w j ≡ rowAt u j) → Plain w
@@ -48,6 +52,7 @@ module _ (u w : Rows) (F : Plain u) where
             (λ (q : p ≢ o). let r = F .rests p l in (r .0, g (restRow p) (omega arith) (λ z. q (omega arith)) ∙ r .1))
             (same-or-not p o);
         clearances = λ s l. let r = F .clearances s l in (r .0, g (clearanceRow s) (omega arith) (λ z. absurd (omega arith)) ∙ r .1);
+        profile = (F .profile .0, g profileRow (omega arith) (λ z. absurd (omega arith)) ∙ F .profile .1);
       }
 
 module _ (u : Rows) (n : length u ≡ rowCount) (F : Plain u) (o : ℕ) (h : o < 64) where
@@ -79,6 +84,11 @@ module _ (u : Rows) (n : length u ≡ rowCount) (F : Plain u) where
       let r = F .clearances s h in
       r .1 ∙ ap clearanceOf (sym (label-back 0 0 (r .0)) ∙ ap labelIn (sym (r .1)) ∙ read-clearance u s h)
 
+  profile-is : rowAt u profileRow ≡ profileOf (stateIn u .profile)
+  profile-is =
+      let r = F .profile in
+      r .1 ∙ ap profileOf (sym (profile-back (r .0)) ∙ ap profileIn (sym (r .1)))
+
   pub plain-is : u ≡ unitOf (stateIn u)
   unfolding unitOf objectOf
   plain-is =
@@ -88,4 +98,5 @@ module _ (u : Rows) (n : length u ≡ rowCount) (F : Plain u) where
       (λ p l. ap (λ (x : Object). x .rights) (read-object u p l) ∙ sym (row-rights m p l))
       (λ p l. read-held-row u p l ∙ sym (row-held m p l))
       (λ p l. rest-is p l ∙ sym (row-rest m p l))
-      (λ k l. clearance-is k l ∙ sym (row-clearance m k)))
+      (λ k l. clearance-is k l ∙ sym (row-clearance m k l))
+      (profile-is ∙ sym (row-profile m)))

@@ -10,7 +10,7 @@ use Rattle.model.specs.declared.Label.the-variants.{Absent, Present}
 use Rattle.model.specs.declared.Object.{Object}
 use Rattle.model.specs.declared.Monitor.{Monitor}
 use Rattle.model.specs.State.{noModes, noObject, nobody, fresh, withOwner, withLabel, withRows, withObject}
-use Rattle.unit.specs.Rows.{Rows, labelIn, objectOf, tabulate, stateIn}
+use Rattle.unit.specs.Rows.{Rows, labelIn, profileIn, objectOf, tabulate, stateIn}
 use Rattle.unit.specs.Stored.{labelBytes, rowOf, monitorRow, unitOf}
 
 abbrev level : ℕ → ℕ → Label
@@ -23,10 +23,11 @@ trace =
     (12 ∷ 0 ∷ 0 ∷ 0 ∷ 0 ∷ 15 ∷ 0 ∷ 0 ∷ 0 ∷ 0 ∷ 0 ∷ 0 ∷ 0 ∷ 0 ∷ 0 ∷ 3 ∷ [])
     (8 ∷ 0 ∷ 0 ∷ 0 ∷ 0 ∷ 4 ∷ 0 ∷ 0 ∷ 0 ∷ 0 ∷ 0 ∷ 0 ∷ 0 ∷ 0 ∷ 0 ∷ 1 ∷ [])
 
--- subjects 0, 5 and 15 are enrolled; object 2 has the record above, object 63 is live without a label
+-- every subject and object is in use, every class and some needs; subjects 0, 5 and 15 are enrolled; object 2 has the record above, object 63 is
+-- live without a label
 abbrev pub example : Monitor
 example =
-    withObject (withObject (fresh
+    withObject (withObject (fresh (record { subjects = 16; objects = 64; highest = record { class = 15; needs = 0xFF34 } })
     (record { clearance = level 15 0xFF34 }
     ∷ (replicate 4 nobody
     ++ (record { clearance = level 9 0x1234 }
@@ -35,7 +36,8 @@ example =
     ∷ [])))))) 2 trace) 63 (withOwner noObject 15)
 
 -- rows 0 to 63: rights; 64 to 127: accesses held; 128 to 191: live, owner, 1 where there is a label, its class, its needs with the high
--- byte first; 192 to 207: the same of the clearances, from byte 2 on; "Every other byte is 0"
+-- byte first; 192 to 207: the same of the clearances, from byte 2 on; 208: the subjects and the objects in use, 1, the highest class, the needs
+-- in use; "Every other byte is 0"
 abbrev exampleRows : Rows
 exampleRows =
     replicate 2 noModes
@@ -53,6 +55,7 @@ exampleRows =
     ++ ((0 ∷ 0 ∷ 1 ∷ 9 ∷ 0x12 ∷ 0x34 ∷ 0 ∷ 0 ∷ 0 ∷ 0 ∷ 0 ∷ 0 ∷ 0 ∷ 0 ∷ 0 ∷ 0 ∷ [])
     ∷ replicate 9 noModes
     ++ ((0 ∷ 0 ∷ 1 ∷ 0 ∷ 0 ∷ 0 ∷ 0 ∷ 0 ∷ 0 ∷ 0 ∷ 0 ∷ 0 ∷ 0 ∷ 0 ∷ 0 ∷ 0 ∷ [])
+    ∷ (16 ∷ 64 ∷ 1 ∷ 15 ∷ 0xFF ∷ 0x34 ∷ 0 ∷ 0 ∷ 0 ∷ 0 ∷ 0 ∷ 0 ∷ 0 ∷ 0 ∷ 0 ∷ 0 ∷ [])
     ∷ []))))))))
 
 -- every byte of the unit
@@ -62,7 +65,7 @@ rows-stored = refl
 
 -- and what they say
 pub rows-read : stateIn exampleRows ≡ example
-unfolding tabulate objectOf labelIn
+unfolding tabulate objectOf labelIn profileIn
 rows-read = refl
 
 -- "so where the byte is 1 and in no other case": 2 is neither live nor a label; "the bytes without a meaning are not looked at"; "a number
@@ -70,5 +73,6 @@ rows-read = refl
 pub other-contents : (objectOf noModes noModes (2 ∷ 5 ∷ 2 ∷ 9 ∷ 0x12 ∷ 0x34 ∷ replicate 10 0) ≡ record { live = false; owner = 5; label = Absent; rights = noModes; held = noModes })
     × (labelIn (0 ∷ 0 ∷ 255 ∷ 9 ∷ 0x12 ∷ 0x34 ∷ replicate 10 0) ≡ Absent)
     × (labelIn (7 ∷ 8 ∷ 1 ∷ 200 ∷ 0x12 ∷ 0x34 ∷ replicate 10 9) ≡ level 200 0x1234)
-unfolding objectOf labelIn
-other-contents = (refl, refl, refl)
+    × (profileIn (200 ∷ 0 ∷ 7 ∷ 99 ∷ 0x12 ∷ 0x34 ∷ replicate 10 9) ≡ record { subjects = 200; objects = 0; highest = record { class = 99; needs = 0x1234 } })
+unfolding objectOf labelIn profileIn
+other-contents = (refl, refl, refl, refl)

@@ -14,10 +14,11 @@ use Rattle.bits.specs.Bits.{bit}
 use Rattle.model.specs.declared.Label.{Label}
 use Rattle.model.specs.declared.Label.the-variants.{Absent, Present}
 use Rattle.model.specs.declared.Object.{Object}
+use Rattle.model.specs.declared.Profile.{Profile}
 use Rattle.model.specs.State.{nobody, noObject, object, withRights, withHeld, withLabel, withObject}
 use Rattle.model.proofs.Equal.{object-ext, monitor-ext}
-use Rattle.unit.specs.Rows.{Rows, rowCount, heldRow, restRow, clearanceRow, rowAt, byteAt, labelIn, objectOf, objectIn, subjectIn, subjectsIn, objectsIn, stateIn}
-use Rattle.unit.specs.Stored.{labelBytes, rowOf, restOf, setRights, setHeld, setLabel, setObject}
+use Rattle.unit.specs.Rows.{Rows, rowCount, heldRow, restRow, clearanceRow, profileRow, rowAt, byteAt, labelIn, profileIn, objectOf, objectIn, subjectIn, subjectsIn, objectsIn, stateIn}
+use Rattle.unit.specs.Stored.{labelBytes, rowOf, restOf, profileOf, setRights, setHeld, setLabel, setObject}
 use Rattle.unit.proofs.Tabulated.{tabulate-set, tabulate-same}
 use Rattle.unit.proofs.Readings.{read-object}
 
@@ -27,6 +28,12 @@ pub label-back : (a b : ℕ) (l : Label) → labelIn (rowOf a b l) ≡ l
 unfolding labelIn labelBytes rowOf
 label-back a b Absent = refl
 label-back a b (Present l) = ap (λ n. Present (record { class = l .class; needs = n })) (div-add-mod' (l .needs) 256)
+
+pub profile-back : (p : Profile) → profileIn (profileOf p) ≡ p
+unfolding profileIn labelBytes rowOf
+profile-back p =
+    let e = div-add-mod' (p .highest .needs) 256 in
+    λ i. record { subjects = p .subjects; objects = p .objects; highest = record { class = p .highest .class; needs = e i } }
 
 live-back : (b : Bool) → eqb (bit b) 1 ≡ b
 live-back true = refl
@@ -55,7 +62,7 @@ module _ (u w : Rows) (o : ℕ) (h : o < 64) (others : (j : ℕ) → j ≢ o →
 
   state-after : (ob : Object) → objectIn w o ≡ ob → stateIn w ≡ withObject (stateIn u) o ob
   state-after ob e =
-      monitor-ext _ _ same-subjects (tabulate-set 64 (objectIn u) (objectIn w) noObject o h other-object ∙ ap (set (objectsIn u) o) e)
+      monitor-ext _ _ (ap profileIn (others profileRow (λ y. absurd (omega arith)) (λ y. absurd (omega arith)) (λ y. absurd (omega arith)))) same-subjects (tabulate-set 64 (objectIn u) (objectIn w) noObject o h other-object ∙ ap (set (objectsIn u) o) e)
 
 -- ---- what is stored
 

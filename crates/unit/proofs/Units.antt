@@ -3,7 +3,7 @@
 use Prim.Native.Nat.{ℕ, _+_, _-_, _≤_, _<_}
 use native.Mathlib.Omega.{arith}
 use native.Mathlib.Nat.{eq-or-lt-of-le}
-use mathlib.Core.Path.{_≡_, sym, ap, _∙_, subst}
+use mathlib.Core.Path.{_≡_, refl, sym, ap, _∙_, subst}
 use mathlib.Core.Logic.{⊎-elim}
 use mathlib.Core.List.{List, []}
 use lib.ListN.{length, set, length-set}
@@ -14,10 +14,10 @@ use Rattle.model.specs.declared.Monitor.{Monitor}
 use Rattle.model.specs.State.{nobody, noObject, objectAt, object, clearance, fresh, WellFormed}
 use Rattle.model.proofs.Tests.{le-or-lt}
 use Rattle.model.proofs.Equal.{monitor-ext}
-use Rattle.unit.specs.Rows.{Rows, rowCount, heldRow, restRow, clearanceRow, rowAt, labelIn, objectIn, subjectIn, subjectsIn, objectsIn, stateIn}
-use Rattle.unit.specs.Stored.{restOf, clearanceOf, setObject, monitorRow, unitOf, ObjectsStored, SameClearances}
+use Rattle.unit.specs.Rows.{Rows, rowCount, heldRow, restRow, clearanceRow, profileRow, rowAt, labelIn, profileIn, objectIn, subjectIn, subjectsIn, objectsIn, stateIn}
+use Rattle.unit.specs.Stored.{restOf, clearanceOf, profileOf, setProfile, setObject, monitorRow, unitOf, ObjectsStored, SameClearances}
 use Rattle.unit.proofs.Tabulated.{tabulate-length, tabulate-at, tabulated}
-use Rattle.unit.proofs.Stores.{label-back, object-back, object-length, object-others, object-rights, object-held, object-rest}
+use Rattle.unit.proofs.Stores.{label-back, profile-back, object-back, object-length, object-others, object-rights, object-held, object-rest}
 
 pub unit-length : (m : Monitor) → length (unitOf m) ≡ rowCount
 unfolding unitOf
@@ -42,25 +42,34 @@ module _ (m : Monitor) where
       let e : restRow p - 128 ≡ p = omega arith in
       rw (le-ltb (restRow p) 64 (omega arith), le-ltb (restRow p) 128 (omega arith), lt-ltb (restRow p) 192 (omega arith)) (ap (λ i. restOf (object m i)) e)
 
-  pub row-clearance : (s : ℕ) → monitorRow m (clearanceRow s) ≡ clearanceOf (clearance m s)
+  pub row-clearance : (s : ℕ) → s < 16 → monitorRow m (clearanceRow s) ≡ clearanceOf (clearance m s)
   unfolding monitorRow
-  row-clearance s =
+  row-clearance s h =
       let e : clearanceRow s - 192 ≡ s = omega arith in
-      rw (le-ltb (clearanceRow s) 64 (omega arith), le-ltb (clearanceRow s) 128 (omega arith), le-ltb (clearanceRow s) 192 (omega arith)) (ap (λ i. clearanceOf (clearance m i)) e)
+      rw (le-ltb (clearanceRow s) 64 (omega arith), le-ltb (clearanceRow s) 128 (omega arith), le-ltb (clearanceRow s) 192 (omega arith), lt-ltb (clearanceRow s) 208 (omega arith))
+      (ap (λ i. clearanceOf (clearance m i)) e)
 
--- a number below 208 is that of a row of one of the four parts
+  pub row-profile : monitorRow m profileRow ≡ profileOf (m .profile)
+  unfolding monitorRow
+  row-profile = refl
+
+-- a number below 209 is that of a row of one of the five parts
 pub in-parts : (P : ℕ → Type 0) → ((p : ℕ) → p < 64 → P p) → ((p : ℕ) → p < 64 → P (heldRow p)) → ((p : ℕ) → p < 64 → P (restRow p))
-    → ((s : ℕ) → s < 16 → P (clearanceRow s)) → (i : ℕ) → i < rowCount → P i
-in-parts P a b c d i h =
+    → ((s : ℕ) → s < 16 → P (clearanceRow s)) → P profileRow → (i : ℕ) → i < rowCount → P i
+in-parts P a b c d e i h =
     ⊎-elim
     (λ (w : 64 ≤ i).
     ⊎-elim
     (λ (x : 128 ≤ i).
     ⊎-elim
-    (λ (y : 192 ≤ i). let e : clearanceRow (i - 192) ≡ i = omega arith in subst P e (d (i - 192) (omega arith)))
-    (λ (y : i < 192). let e : restRow (i - 128) ≡ i = omega arith in subst P e (c (i - 128) (omega arith)))
+    (λ (y : 192 ≤ i).
+    ⊎-elim
+    (λ (z : 208 ≤ i). let k : profileRow ≡ i = omega arith in subst P k e)
+    (λ (z : i < 208). let k : clearanceRow (i - 192) ≡ i = omega arith in subst P k (d (i - 192) (omega arith)))
+    (le-or-lt 208 i))
+    (λ (y : i < 192). let k : restRow (i - 128) ≡ i = omega arith in subst P k (c (i - 128) (omega arith)))
     (le-or-lt 192 i))
-    (λ (x : i < 128). let e : heldRow (i - 64) ≡ i = omega arith in subst P e (b (i - 64) (omega arith)))
+    (λ (x : i < 128). let k : heldRow (i - 64) ≡ i = omega arith in subst P k (b (i - 64) (omega arith)))
     (le-or-lt 128 i))
     (λ (w : i < 64). a i w)
     (le-or-lt 64 i)
@@ -77,14 +86,14 @@ module _ (m : Monitor) where
       rw (unit-at o (omega arith), unit-at (heldRow o) (omega arith), unit-at (restRow o) (omega arith), row-rights m o h, row-held m o h, row-rest m o h) (object-back (object m o))
 
   unit-clearance : (s : ℕ) → s < 16 → labelIn (rowAt (unitOf m) (clearanceRow s)) ≡ clearance m s
-  unit-clearance s h = ap labelIn (unit-at (clearanceRow s) (omega arith) ∙ row-clearance m s) ∙ label-back 0 0 (clearance m s)
+  unit-clearance s h = ap labelIn (unit-at (clearanceRow s) (omega arith) ∙ row-clearance m s h) ∙ label-back 0 0 (clearance m s)
 
   pub unit-says : length (m .subjects) ≡ 16 → length (m .objects) ≡ 64 → stateIn (unitOf m) ≡ m
   unit-says a b =
       let objects : objectsIn (unitOf m) ≡ m .objects = sym (tabulated 64 (objectIn (unitOf m)) noObject (m .objects) b (λ o h. sym (unit-object o h))) in
       let subjects : subjectsIn (unitOf m) ≡ m .subjects = sym (tabulated 16 (subjectIn (unitOf m)) nobody (m .subjects) a
       (λ s h. let e = sym (unit-clearance s h) in λ j. record { clearance = e j })) in
-      monitor-ext _ m subjects objects
+      monitor-ext _ m (ap profileIn (unit-at profileRow (omega arith) ∙ row-profile m) ∙ profile-back (m .profile)) subjects objects
 
   pub well-formed-says : WellFormed m → stateIn (unitOf m) ≡ m
   well-formed-says W = unit-says (W .subjects-length) (W .objects-length)
@@ -153,25 +162,39 @@ subjects-more m u s r E h e =
           (eq-or-lt-of-le {n = k} {m = s} (omega arith));
     }
 
-pub subjects-all : (m : Monitor) (u : Rows) (s : ℕ) → SubjectsStored m u s → 16 ≤ s → u ≡ unitOf m
+-- rows that have what a monitor has, in every part, are its rows
+rows-all : (m : Monitor) (u : Rows) → ObjectsStored (m .objects) u 64 → ((k : ℕ) → k < 16 → rowAt u (clearanceRow k) ≡ clearanceOf (clearance m k))
+    → rowAt u profileRow ≡ profileOf (m .profile) → u ≡ unitOf m
 unfolding unitOf
-subjects-all m u s E h =
-    let F = E .objects in
+rows-all m u F clearances profile =
     tabulated rowCount (monitorRow m) [] u (F .whole)
     (in-parts (λ i. rowAt u i ≡ monitorRow m i)
     (λ p l. F .rights p l ∙ sym (row-rights m p l))
     (λ p l. F .held p l ∙ sym (row-held m p l))
     (λ p l. F .rest p l ∙ sym (row-rest m p l))
-    (λ k l. E .subjects k (omega arith) ∙ sym (row-clearance m k)))
+    (λ k l. clearances k l ∙ sym (row-clearance m k l))
+    (profile ∙ sym (row-profile m)))
 
--- a fresh monitor's rows, in which the records of the objects were stored
-pub stored-over : (m : Monitor) (u w : Rows) → u ≡ unitOf (fresh (m .subjects)) → SameClearances u w → ObjectsStored (m .objects) w 64 → w ≡ unitOf m
-stored-over m u w e S O =
-    let begun = fresh (m .subjects) in
-    subjects-all m w 16
+-- the profile is stored last
+pub subjects-all : (m : Monitor) (u : Rows) (s : ℕ) → SubjectsStored m u s → 16 ≤ s → setProfile u (m .profile) ≡ unitOf m
+subjects-all m u s E h =
+    let F = E .objects in
+    let r = profileOf (m .profile) in
+    rows-all m (setProfile u (m .profile))
     (record {
       bound = omega arith;
-      objects = O;
-      subjects = λ k h. S .same k ∙ ap (λ (v : Rows). rowAt v (clearanceRow k)) e ∙ unit-at begun (clearanceRow k) (omega arith) ∙ row-clearance begun k;
+      whole = length-set u profileRow r ∙ F .whole;
+      rights = λ p w. getD-set-other u profileRow p r [] (λ z. absurd (omega arith)) ∙ F .rights p w;
+      held = λ p w. getD-set-other u profileRow (heldRow p) r [] (λ z. absurd (omega arith)) ∙ F .held p w;
+      rest = λ p w. getD-set-other u profileRow (restRow p) r [] (λ z. absurd (omega arith)) ∙ F .rest p w;
     })
-    (omega arith)
+    (λ k l. getD-set-other u profileRow (clearanceRow k) r [] (λ z. absurd (omega arith)) ∙ E .subjects k (omega arith))
+    (getD-set-same u profileRow r [] (omega (arith, F .whole)))
+
+-- a fresh monitor's rows, in which the records of the objects were stored
+pub stored-over : (m : Monitor) (u w : Rows) → u ≡ unitOf (fresh (m .profile) (m .subjects)) → SameClearances u w → ObjectsStored (m .objects) w 64 → w ≡ unitOf m
+stored-over m u w e S O =
+    let begun = fresh (m .profile) (m .subjects) in
+    rows-all m w O
+    (λ k h. S .same k ∙ ap (λ (v : Rows). rowAt v (clearanceRow k)) e ∙ unit-at begun (clearanceRow k) (omega arith) ∙ row-clearance begun k h)
+    (S .same 16 ∙ ap (λ (v : Rows). rowAt v profileRow) e ∙ unit-at begun profileRow (omega arith) ∙ row-profile begun)

@@ -1,6 +1,6 @@
 -- What is stored into the rows, and the rows of a whole monitor.
 -- Assumes nothing.
-use Prim.Native.Nat.{ℕ, _-_, _*_, _/_, _%_, _<_, _≤_}
+use Prim.Native.Nat.{ℕ, _+_, _-_, _*_, _/_, _%_, _<_, _≤_}
 use mathlib.Core.Path.{_≡_}
 use mathlib.Core.Bool.{cond}
 use mathlib.Core.List.{List, _∷_}
@@ -10,10 +10,11 @@ use Rattle.bits.specs.Bits.{bit}
 use Rattle.model.specs.declared.Label.{Label}
 use Rattle.model.specs.declared.Label.the-variants.{Absent, Present}
 use Rattle.model.specs.declared.Object.{Object}
+use Rattle.model.specs.declared.Profile.{Profile}
 use Rattle.model.specs.declared.Monitor.{Monitor}
-use Rattle.model.specs.State.{objectCount, objectAt, object, clearance, withLabel}
+use Rattle.model.specs.State.{subjectCount, objectCount, objectAt, object, clearance, withLabel}
 use Rattle.unit.specs.declared.rows.LabelBytes.{LabelBytes}
-use Rattle.unit.specs.Rows.{Rows, rowCount, heldRow, restRow, clearanceRow, rowAt, objectIn, tabulate}
+use Rattle.unit.specs.Rows.{Rows, rowCount, heldRow, restRow, clearanceRow, profileRow, rowAt, objectIn, tabulate}
 
 -- the bytes of a label: 1, the class and the needs in two bytes; of none four times 0
 unfoldable pub labelBytes : Label → LabelBytes
@@ -33,6 +34,10 @@ restOf ob = rowOf (bit (ob .live)) (ob .owner) (ob .label)
 abbrev pub clearanceOf : Label → List ℕ
 clearanceOf l = rowOf 0 0 l
 
+-- the row of a profile
+abbrev pub profileOf : Profile → List ℕ
+profileOf p = rowOf (p .subjects) (p .objects) (Present (p .highest))
+
 -- the set of subject s in the row of rights of object o, and in that of the accesses held, becomes n
 abbrev pub setRights : Rows → ℕ → ℕ → ℕ → Rows
 setRights u o s n = set u o (set (rowAt u o) s n)
@@ -43,6 +48,10 @@ setHeld u o s n = set u (heldRow o) (set (rowAt u (heldRow o)) s n)
 -- the label of object o becomes l
 abbrev pub setLabel : Rows → ℕ → Label → Rows
 setLabel u o l = set u (restRow o) (restOf (withLabel (objectIn u o) l))
+
+-- the profile becomes another
+abbrev pub setProfile : Rows → Profile → Rows
+setProfile u p = set u profileRow (profileOf p)
 
 -- the three rows of object o become others
 abbrev pub setRows : Rows → ℕ → List ℕ → List ℕ → List ℕ → Rows
@@ -58,7 +67,8 @@ monitorRow m i =
     cond (ltb i objectCount) (object m i .rights)
     (cond (ltb i (2 * objectCount)) (object m (i - objectCount) .held)
     (cond (ltb i (3 * objectCount)) (restOf (object m (i - 2 * objectCount)))
-    (clearanceOf (clearance m (i - 3 * objectCount)))))
+    (cond (ltb i (3 * objectCount + subjectCount)) (clearanceOf (clearance m (i - 3 * objectCount)))
+    (profileOf (m .profile)))))
 
 -- the rows of a monitor
 unfoldable pub unitOf : Monitor → Rows
@@ -74,6 +84,6 @@ pub record ObjectsStored (l : List Object) (u : Rows) (o : ℕ) : Type 0 where
   pub held : (p : ℕ) → p < o → rowAt u (heldRow p) ≡ objectAt l p .held
   pub rest : (p : ℕ) → p < o → rowAt u (restRow p) ≡ restOf (objectAt l p)
 
--- the clearances are what they were
+-- the clearances are what they were, and what stands behind them, the profile
 pub record SameClearances (u w : Rows) : Type 0 where
   pub same : (s : ℕ) → rowAt w (clearanceRow s) ≡ rowAt u (clearanceRow s)

@@ -1,4 +1,4 @@
-// A unit: a monitor as 208 rows of sixteen bytes in memory that the caller owns. Every content of that memory is a state.
+// A unit: a monitor as 209 rows of sixteen bytes in memory that the caller owns. Every content of that memory is a state.
 mod parts;
 mod rows;
 mod whole;
@@ -11,6 +11,7 @@ pub use parts::is_live;
 pub use parts::is_owner;
 pub use parts::label_of;
 pub use parts::owner_of;
+pub use parts::profile_of;
 pub use parts::rest_of;
 pub use parts::rights_of;
 pub use parts::set_held;

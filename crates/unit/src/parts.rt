@@ -8,11 +8,14 @@ ghost use Rattle.unit.specs.Rows.{rowCount, stateIn, rowAt, restRow};
 ghost use Rattle.unit.specs.Stored.{setRights, setHeld, setLabel, setRows};
 use crate::rows::CLEARANCES;
 use crate::rows::HELD;
+use crate::rows::PROFILE;
 use crate::rows::REST;
 use crate::rows::flag;
 use crate::rows::label_in;
+use crate::rows::profile_in;
 use crate::rows::row_of;
 use model::Label;
+use model::Profile;
 
 pub fn is_enrolled(unit: &[[u8; 16]], s: u8) -> bool
     requires { do ⌜ (← ⟦unit.len()⟧) ≡ rowCount ⌝ }
@@ -30,6 +33,15 @@ pub fn clearance_of(unit: &[[u8; 16]], s: u8) -> Label
 {
     let row = unit[CLEARANCES + s as usize];
     label_in(row)
+}
+
+// The profile of the monitor.
+pub fn profile_of(unit: &[[u8; 16]]) -> Profile
+    requires { do ⌜ (← ⟦unit.len()⟧) ≡ rowCount ⌝ }
+    ensures { λ r. ⌜ r ≡ stateIn (now (unit .entry)) .profile ⌝ }
+{
+    let row = unit[PROFILE];
+    profile_in(row)
 }
 
 pub fn is_live(unit: &[[u8; 16]], o: u8) -> bool

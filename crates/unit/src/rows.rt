@@ -2,20 +2,23 @@
 ghost use mathlib.Core.Path.{_≡_};
 ghost use Prim.Native.Nat.{_+_, _*_, _/_, _%_};
 ghost use Rattle.bits.specs.Bits.{bit};
-ghost use Rattle.unit.specs.Rows.{labelIn};
-ghost use Rattle.unit.specs.Stored.{labelBytes, rowOf};
+ghost use Rattle.unit.specs.Rows.{levelIn, labelIn, profileIn};
+ghost use Rattle.unit.specs.Stored.{labelBytes, rowOf, profileOf};
 use model::Label;
 use model::Level;
 use model::Monitor;
+use model::Profile;
 
-// The rights of object o are row o; here begin the accesses held, the rest of the records, and the clearances.
+// The rights of object o are row o; here begin the accesses held, the rest of the records, and the clearances; the last row is the profile.
 pub const HELD: usize = Monitor::OBJECTS;
 
 pub const REST: usize = 2 * Monitor::OBJECTS;
 
 pub const CLEARANCES: usize = 3 * Monitor::OBJECTS;
 
-pub const ROWS: usize = 3 * Monitor::OBJECTS + Monitor::SUBJECTS;
+pub const PROFILE: usize = 3 * Monitor::OBJECTS + Monitor::SUBJECTS;
+
+pub const ROWS: usize = 3 * Monitor::OBJECTS + Monitor::SUBJECTS + 1;
 
 fn word(high: u8, low: u8) -> u16
     ensures { λ r. ⌜ r ≡ high * 256 + low ⌝ }
@@ -41,20 +44,40 @@ pub fn flag(b: bool) -> u8
     if b { 1 } else { 0 }
 }
 
-// The label that a row says, or none.
-pub fn label_in(row: [u8; 16]) -> Label
-    ensures { λ r. ⌜ r ≡ labelIn row ⌝ }
+// The level that a row says where it has one.
+fn level_in(row: [u8; 16]) -> Level
+    ensures { λ r. ⌜ r ≡ levelIn row ⌝ }
 {
     let class = row[3];
     let high = row[4];
     let low = row[5];
+    Level {
+        class,
+        needs: word(high, low),
+    }
+}
+
+// The label that a row says, or none.
+pub fn label_in(row: [u8; 16]) -> Label
+    ensures { λ r. ⌜ r ≡ labelIn row ⌝ }
+{
     if row[2] == 1 {
-        Label::Present(Level {
-            class,
-            needs: word(high, low),
-        })
+        Label::Present(level_in(row))
     } else {
         Label::Absent
+    }
+}
+
+// The profile that a row says.
+pub fn profile_in(row: [u8; 16]) -> Profile
+    ensures { λ r. ⌜ r ≡ profileIn row ⌝ }
+{
+    let subjects = row[0];
+    let objects = row[1];
+    Profile {
+        subjects,
+        objects,
+        highest: level_in(row),
     }
 }
 
@@ -108,4 +131,12 @@ pub fn row_of(a: u8, b: u8, label: Label) -> [u8; 16]
         0,
         0,
     ]
+}
+
+// The row of a profile.
+pub fn profile_row(p: Profile) -> [u8; 16]
+    ensures { λ r. ⌜ r ≡ profileOf p ⌝ }
+{
+    let highest = p.highest;
+    row_of(p.subjects, p.objects, Label::Present(highest))
 }

@@ -7,9 +7,11 @@ ghost use Rattle.unit.specs.Stored.{setObject, unitOf};
 use crate::parts::set_rows;
 use crate::rows::CLEARANCES;
 use crate::rows::HELD;
+use crate::rows::PROFILE;
 use crate::rows::REST;
 use crate::rows::flag;
 use crate::rows::label_in;
+use crate::rows::profile_row;
 use crate::rows::row_of;
 use model::Monitor;
 use model::Object;
@@ -71,4 +73,6 @@ pub fn fill(unit: &mut [[u8; 16]], m: Monitor)
         unit[CLEARANCES + s] = row;
         s += 1;
     }
+    let profile = m.profile;
+    unit[PROFILE] = profile_row(profile);
 }

@@ -26,7 +26,7 @@ unfolding decode
 returns-2 c =
     rw (eq-eqb _ _ (c .before .before .before .if1 .left))
     (c .decode-fields .ensures
-    ∙ ap decodeFields (c .before .fields-of .ensures ∙ ap fieldsOfWord (c .before .before .read-word .ensures .0) ∙ fields-word _))
+    ∙ ap (decodeFields (c .before .before .before .before .before .args .p)) (c .before .fields-of .ensures ∙ ap fieldsOfWord (c .before .before .read-word .ensures .0) ∙ fields-word _))
 
 pub decode-spec : {M : Type 1} → statement M
 decode-spec =

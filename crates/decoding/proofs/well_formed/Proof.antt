@@ -4,15 +4,15 @@ use Rattle.model.specs.Requests.{wellFormed}
 use Rattle.decoding.proofs.well_formed.Statement.{statement}
 use Rattle.decoding.proofs.well_formed.Tie as tie
 
-mode-allowed-requires : tie.Need-mode-allowed-requires
-mode-allowed-requires c κs = tt
+fields-formed-requires : tie.Need-fields-formed-requires
+fields-formed-requires c κs = tt
 
-unused-zero-requires : tie.Need-unused-zero-requires
-unused-zero-requires c κs = tt
+within-requires : tie.Need-within-requires
+within-requires c κs = tt
 
 returns : tie.Need-returns
 unfolding wellFormed
-returns c = rw (c .before .before .before .before .before .before .mode-allowed .ensures, c .before .before .before .before .before .unused-zero .ensures)
+returns c = rw (c .before .fields-formed .ensures, c .within .ensures)
 
 pub well-formed-spec : {M : Type 1} → statement M
-well-formed-spec = tie.close (tie.spec mode-allowed-requires unused-zero-requires returns)
+well-formed-spec = tie.close (tie.spec fields-formed-requires within-requires returns)

@@ -2,12 +2,13 @@
 -- Assumes nothing.
 use Prim.Native.Nat.{_-_}
 use native.Mathlib.Omega.{arith}
-use mathlib.Core.Path.{sym}
+use mathlib.Core.Path.{sym, ap, _∙_}
+use Rattle.unit.specs.Rows.{profileRow}
 use Rattle.unit.specs.Stored.{ObjectsStored}
 use Rattle.unit.proofs.Units.{objects-none, objects-more, SubjectsStored, subjects-none, subjects-more, subjects-all}
 use Prim.Native.Nat.{_+_}
 use mathlib.Core.Path.{_≡_, subst}
-use lib.ListN.{length}
+use lib.ListN.{length, set}
 use Rattle.model.proofs.Tests.{mapped-length}
 use Rattle.model.proofs.Arrays.{read-object}
 use borrow.Author.Needs.{needs}
@@ -27,7 +28,7 @@ abbrev μ-loop2 : tie.MeasureT-loop2
 μ-loop2 unit₀ m o s₀ unit s = 16 - s
 
 objects-length : (c : tie.Start Inv-loop μ-loop Inv-loop2 μ-loop2) → length (c .args .t2 .objects) ≡ 64
-objects-length c = mapped-length (c .args .t2 .objects) (Rattle.model.proofs.Object.the-type .to) 64 (c .good .1 .0 .1 .1 .1 .0 .1 .0 .1)
+objects-length c = mapped-length (c .args .t2 .objects) (Rattle.model.proofs.Object.the-type .to) 64 (c .good .1 .0 .1 .1 .1 .1 .0 .1 .0 .1)
 
 loop-holds : tie.Need-loop-holds Inv-loop μ-loop Inv-loop2 μ-loop2
 loop-holds c = objects-none _ _ (c .pre)
@@ -83,11 +84,17 @@ loop2-less c = search needs
 loop2-again : tie.Need-loop2-again Inv-loop μ-loop Inv-loop2 μ-loop2
 loop2-again c = subjects-more _ _ _ _ (c .before .before .before .loop2 .inv) (c .before .before .loop2-test .taken) (c .row-of .ensures)
 
+profile-row-requires : tie.Need-profile-row-requires Inv-loop μ-loop Inv-loop2 μ-loop2
+profile-row-requires c κs = search needs
+
+slice-set-from-unit : tie.Need-slice-set-from-unit Inv-loop μ-loop Inv-loop2 μ-loop2
+slice-set-from-unit c = search (needs, c .before .before .before .loop2 .inv .objects .whole)
+
 same-length : tie.Need-same-length Inv-loop μ-loop Inv-loop2 μ-loop2
-same-length c = search needs
+same-length c = search (needs, c .before .before .before .loop2 .inv .objects .whole, c .before .before .before .before .before .before .pre)
 
 returns : tie.Need-returns Inv-loop μ-loop Inv-loop2 μ-loop2
-returns c = subjects-all _ _ _ (c .before .loop2 .inv) (c .loop2-test .left)
+returns c = ap (set (c .before .before .before .loop2 .unit) profileRow) (c .profile-row .ensures) ∙ subjects-all _ _ _ (c .before .before .before .loop2 .inv) (c .before .before .loop2-test .left)
 
 pub fill-spec : {M : Type 1} → statement M
 fill-spec =
@@ -115,5 +122,7 @@ fill-spec =
     add-s
     loop2-less
     loop2-again
+    profile-row-requires
+    slice-set-from-unit
     same-length
     returns)
