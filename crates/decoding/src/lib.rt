@@ -75,8 +75,7 @@ fn within(p: Profile, f: Fields) -> bool
     ensures { λ r. ⌜ r ≡ within p f ⌝ }
 {
     let inside = at_least(p.highest, level_of(f));
-    (f.actor < p.subjects)
-        & ((f.other < p.subjects) & ((f.object < p.objects) & inside))
+    (f.actor < p.subjects) & ((f.other < p.subjects) & ((f.object < p.objects) & inside))
 }
 
 pub fn well_formed(p: Profile, f: Fields) -> bool

@@ -1,7 +1,7 @@
 -- The answers of the readers: the checks in their order, and the rows of the monitor of each answer.
 -- Assumes nothing.
-use mathlib.Core.Path.{_≡_, sym, ap, ap₂, _∙_, subst}
-use mathlib.Core.Bool.{Bool, true, false, _&&_}
+use mathlib.Core.Path.{_≡_, refl, sym, ap, ap₂, _∙_, subst}
+use mathlib.Core.Bool.{Bool, true, false, cond, _&&_}
 use mathlib.Core.List.{List}
 use Prim.Native.Nat.{ℕ, _-_}
 use native.Mathlib.Omega.{arith}
@@ -10,64 +10,92 @@ use lib.Seq.{take-all, length-take-le}
 use borrow.Author.Tests.{eq-eqb, ne-eqb}
 use lib.Dec.{eqb}
 use Rattle.model.specs.Layout.{tableSize, imageSize}
+use Rattle.model.specs.declared.Profile.{Profile}
 use Rattle.model.specs.declared.Monitor.{Monitor}
 use Rattle.model.specs.declared.Decision.{Decision}
-use Rattle.model.specs.declared.Decision.the-variants.{WrongLength, StrayBits}
+use Rattle.model.specs.declared.Decision.the-variants.{Granted, WrongLength, OutsideProfile}
 use Rattle.model.specs.Tests.{unless}
 use Rattle.model.specs.State.{emptyMonitor, fresh}
+use Rattle.model.specs.Profiles.{profileFits}
 use Rattle.model.specs.Decisions.{refuses}
-use Rattle.model.specs.Reading.{tableFrom, tableForm, objectsFrom, objectsForm, monitorFrom, imageForm, stateChecks, imageChecks, begin}
-use Rattle.model.proofs.Tests.{pass, stop, cond-true, cond-false}
+use Rattle.model.specs.Reading.{tableFrom, tableForm, objectsFrom, objectsForm, monitorFrom, imageForm, stateChecks, tableChecks, imageChecks, begin}
+use Rattle.model.proofs.Tests.{split, pass, stop, cond-true, cond-false}
 use Rattle.unit.specs.Rows.{Rows, stateIn}
 use Rattle.unit.specs.Stored.{unitOf, ObjectsStored, SameClearances}
 use Rattle.unit.proofs.Units.{stored-over}
 use Rattle.image_records.specs.declared.TableRead.{TableRead}
 use Rattle.image_records.specs.Records.{subjectsRead}
 use Rattle.image_records.proofs.Lengths.{table-read}
-use Rattle.image.proofs.Sizes.{read-says}
+use Rattle.image.specs.Settled.{settled}
+use Rattle.image.proofs.Sizes.{fresh-says, read-says}
 
--- ---- refused, or not
+-- ---- refused before anything is read, or settled
 
 module _ (d k : Decision) (m : Monitor) (w : Rows) (e : k ≡ d) where
   pub refused : refuses k ≡ true → w ≡ unitOf emptyMonitor → (k ≡ begin d m .decision) × (w ≡ unitOf (begin d m .monitor))
   unfolding begin
   refused t f = (e, f ∙ ap unitOf (sym (cond-true (refuses d) emptyMonitor m (sym (ap refuses e) ∙ t))))
 
-  pub accepted : refuses k ≡ false → w ≡ unitOf m → (k ≡ begin d m .decision) × (w ≡ unitOf (begin d m .monitor))
+  pub answered : (u : Rows) → u ≡ unitOf m → w ≡ cond (refuses k) (unitOf emptyMonitor) u → (k ≡ begin d m .decision) × (w ≡ unitOf (begin d m .monitor))
   unfolding begin
-  accepted t f = (e, f ∙ ap unitOf (sym (cond-false (refuses d) emptyMonitor m (sym (ap refuses e) ∙ t))))
+  answered u g f =
+      (e, f ∙ ap₂ (λ (r : Bool) (v : Rows). cond r (unitOf emptyMonitor) v) (ap refuses e) g ∙ rows-of (refuses d))
+    where
+      rows-of : (r : Bool) → cond r (unitOf emptyMonitor) (unitOf m) ≡ unitOf (cond r emptyMonitor m)
+      rows-of true = refl
+      rows-of false = refl
 
--- ---- the length, checked first
+-- ---- the ranges of the profile, checked first, then the length
 
-pub wrong-length : (s : List ℕ) (n : ℕ) (later : Decision) → (length s ≡ n → ⊥) → WrongLength ≡ unless (eqb (length s) n) WrongLength later
-wrong-length s n later h = sym (stop (eqb (length s) n) WrongLength later (ne-eqb (length s) n h))
+pub wrong-profile : (p : Profile) (later : Decision) → profileFits p ≡ false → OutsideProfile ≡ unless (profileFits p) OutsideProfile later
+wrong-profile p later h = sym (stop (profileFits p) OutsideProfile later h)
 
-pub right-length : (s : List ℕ) (n : ℕ) (later d : Decision) → length s ≡ n → d ≡ later → d ≡ unless (eqb (length s) n) WrongLength later
-right-length s n later d h e = e ∙ sym (pass (eqb (length s) n) WrongLength later (eq-eqb (length s) n h))
+module _ (p : Profile) (fits : profileFits p ≡ true) (s : List ℕ) (n : ℕ) (later : Decision) where
+  pub wrong-length : (length s ≡ n → ⊥) → WrongLength ≡ unless (profileFits p) OutsideProfile (unless (eqb (length s) n) WrongLength later)
+  wrong-length h = sym (pass (profileFits p) OutsideProfile _ fits ∙ stop (eqb (length s) n) WrongLength later (ne-eqb (length s) n h))
+
+  right-length : (d : Decision) → length s ≡ n → d ≡ later → d ≡ unless (profileFits p) OutsideProfile (unless (eqb (length s) n) WrongLength later)
+  right-length d h e = e ∙ sym (pass (profileFits p) OutsideProfile _ fits ∙ pass (eqb (length s) n) WrongLength later (eq-eqb (length s) n h))
+
+-- ---- a table of the right length
+
+module _ (p : Profile) (fits : profileFits p ≡ true) (s : List ℕ) (size : length s ≡ tableSize) (t : TableRead) (t-is : t ≡ subjectsRead s) where
+  table-is : t ≡ record { subjects = tableFrom s; formed = tableForm s }
+  table-is = t-is ∙ table-read s size
+
+  module _ (u : Rows) (begun : u ≡ unitOf (fresh p (t .subjects))) where
+    pub table-rows : u ≡ unitOf (fresh p (tableFrom s))
+    table-rows = begun ∙ ap (λ (r : TableRead). unitOf (fresh p (r .subjects))) table-is
+
+    pub table-answer : (d : Decision) → d ≡ settled (t .formed) (stateIn u) Granted → d ≡ tableChecks p s
+    unfolding tableChecks
+    table-answer d e =
+        right-length p fits s tableSize (settled (tableForm s) (fresh p (tableFrom s)) Granted) d size
+        (e ∙ ap₂ (λ (b : Bool) (m : Monitor). settled b m Granted) (ap (λ (r : TableRead). r .formed) table-is) (ap stateIn table-rows ∙ fresh-says p s))
 
 -- ---- an image of the right length: the rows that its two parts leave, and the answer of its checks
 
-module _ (s : List ℕ) (size : length s ≡ imageSize) (t : TableRead) (t-is : t ≡ subjectsRead (take tableSize s)) where
-  table-is : t ≡ record { subjects = tableFrom (take tableSize s); formed = tableForm (take tableSize s) }
-  table-is = t-is ∙ table-read (take tableSize s) (length-take-le tableSize s (omega arith))
+module _ (p : Profile) (fits : profileFits p ≡ true) (s : List ℕ) (size : length s ≡ imageSize) (t : TableRead) (t-is : t ≡ subjectsRead (take tableSize s)) where
+  part-is : t ≡ record { subjects = tableFrom (take tableSize s); formed = tableForm (take tableSize s) }
+  part-is = t-is ∙ table-read (take tableSize s) (length-take-le tableSize s (omega arith))
 
   -- the slice from byte 42 on
   rest : take (length s - tableSize) (drop tableSize s) ≡ drop tableSize s
   rest = take-all (length s - tableSize) (drop tableSize s) (rw (length-drop tableSize s) (omega arith))
 
-  module _ (u w : Rows) (formed : Bool) (begun : u ≡ unitOf (fresh (t .subjects))) (formed-is : formed ≡ objectsForm (take (length s - tableSize) (drop tableSize s)))
+  module _ (u w : Rows) (formed : Bool) (begun : u ≡ unitOf (fresh p (t .subjects))) (formed-is : formed ≡ objectsForm (take (length s - tableSize) (drop tableSize s)))
       (stored : ObjectsStored (objectsFrom (take (length s - tableSize) (drop tableSize s))) w 64) (kept : SameClearances u w) where
-    pub image-rows : w ≡ unitOf (monitorFrom s)
+    pub image-rows : w ≡ unitOf (monitorFrom p s)
     unfolding monitorFrom
     image-rows =
-        stored-over (monitorFrom s) u w (begun ∙ ap (λ (r : TableRead). unitOf (fresh (r .subjects))) table-is) kept
+        stored-over (monitorFrom p s) u w (begun ∙ ap (λ (r : TableRead). unitOf (fresh p (r .subjects))) part-is) kept
         (subst (λ (part : List ℕ). ObjectsStored (objectsFrom part) w 64) rest stored)
 
-    pub image-answer : (k d : Decision) → k ≡ stateChecks (stateIn w) → d ≡ unless (t .formed && formed) StrayBits k → d ≡ imageChecks s
-    unfolding imageForm imageChecks stateChecks
+    pub image-answer : (k d : Decision) → k ≡ stateChecks (stateIn w) → d ≡ settled (t .formed && formed) (stateIn w) k → d ≡ imageChecks p s
+    unfolding imageForm imageChecks stateChecks monitorFrom
     image-answer k d e f =
-        right-length s imageSize (unless (imageForm s) StrayBits (stateChecks (monitorFrom s))) d size
+        let m : stateIn w ≡ monitorFrom p s = ap stateIn image-rows ∙ read-says p s in
+        right-length p fits s imageSize (settled (imageForm s) (monitorFrom p s) (stateChecks (monitorFrom p s))) d size
         (f
-        ∙ ap₂ (λ b (later : Decision). unless b StrayBits later)
-        (ap₂ (λ (r : TableRead) b. r .formed && b) table-is (formed-is ∙ ap objectsForm rest))
-        (e ∙ ap stateChecks (ap stateIn image-rows ∙ read-says s)))
+        ∙ ap (λ (b : Bool). settled b (stateIn w) k) (ap₂ (λ (r : TableRead) b. r .formed && b) part-is (formed-is ∙ ap objectsForm rest))
+        ∙ ap₂ (λ (n : Monitor) (later : Decision). settled (imageForm s) n later) m (e ∙ ap stateChecks m))

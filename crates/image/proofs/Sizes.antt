@@ -5,6 +5,7 @@ use Prim.Native.Nat.{ℕ}
 use mathlib.Core.List.{List}
 use lib.ListN.{length, length-map}
 use Rattle.bits.specs.Records.{length-cut}
+use Rattle.model.specs.declared.Profile.{Profile}
 use Rattle.model.specs.declared.Monitor.{Monitor}
 use Rattle.model.specs.declared.Decision.{Decision}
 use Rattle.model.specs.State.{fresh, emptyMonitor}
@@ -24,26 +25,30 @@ begin-sized : (d : Decision) (m : Monitor) → Sized m → Sized (begin d m .mon
 unfolding begin
 begin-sized d m z = cond-all Sized (refuses d) emptyMonitor m (λ e. record { subjects = refl; objects = refl }) (λ e. z)
 
-table-sized : (b : List ℕ) → Sized (fresh (tableFrom b))
+table-sized : (p : Profile) (b : List ℕ) → Sized (fresh p (tableFrom b))
 unfolding tableFrom
-table-sized b = record { subjects = simp (length-map, length-cut); objects = refl }
+table-sized p b = record { subjects = simp (length-map, length-cut); objects = refl }
 
-image-sized : (b : List ℕ) → Sized (monitorFrom b)
+image-sized : (p : Profile) (b : List ℕ) → Sized (monitorFrom p b)
 unfolding monitorFrom tableFrom objectsFrom
-image-sized b = record { subjects = simp (length-map, length-cut); objects = simp (length-map, length-cut) }
+image-sized p b = record { subjects = simp (length-map, length-cut); objects = simp (length-map, length-cut) }
 
 begun-sized : (b : Beginning) → Sized (begun b .monitor)
 unfolding readTable readImage
-begun-sized (table b) = begin-sized (tableChecks b) (fresh (tableFrom b)) (table-sized b)
-begun-sized (image b) = begin-sized (imageChecks b) (monitorFrom b) (image-sized b)
+begun-sized (table p b) = begin-sized (tableChecks p b) (fresh p (tableFrom b)) (table-sized p b)
+begun-sized (image p b) = begin-sized (imageChecks p b) (monitorFrom p b) (image-sized p b)
 
 pub begun-says : (b : Beginning) → stateIn (unitOf (begun b .monitor)) ≡ begun b .monitor
 begun-says b = unit-says (begun b .monitor) (begun-sized b .subjects) (begun-sized b .objects)
 
--- what the bytes of an image say, accepted or not
-pub read-says : (b : List ℕ) → stateIn (unitOf (monitorFrom b)) ≡ monitorFrom b
-read-says b = unit-says (monitorFrom b) (image-sized b .subjects) (image-sized b .objects)
+-- what the bytes of a table or an image say, accepted or not
+pub fresh-says : (p : Profile) (b : List ℕ) → stateIn (unitOf (fresh p (tableFrom b))) ≡ fresh p (tableFrom b)
+fresh-says p b = unit-says (fresh p (tableFrom b)) (table-sized p b .subjects) (table-sized p b .objects)
+
+pub read-says : (p : Profile) (b : List ℕ) → stateIn (unitOf (monitorFrom p b)) ≡ monitorFrom p b
+read-says p b = unit-says (monitorFrom p b) (image-sized p b .subjects) (image-sized p b .objects)
 
 -- the decision and the rows that are left, as the reader's response
-pub table-begun : (b : List ℕ) (d : Decision) (u : Rows) → d ≡ readTable b .decision → u ≡ unitOf (readTable b .monitor) → record { decision = d; monitor = stateIn u } ≡ readTable b
-table-begun b d u e f = let m = ap stateIn f ∙ begun-says (table b) in λ i. record { decision = e i; monitor = m i }
+pub table-begun : (p : Profile) (b : List ℕ) (d : Decision) (u : Rows) → d ≡ readTable p b .decision → u ≡ unitOf (readTable p b .monitor)
+    → record { decision = d; monitor = stateIn u } ≡ readTable p b
+table-begun p b d u e f = let m = ap stateIn f ∙ begun-says (table p b) in λ i. record { decision = e i; monitor = m i }

@@ -1,0 +1,2 @@
+-- Parts of the readers' checks.
+pub mod Settled

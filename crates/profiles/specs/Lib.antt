@@ -1,0 +1,2 @@
+-- What was found of a state beside its profile.
+pub mod Kept
