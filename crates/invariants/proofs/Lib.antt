@@ -1,6 +1,7 @@
--- What every request keeps: a state that is well formed and secure, in the order in which the files stand on each other.
+-- What every request keeps: a state that is well formed, inside its profile and secure, in the order in which the files stand on each other.
 pub mod Granted
 pub mod Form
+pub mod Inside
 pub mod Pairs
 pub mod Secure
 pub mod Relabelling

@@ -1,4 +1,4 @@
--- Every request, of any bytes, leaves a well-formed and secure state well formed and secure.
+-- Every request, of any bytes, leaves a sound state sound: well formed, inside its profile and secure. The profile stays the same.
 -- Assumes nothing.
 use Prim.Native.Nat.{ℕ}
 use mathlib.Core.Path.{_≡_, refl, sym, ap, _∙_, subst}
@@ -13,18 +13,20 @@ use Rattle.model.specs.declared.Decoded.the-variants.{Malformed, Says}
 use Rattle.model.specs.declared.Decision.the-variants.{Granted, Already}
 use Rattle.model.specs.declared.Response.{Response}
 use Rattle.model.specs.State.{objectAt, object, WellFormedObject}
+use Rattle.model.specs.Profiles.{Inside}
 use Rattle.model.specs.Properties.{Secure}
 use Rattle.model.specs.Decisions.{refuses}
-use Rattle.model.specs.Requests.{decode, InRange}
+use Rattle.model.specs.Requests.{decode, InRange, Within}
 use Rattle.model.specs.Rules.{target, already, afterwards, checkList, checks, answer, step}
 use Rattle.model.specs.Runs.{carryOut, respond, after}
 use Rattle.model.proofs.Tests.{cond-true, cond-false}
-use Rattle.model.proofs.Requests.{decode-range}
+use Rattle.model.proofs.Requests.{decode-range, decode-within}
 use Rattle.model.proofs.After.{objects-after}
 use Rattle.model.proofs.Checks.{granted-or-refusal}
 use Rattle.invariants.specs.Sound.{Sound}
 use Rattle.invariants.proofs.Granted.{only-refusals}
 use Rattle.invariants.proofs.Form.{changed-formed}
+use Rattle.invariants.proofs.Inside.{inside-afterwards}
 use Rattle.invariants.proofs.Secure.{SecureObject, object-secure, changed-secure, StarFor, star-of, changed-star}
 
 -- ---- the two cases of a step
@@ -62,8 +64,8 @@ secure-of m h t =
       star = star-of m t;
     }
 
-pub sound-afterwards : (q : Request) (m : Monitor) → InRange q → Sound m → checks q m ≡ Granted → Sound (afterwards q m)
-sound-afterwards q m r S e =
+pub sound-afterwards : (q : Request) (m : Monitor) → InRange q → Within (m .profile) q → Sound m → checks q m ≡ Granted → Sound (afterwards q m)
+sound-afterwards q m r v S e =
     let W = S .formed in
     let F : (o : ℕ) → WellFormedObject (m .subjects) (objectAt (afterwards q m .objects) o) =
     objects-after (λ j ob. WellFormedObject (m .subjects) ob) q m (W .objects-formed) (changed-formed m q r W e) in
@@ -74,19 +76,20 @@ sound-afterwards q m r S e =
         objects-length = length-set (m .objects) (target q) _ ∙ W .objects-length;
         objects-formed = F;
       };
+      inside = inside-afterwards q m v (S .inside);
       secure = secure-of (afterwards q m)
           (objects-after (λ j ob. SecureObject (m .subjects) ob) q m (object-secure m (S .secure)) (changed-secure m W (S .secure) q e))
           (changed-star q m W (S .secure) (λ o. F o .shape .held-length) e);
     }
 
-pub sound-step : (q : Request) (m : Monitor) → InRange q → Sound m → Sound (step q m .monitor)
-sound-step q m r S = step-all Sound q m S (sound-afterwards q m r S)
+pub sound-step : (q : Request) (m : Monitor) → InRange q → Within (m .profile) q → Sound m → Sound (step q m .monitor)
+sound-step q m r v S = step-all Sound q m S (sound-afterwards q m r v S)
 
 -- the request that bytes say, or none
 pub respond-all : (P : Response → Type 0) (b : List ℕ) (m : Monitor)
-    → (decode b ≡ Malformed → P (carryOut Malformed m)) → ((q : Request) → decode b ≡ Says q → P (step q m)) → P (respond b m)
+    → (decode (m .profile) b ≡ Malformed → P (carryOut Malformed m)) → ((q : Request) → decode (m .profile) b ≡ Says q → P (step q m)) → P (respond b m)
 unfolding respond
-respond-all P b m f g = go (decode b) f g
+respond-all P b m f g = go (decode (m .profile) b) f g
   where
     go : (d : Decoded) → (d ≡ Malformed → P (carryOut Malformed m)) → ((q : Request) → d ≡ Says q → P (step q m)) → P (carryOut d m)
     go Malformed f g = f refl
@@ -94,9 +97,36 @@ respond-all P b m f g = go (decode b) f g
 
 pub sound-respond : (b : List ℕ) (m : Monitor) → Sound m → Sound (respond b m .monitor)
 sound-respond b m S =
-    respond-all (λ (r : Response). Sound (r .monitor)) b m (λ e. S) (λ q e. sound-step q m (decode-range b q e) S)
+    respond-all (λ (r : Response). Sound (r .monitor)) b m (λ e. S) (λ q e. sound-step q m (decode-range (m .profile) b q e) (decode-within (m .profile) b q e) S)
 
 pub sound-after : (bs : List (List ℕ)) (m : Monitor) → Sound m → Sound (after bs m)
 unfolding after
 sound-after [] m S = S
 sound-after (b ∷ bs) m S = sound-after bs (respond b m .monitor) (sound-respond b m S)
+
+-- ---- the profile is kept: by a request, by a byte string, by a list of them
+
+pub step-profile : (q : Request) (m : Monitor) → step q m .monitor .profile ≡ m .profile
+step-profile q m = step-all (λ n. n .profile ≡ m .profile) q m refl (λ e. refl)
+
+pub respond-profile : (b : List ℕ) (m : Monitor) → respond b m .monitor .profile ≡ m .profile
+respond-profile b m = respond-all (λ (r : Response). r .monitor .profile ≡ m .profile) b m (λ e. refl) (λ q e. step-profile q m)
+
+pub profile-kept : (bs : List (List ℕ)) (m : Monitor) → after bs m .profile ≡ m .profile
+unfolding after
+profile-kept [] m = refl
+profile-kept (b ∷ bs) m = profile-kept bs (respond b m .monitor) ∙ respond-profile b m
+
+-- ---- "A subject, object, class or need outside it in a request is malformed": what is inside stays inside, well formed or not
+
+pub inside-step : (q : Request) (m : Monitor) → Within (m .profile) q → Inside m → Inside (step q m .monitor)
+inside-step q m v I = step-all Inside q m I (λ e. inside-afterwards q m v I)
+
+pub inside-respond : (b : List ℕ) (m : Monitor) → Inside m → Inside (respond b m .monitor)
+inside-respond b m I =
+    respond-all (λ (r : Response). Inside (r .monitor)) b m (λ e. I) (λ q e. inside-step q m (decode-within (m .profile) b q e) I)
+
+pub inside-after : (bs : List (List ℕ)) (m : Monitor) → Inside m → Inside (after bs m)
+unfolding after
+inside-after [] m I = I
+inside-after (b ∷ bs) m I = inside-after bs (respond b m .monitor) (inside-respond b m I)

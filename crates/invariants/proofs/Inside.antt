@@ -1,0 +1,48 @@
+-- Each rule keeps the state inside its profile (change request §8): only a create makes an object live, and only a change of level labels it;
+-- a request that is inside the profile says no other object and no other level.
+-- Assumes nothing.
+use Prim.Native.Nat.{ℕ, _<_}
+use mathlib.Core.Path.{_≡_, sym}
+use mathlib.Core.Bool.{true}
+use Rattle.model.specs.declared.Object.{Object}
+use Rattle.model.specs.declared.Profile.{Profile}
+use Rattle.model.specs.declared.Monitor.{Monitor}
+use Rattle.model.specs.declared.Request.{Request}
+use Rattle.model.specs.declared.Request.the-variants.{Get, Release, Give, Rescind, Create, Delete, ChangeLevel}
+use Rattle.model.specs.State.{object}
+use Rattle.model.specs.Profiles.{LabelInside, Inside}
+use Rattle.model.specs.Requests.{Within}
+use Rattle.model.specs.Rules.{target, changed, afterwards}
+use Rattle.model.proofs.Tests.{clash}
+use Rattle.model.proofs.After.{objects-after}
+
+-- the record of object o is inside the profile: it is not live or its number is, and its label is
+pub record ObjectInside (p : Profile) (o : ℕ) (ob : Object) : Type 0 where
+  pub number : ob .live ≡ true → o < p .objects
+  pub label : LabelInside p (ob .label)
+
+pub object-inside : (m : Monitor) → Inside m → (o : ℕ) → ObjectInside (m .profile) o (object m o)
+object-inside m I o = record { number = I .objects-inside o; label = I .labels-inside o }
+
+pub changed-inside : (p : Profile) (q : Request) (ob : Object) → Within p q → ObjectInside p (target q) ob → ObjectInside p (target q) (changed q ob)
+unfolding changed
+changed-inside p (Get s o x) ob v I = record { number = I .number; label = I .label }
+changed-inside p (Release s o x) ob v I = record { number = I .number; label = I .label }
+changed-inside p (Give s t o x) ob v I = record { number = I .number; label = I .label }
+changed-inside p (Rescind s t o x) ob v I = record { number = I .number; label = I .label }
+changed-inside p (Create s o c) ob v I = record { number = λ e. v .1; label = tt }
+changed-inside p (Delete s o) ob v I = record { number = λ e. clash (sym e); label = tt }
+changed-inside p (ChangeLevel s o l) ob v I = record { number = I .number; label = v .2 }
+
+-- granted or not: what the request would leave is inside
+pub inside-afterwards : (q : Request) (m : Monitor) → Within (m .profile) q → Inside m → Inside (afterwards q m)
+inside-afterwards q m v I =
+    let O : (o : ℕ) → ObjectInside (m .profile) o (object (afterwards q m) o) =
+    objects-after (ObjectInside (m .profile)) q m (object-inside m I) (changed-inside (m .profile) q (object m (target q)) v (object-inside m I (target q))) in
+    record {
+      profile-fits = I .profile-fits;
+      subjects-inside = I .subjects-inside;
+      objects-inside = λ o. O o .number;
+      clearances-inside = I .clearances-inside;
+      labels-inside = λ o. O o .label;
+    }
