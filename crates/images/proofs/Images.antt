@@ -1,33 +1,50 @@
--- Accepted tables and images: each begins a well-formed, secure monitor, and such a monitor passes the checks of a state.
+-- Accepted tables and images: each begins a sound monitor, which is well formed, inside its profile and secure, and such a monitor passes
+-- the checks of a beginning and of a state.
 -- Assumes nothing.
 use Prim.Native.Nat.{ℕ}
 use mathlib.Core.Path.{_≡_, refl, sym, ap, _∙_, subst}
-use mathlib.Core.Bool.{true}
-use mathlib.Core.List.{List, _∷_}
+use mathlib.Core.Bool.{Bool, true}
+use mathlib.Core.List.{List, []}
 use lib.ListN.{length-replicate, length}
 use lib.Dec.{eqb}
 use borrow.Author.Tests.{eqb-true}
 use Rattle.model.specs.declared.Subject.{Subject}
 use Rattle.model.specs.declared.Object.{Object}
+use Rattle.model.specs.declared.Profile.{Profile}
 use Rattle.model.specs.declared.Monitor.{Monitor}
-use Rattle.model.specs.declared.Decision.the-variants.{Granted, WrongLength, StrayBits}
+use Rattle.model.specs.declared.Decision.{Decision}
+use Rattle.model.specs.declared.Decision.the-variants.{Granted, WrongLength, StrayBits, OutsideProfile}
+use Rattle.model.specs.Tests.{firstFailing}
 use Rattle.model.specs.State.{noObject, heldBy, fresh, WellFormedObject}
-use Rattle.model.specs.Layout.{imageSize}
-use Rattle.model.specs.Reading.{stateList, imageForm, tableFrom, monitorFrom, stateChecks, imageChecks}
-use Rattle.model.proofs.Tests.{replicate-at}
-use Rattle.model.proofs.Checks.{all-passed, all-pass}
+use Rattle.model.specs.Profiles.{LabelInside, absentBeyond, Inside}
+use Rattle.model.specs.Layout.{tableSize, imageSize}
+use Rattle.model.specs.Reading.{stateList, beginningList, tableForm, imageForm, tableFrom, monitorFrom, stateChecks, tableChecks, imageChecks}
+use Rattle.model.proofs.Tests.{replicate-at, clash, and-left, and-right, and-both, pass}
+use Rattle.model.proofs.Profiles.{tests-inside, inside-fits, inside-absent, inside-levels}
+use Rattle.model.proofs.Checks.{Passed, refusals, all-passed, all-pass}
 use Rattle.invariants.specs.Sound.{Sound}
 use Rattle.invariants.proofs.Form.{no-modes, no-object-formed}
 use Rattle.invariants.proofs.Secure.{SecureObject, idle-secure, star-idle}
 use Rattle.invariants.proofs.Steps.{secure-of}
-use Rattle.images.specs.Tables.{TableFits}
-use Rattle.images.proofs.Shapes.{image-shape, table-shape, shape-of}
+use Rattle.images.specs.Tables.{TableFits, TableInside}
+use Rattle.images.proofs.Shapes.{Shape, image-shape, table-shape, fresh-shape, shape-of}
 use Rattle.images.proofs.StateTests.{formed-out, formed-in, matrix-out, matrix-in, labelled-out, labelled-in, simple-all-out, simple-all-in, stars-out, stars-in}
 
 -- ---- a fresh monitor
 
-pub sound-fresh : (l : List Subject) → TableFits l → Sound (fresh l)
-sound-fresh l t =
+-- no object is there that could be outside
+pub fresh-inside : (p : Profile) (l : List Subject) → TableInside p l → Inside (fresh p l)
+fresh-inside p l t =
+    record {
+      profile-fits = t .profile-fits;
+      subjects-inside = t .subjects-inside;
+      objects-inside = λ o e. clash (sym e ∙ ap (λ (ob : Object). ob .live) (replicate-at noObject 64 o));
+      clearances-inside = t .clearances-inside;
+      labels-inside = λ o. subst (λ (ob : Object). LabelInside p (ob .label)) (sym (replicate-at noObject 64 o)) tt;
+    }
+
+pub sound-fresh : (p : Profile) (l : List Subject) → TableFits l → Inside (fresh p l) → Sound (fresh p l)
+sound-fresh p l t I =
     record {
       formed = record {
         subjects-length = t .subjects-length;
@@ -35,17 +52,52 @@ sound-fresh l t =
         objects-length = length-replicate 64 noObject;
         objects-formed = λ o. subst (WellFormedObject l) (sym (replicate-at noObject 64 o)) (no-object-formed l);
       };
-      secure = secure-of (fresh l)
+      inside = I;
+      secure = secure-of (fresh p l)
           (λ o. subst (SecureObject l) (sym (replicate-at noObject 64 o)) (idle-secure l noObject no-modes))
           (λ s. star-idle s _ (λ o. ap (λ (ob : Object). heldBy ob s) (replicate-at noObject 64 o) ∙ no-modes s));
     }
 
-pub table-sound : (b : List ℕ) → Sound (fresh (tableFrom b))
-table-sound b = sound-fresh (tableFrom b) (table-shape b)
+-- ---- the checks of a beginning under its profile
+
+-- what a beginning has passed that nothing refuses: it has its length and its form, and its monitor is inside the profile
+pub record Began (long formed : Bool) (m : Monitor) (later : List (Bool × Decision)) : Type 0 where
+  pub is-long : long ≡ true
+  pub is-formed : formed ≡ true
+  pub is-inside : Inside m
+  pub passed-later : Passed later
+
+pub began : (long formed : Bool) (m : Monitor) (later : List (Bool × Decision)) → Shape m → refusals later ≡ true
+    → firstFailing (beginningList long formed m later) ≡ Granted → Began long formed m later
+began long formed m later S r e =
+    let p = all-passed (beginningList long formed m later) r e in
+    record {
+      is-long = p .1 .0;
+      is-formed = and-left formed (absentBeyond m) (p .1 .1 .0);
+      is-inside = tests-inside m (S .table .subjects-length) (S .objects-length) (p .0) (and-right formed (absentBeyond m) (p .1 .1 .0)) (p .1 .1 .1 .0);
+      passed-later = p .1 .1 .1 .1;
+    }
+
+-- a monitor inside its profile passes them
+pub begins : (long formed : Bool) (m : Monitor) (later : List (Bool × Decision)) → long ≡ true → formed ≡ true → Inside m
+    → firstFailing later ≡ Granted → firstFailing (beginningList long formed m later) ≡ Granted
+begins long formed m later l f I e =
+    pass _ OutsideProfile _ (inside-fits m I) ∙ pass _ WrongLength _ l ∙ pass _ StrayBits _ (and-both f (inside-absent m I))
+    ∙ pass _ OutsideProfile _ (inside-levels m I) ∙ e
+
+-- ---- accepted tables
+
+-- what an accepted table has passed
+pub table-passed : (p : Profile) (b : List ℕ) → tableChecks p b ≡ Granted → (length b ≡ tableSize) × (tableForm b ≡ true) × Sound (fresh p (tableFrom b))
+unfolding tableChecks
+table-passed p b e =
+    let m = fresh p (tableFrom b) in
+    let B = began (eqb (length b) tableSize) (tableForm b) m [] (fresh-shape p (tableFrom b) (table-shape b)) refl e in
+    (eqb-true (length b) tableSize (B .is-long), B .is-formed, sound-fresh p (tableFrom b) (table-shape b) (B .is-inside))
 
 -- ---- accepted images
 
--- a well-formed, secure state passes the checks of a state
+-- a sound state passes the checks of a state
 pub state-passes : (m : Monitor) → Sound m → stateChecks m ≡ Granted
 unfolding stateChecks
 state-passes m S =
@@ -65,17 +117,18 @@ state-passes m S =
     )
 
 -- what an accepted image has passed
-pub image-passed : (b : List ℕ) → imageChecks b ≡ Granted → (length b ≡ imageSize) × (imageForm b ≡ true) × Sound (monitorFrom b)
-unfolding imageChecks stateChecks
-image-passed b e =
-    let m = monitorFrom b in
-    let S = image-shape b in
-    let p = all-passed ((eqb (length b) imageSize, WrongLength) ∷ (imageForm b, StrayBits) ∷ stateList m) refl e in
-    let q = p .1 .1 in (
-      eqb-true (length b) imageSize (p .0),
-      p .1 .0,
+pub image-passed : (p : Profile) (b : List ℕ) → imageChecks p b ≡ Granted → (length b ≡ imageSize) × (imageForm b ≡ true) × Sound (monitorFrom p b)
+unfolding imageChecks
+image-passed p b e =
+    let m = monitorFrom p b in
+    let S = image-shape p b in
+    let B = began (eqb (length b) imageSize) (imageForm b) m (stateList m) S refl e in
+    let q = B .passed-later in (
+      eqb-true (length b) imageSize (B .is-long),
+      B .is-formed,
       record {
         formed = formed-out m S (q .0);
+        inside = B .is-inside;
         secure = record {
           discretionary = matrix-out m S (q .1 .0);
           labelled = labelled-out m S (q .1 .1 .0);

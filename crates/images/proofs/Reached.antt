@@ -1,22 +1,30 @@
--- What is reached: the states that accepted beginnings and lists of byte strings leave. Each is well formed and secure.
+-- What is reached: the states that accepted beginnings and lists of byte strings leave. Each is well formed, secure and inside the profile under
+-- which it was begun.
 -- Assumes nothing.
-use Prim.Native.Nat.{ℕ}
+use Prim.Native.Nat.{ℕ, _<_}
 use native.Mathlib.Omega.{arith}
 use mathlib.Core.Path.{_≡_, refl, sym, ap, _∙_, subst}
+use mathlib.Core.Bool.{true}
 use mathlib.Core.List.{List, _++_}
 use lib.ListN.{take}
 use Rattle.bits.specs.Laws.{length-bitsToBytes}
+use Rattle.model.specs.declared.Level.{Level}
+use Rattle.model.specs.declared.Label.{Label}
+use Rattle.model.specs.declared.Label.the-variants.{Present}
+use Rattle.model.specs.declared.Profile.{Profile}
 use Rattle.model.specs.declared.Monitor.{Monitor}
 use Rattle.model.specs.declared.Request.{Request}
 use Rattle.model.specs.declared.Decoded.{Decoded}
 use Rattle.model.specs.declared.Decoded.the-variants.{Says}
 use Rattle.model.specs.declared.Decision.the-variants.{Granted, ShortBuffer}
+use Rattle.model.specs.State.{widest, emptyMonitor, clearance, enrolled, object}
+use Rattle.model.specs.Profiles.{ProfileFits, LevelInside, LabelInside, Inside}
 use Rattle.model.specs.Decisions.{number, refuses}
 use Rattle.model.specs.Requests.{decode}
 use Rattle.model.specs.Rules.{step}
 use Rattle.model.specs.Runs.{carryOut, respond, after}
 use Rattle.model.specs.Layout.{imageSize, imageBits, imageOf}
-use Rattle.model.specs.Reading.{tableChecks, imageChecks, begin, readTable, readImage}
+use Rattle.model.specs.Reading.{tableChecks, imageChecks, monitorFrom, begin, readTable, readImage}
 use Rattle.model.specs.Buffers.{tooShort}
 use Rattle.model.specs.Writing.{writing, written}
 use Rattle.model.specs.Beginnings.{Beginning, table, image, begun, Accepted, left, Reached}
@@ -24,8 +32,9 @@ use Rattle.model.proofs.Tests.{split, cond-true, cond-false}
 use Rattle.model.proofs.Lists.{after-append}
 use Rattle.model.proofs.Buffers.{has-room, filled-front, front-new}
 use Rattle.invariants.specs.Sound.{Sound}
-use Rattle.invariants.proofs.Steps.{sound-after}
-use Rattle.images.proofs.Images.{image-passed, table-sound}
+use Rattle.invariants.proofs.Steps.{sound-after, profile-kept}
+use Rattle.images.specs.Tables.{profileOf}
+use Rattle.images.proofs.Images.{table-passed, image-passed}
 
 -- what an accepted table or image and any list leave is reached
 pub reached-left : (b : Beginning) → Accepted b → (qs : List (List ℕ)) → Reached (left b qs)
@@ -42,14 +51,55 @@ reached-after m R qs =
 -- an accepted beginning is sound
 pub sound-begun : (b : Beginning) → Accepted b → Sound (begun b .monitor)
 unfolding readTable readImage begin
-sound-begun (table b) e = subst Sound (sym (cond-false (refuses (tableChecks b)) _ _ (ap refuses e))) (table-sound b)
-sound-begun (image b) e = subst Sound (sym (cond-false (refuses (imageChecks b)) _ _ (ap refuses e))) (image-passed b e .2)
+sound-begun (table p b) e = subst Sound (sym (cond-false (refuses (tableChecks p b)) _ _ (ap refuses e))) (table-passed p b e .2)
+sound-begun (image p b) e = subst Sound (sym (cond-false (refuses (imageChecks p b)) _ _ (ap refuses e))) (image-passed p b e .2)
 
 pub sound-left : (b : Beginning) → Accepted b → (qs : List (List ℕ)) → Sound (left b qs)
 sound-left b e qs = sound-after qs (begun b .monitor) (sound-begun b e)
 
 pub sound-reached : (m : Monitor) → Reached m → Sound m
 sound-reached m r = subst Sound (r .reaches) (sound-left (r .beginning) (r .accepted) (r .requests))
+
+-- ---- the profile of what is reached
+
+-- an accepted beginning has the profile under which it is read, and no request changes that
+pub begun-profile : (b : Beginning) → Accepted b → begun b .monitor .profile ≡ profileOf b
+unfolding readTable readImage begin monitorFrom
+begun-profile (table p b) e = ap (λ (m : Monitor). m .profile) (cond-false (refuses (tableChecks p b)) _ _ (ap refuses e))
+begun-profile (image p b) e = ap (λ (m : Monitor). m .profile) (cond-false (refuses (imageChecks p b)) _ _ (ap refuses e))
+
+pub left-profile : (b : Beginning) → Accepted b → (qs : List (List ℕ)) → left b qs .profile ≡ profileOf b
+left-profile b e qs = profile-kept qs (begun b .monitor) ∙ begun-profile b e
+
+pub reached-profile : (m : Monitor) (R : Reached m) → m .profile ≡ profileOf (R .beginning)
+reached-profile m R = ap (λ (n : Monitor). n .profile) (sym (R .reaches)) ∙ left-profile (R .beginning) (R .accepted) (R .requests)
+
+-- "the empty monitor that a refusal returns has it": the widest profile
+pub refused-widest : (b : Beginning) → refuses (begun b .decision) ≡ true → (begun b .monitor ≡ emptyMonitor) × (begun b .monitor .profile ≡ widest)
+unfolding readTable readImage begin
+refused-widest (table p b) e = let w = cond-true (refuses (tableChecks p b)) emptyMonitor _ e in (w, ap (λ (m : Monitor). m .profile) w)
+refused-widest (image p b) e = let w = cond-true (refuses (imageChecks p b)) emptyMonitor _ e in (w, ap (λ (m : Monitor). m .profile) w)
+
+-- a reached monitor is inside its profile
+pub reached-inside : (m : Monitor) → Reached m → Inside m
+reached-inside m R = sound-reached m R .inside
+
+-- the same in words: every enrolled subject, live object, clearance and label of what any list leaves is inside the profile of the beginning,
+-- and that profile is in its ranges
+pub left-inside : (b : Beginning) → Accepted b → (qs : List (List ℕ)) → ProfileFits (profileOf b)
+    × ((s : ℕ) → enrolled (left b qs) s ≡ true → s < profileOf b .subjects)
+    × ((o : ℕ) → object (left b qs) o .live ≡ true → o < profileOf b .objects)
+    × ((s : ℕ) (l : Level) → clearance (left b qs) s ≡ Present l → LevelInside (profileOf b) l)
+    × ((o : ℕ) (l : Level) → object (left b qs) o .label ≡ Present l → LevelInside (profileOf b) l)
+left-inside b e qs =
+    let I = sound-left b e qs .inside in
+    let p = left-profile b e qs in (
+      subst ProfileFits p (I .profile-fits),
+      λ s h. subst (λ (k : Profile). s < k .subjects) p (I .subjects-inside s h),
+      λ o h. subst (λ (k : Profile). o < k .objects) p (I .objects-inside o h),
+      λ s l h. subst (λ (k : Profile). LevelInside k l) p (subst (LabelInside (left b qs .profile)) h (I .clearances-inside s)),
+      λ o l h. subst (λ (k : Profile). LevelInside k l) p (subst (LabelInside (left b qs .profile)) h (I .labels-inside o)),
+    )
 
 -- ---- what a writing with result 0 fills
 
@@ -63,7 +113,7 @@ fills m buffer e =
 
 -- ---- what a byte string says
 
--- the response to bytes that say a request
-pub respond-says : (g : List ℕ) (q : Request) (m : Monitor) → decode g ≡ Says q → respond g m ≡ step q m
+-- the response to bytes that say a request to the monitor, under its profile
+pub respond-says : (g : List ℕ) (q : Request) (m : Monitor) → decode (m .profile) g ≡ Says q → respond g m ≡ step q m
 unfolding respond
 respond-says g q m e = ap (λ (d : Decoded). carryOut d m) e

@@ -9,6 +9,7 @@ use lib.ListN.{length, take, drop}
 use Rattle.bits.specs.Bits.{Bytes}
 use Rattle.bits.specs.Laws.{length-bitsToBytes}
 use Rattle.model.specs.declared.Subject.{Subject}
+use Rattle.model.specs.declared.Profile.{Profile}
 use Rattle.model.specs.declared.Monitor.{Monitor}
 use Rattle.model.specs.declared.Decision.{Decision}
 use Rattle.model.specs.declared.Decision.the-variants.{Granted, ShortBuffer}
@@ -22,7 +23,7 @@ use Rattle.model.specs.Beginnings.{image, table, Accepted, Reached}
 use Rattle.model.proofs.Tests.{split, cond-true, cond-false}
 use Rattle.model.proofs.Buffers.{short-is, room-is, is-short, has-room, filled-short, filled-front, filled-later, filled-length}
 use Rattle.invariants.specs.Sound.{Sound}
-use Rattle.images.specs.Tables.{tableOf, TableFits}
+use Rattle.images.specs.Tables.{tableOf, TableFits, TableInside}
 use Rattle.images.proofs.Trips.{image-read-back, image-accepted, image-bytes-back, table-accepted, table-read-back, table-bytes-back}
 use Rattle.images.proofs.Reached.{sound-reached, fills}
 
@@ -31,22 +32,22 @@ begin-granted : (d : Decision) (m n : Monitor) → d ≡ Granted → m ≡ n →
 unfolding begin
 begin-granted d m n e p = ap (λ (k : Decision). begin k m) e ∙ (λ i. record { decision = Granted; monitor = p i })
 
--- the image of a sound state reads back to it
-pub image-reads : (m : Monitor) → Sound m → readImage (imageOf m) ≡ record { decision = Granted; monitor = m }
+-- the image of a sound state reads back to it, under its profile
+pub image-reads : (m : Monitor) → Sound m → readImage (m .profile) (imageOf m) ≡ record { decision = Granted; monitor = m }
 unfolding readImage
-image-reads m S = begin-granted (imageChecks (imageOf m)) (monitorFrom (imageOf m)) m (image-accepted m S) (image-read-back m S)
+image-reads m S = begin-granted (imageChecks (m .profile) (imageOf m)) (monitorFrom (m .profile) (imageOf m)) m (image-accepted m S) (image-read-back m S)
 
--- "Reading a written image gives back its monitor"
+-- "Reading a written image gives back its monitor"; "reading back a written image under the profile of its monitor" (change request §8)
 pub read-written : (m : Monitor) → Reached m → (buffer : List ℕ) → number (writing buffer) ≡ 0
-    → readImage (take imageSize (written m buffer)) ≡ record { decision = Granted; monitor = m }
-read-written m R buffer e = ap readImage (fills m buffer e) ∙ image-reads m (sound-reached m R)
+    → readImage (m .profile) (take imageSize (written m buffer)) ≡ record { decision = Granted; monitor = m }
+read-written m R buffer e = ap (readImage (m .profile)) (fills m buffer e) ∙ image-reads m (sound-reached m R)
 
--- "writing from an accepted image gives back its bytes"
-pub write-read : (b : List ℕ) → Bytes b → Accepted (image b) → (buffer : List ℕ) → number (writing buffer) ≡ 0
-    → take imageSize (written (readImage b .monitor) buffer) ≡ b
+-- "writing from an accepted image gives back its bytes", under whatever profile it was accepted
+pub write-read : (p : Profile) (b : List ℕ) → Bytes b → Accepted (image p b) → (buffer : List ℕ) → number (writing buffer) ≡ 0
+    → take imageSize (written (readImage p b .monitor) buffer) ≡ b
 unfolding readImage begin
-write-read b hb e buffer w =
-    fills (readImage b .monitor) buffer w ∙ ap imageOf (cond-false (refuses (imageChecks b)) emptyMonitor (monitorFrom b) (ap refuses e)) ∙ image-bytes-back b hb e
+write-read p b hb e buffer w =
+    fills (readImage p b .monitor) buffer w ∙ ap imageOf (cond-false (refuses (imageChecks p b)) emptyMonitor (monitorFrom p b) (ap refuses e)) ∙ image-bytes-back p b hb e
 
 -- ---- the lent buffer, by its number and its length
 
@@ -93,11 +94,13 @@ unfolding written
 write-leaves m buffer = filled-later imageSize imageSize (imageOf m) buffer (image-length m)
 
 -- the same for tables
-pub read-written-table : (l : List Subject) → TableFits l → readTable (tableOf l) ≡ record { decision = Granted; monitor = fresh l }
+pub read-written-table : (p : Profile) (l : List Subject) → TableFits l → TableInside p l
+    → readTable p (tableOf l) ≡ record { decision = Granted; monitor = fresh p l }
 unfolding readTable
-read-written-table l T = begin-granted (tableChecks (tableOf l)) (fresh (tableFrom (tableOf l))) (fresh l) (table-accepted l T) (ap fresh (table-read-back l T))
+read-written-table p l T I =
+    begin-granted (tableChecks p (tableOf l)) (fresh p (tableFrom (tableOf l))) (fresh p l) (table-accepted l T p I) (ap (fresh p) (table-read-back l T))
 
-pub write-read-table : (b : List ℕ) → Bytes b → Accepted (table b) → tableOf (readTable b .monitor .subjects) ≡ b
+pub write-read-table : (p : Profile) (b : List ℕ) → Bytes b → Accepted (table p b) → tableOf (readTable p b .monitor .subjects) ≡ b
 unfolding readTable begin
-write-read-table b hb e =
-    ap (λ (m : Monitor). tableOf (m .subjects)) (cond-false (refuses (tableChecks b)) emptyMonitor (fresh (tableFrom b)) (ap refuses e)) ∙ table-bytes-back b hb e
+write-read-table p b hb e =
+    ap (λ (m : Monitor). tableOf (m .subjects)) (cond-false (refuses (tableChecks p b)) emptyMonitor (fresh p (tableFrom b)) (ap refuses e)) ∙ table-bytes-back p b hb e

@@ -2,20 +2,21 @@
 -- Assumes nothing.
 use Prim.Native.Nat.{ℕ, _+_, _<_}
 use native.Mathlib.Omega.{arith}
-use mathlib.Core.Path.{_≡_, _∙_}
+use mathlib.Core.Path.{_≡_, sym, _∙_, subst}
 use mathlib.Core.Bool.{Bool}
 use mathlib.Core.List.{List}
-use lib.ListN.{length, take, drop, length-map}
+use lib.ListN.{length, take, drop, length-map, length-replicate}
 use Rattle.bits.specs.Bits.{bytesToBits, first}
 use Rattle.bits.specs.Laws.{fromBits-take}
 use Rattle.bits.specs.Records.{length-cut}
 use Rattle.model.specs.declared.Label.the-variants.{Absent}
 use Rattle.model.specs.declared.Subject.{Subject}
+use Rattle.model.specs.declared.Profile.{Profile}
 use Rattle.model.specs.declared.Monitor.{Monitor}
-use Rattle.model.specs.State.{subjectCount, objectCount, classWidth, needsWidth, nobody, noObject, object, LabelFits, ObjectShape, WellFormed}
+use Rattle.model.specs.State.{subjectCount, objectCount, classWidth, needsWidth, nobody, noObject, object, fresh, LabelFits, ObjectShape, WellFormed}
 use Rattle.model.specs.Layout.{labelWidth, ownerWidth, labelOffset, setWidth, pairWidth, setsOffset, setsWidth, objectWidth, tableSize}
 use Rattle.model.specs.Reading.{labelFrom, subjectFrom, rightsFrom, heldFrom, setsIn, liveFrom, objectFrom, tableRecords, objectRecords, tableFrom, objectsFrom, monitorFrom}
-use Rattle.model.proofs.Tests.{cond-all, map-all, clash}
+use Rattle.model.proofs.Tests.{cond-all, map-all, clash, replicate-at}
 use Rattle.invariants.proofs.Form.{no-object-shape}
 use Rattle.images.specs.Tables.{TableFits}
 
@@ -31,6 +32,14 @@ shape-of m W =
       table = record { subjects-length = W .subjects-length; clearances-fit = W .clearances-fit };
       objects-length = W .objects-length;
       objects = λ o. W .objects-formed o .shape;
+    }
+
+pub fresh-shape : (p : Profile) (l : List Subject) → TableFits l → Shape (fresh p l)
+fresh-shape p l t =
+    record {
+      table = t;
+      objects-length = length-replicate 64 noObject;
+      objects = λ o. subst ObjectShape (sym (replicate-at noObject 64 o)) no-object-shape;
     }
 
 label-shape : (b : List Bool) → LabelFits (labelFrom b)
@@ -61,9 +70,9 @@ table-shape b =
       clearances-fit = map-all (λ (x : Subject). LabelFits (x .clearance)) subjectFrom (tableRecords b) nobody label-shape tt;
     }
 
-pub image-shape : (b : List ℕ) → Shape (monitorFrom b)
+pub image-shape : (p : Profile) (b : List ℕ) → Shape (monitorFrom p b)
 unfolding monitorFrom objectsFrom
-image-shape b =
+image-shape p b =
     record {
       table = table-shape (take tableSize b);
       objects-length = length-map (objectRecords (drop tableSize b)) objectFrom ∙ length-cut objectCount objectWidth (bytesToBits (drop tableSize b));

@@ -1,4 +1,5 @@
--- Round trips: a written image is accepted and gives its monitor back; the monitor of an accepted image is written as that image. So of tables.
+-- Round trips: a written image is accepted under the profile of its monitor and gives that monitor back; the monitor of an image that is accepted
+-- under any profile is written as that image. So of tables.
 -- Assumes nothing.
 use Prim.Native.Nat.{ℕ, _*_}
 use native.Mathlib.Omega.{arith}
@@ -7,23 +8,25 @@ use mathlib.Core.Bool.{Bool, true}
 use mathlib.Core.List.{List, [], _++_, map}
 use lib.ListN.{length, getD, take, drop, length-append, length-drop, take-append-drop}
 use lib.Seq.{take-at, drop-at, length-take-le}
-use borrow.Author.Tests.{eq-eqb, eqb-true}
+use lib.Dec.{eqb}
+use borrow.Author.Tests.{eq-eqb}
 use Rattle.bits.specs.Bits.{Bytes, bytesToBits, bitsToBytes, cut, join}
 use Rattle.bits.specs.Laws.{length-bytesToBits, take-bytesToBits, drop-bytesToBits, bytesToBits-append, length-bitsToBytes, bytesToBits-bitsToBytes, bitsToBytes-bytesToBits}
 use Rattle.bits.specs.Records.{length-cut, join-cut, cut-length, length-join, cut-join, map-back}
 use Rattle.model.specs.declared.Subject.{Subject}
+use Rattle.model.specs.declared.Profile.{Profile}
 use Rattle.model.specs.declared.Monitor.{Monitor}
-use Rattle.model.specs.declared.Decision.the-variants.{Granted, WrongLength, StrayBits}
-use Rattle.model.specs.Tests.{allOf}
-use Rattle.model.specs.State.{subjectCount, objectCount, nobody, noObject, clearanceAt, clearance, object}
+use Rattle.model.specs.declared.Decision.the-variants.{Granted}
+use Rattle.model.specs.Tests.{allOf, firstFailing}
+use Rattle.model.specs.State.{subjectCount, objectCount, nobody, noObject, clearanceAt, clearance, object, fresh}
 use Rattle.model.specs.Layout.{labelWidth, objectWidth, tableWidth, tableSize, objectsWidth, objectsSize, imageSize, subjectBits, objectBits, tableBits, objectsBits, imageBits, imageOf}
-use Rattle.model.specs.Reading.{labelForm, subjectFrom, objectFrom, objectForm, tableFrom, tableForm, objectsFrom, objectsForm, monitorFrom, imageForm, stateChecks, tableChecks, imageChecks}
-use Rattle.model.proofs.Tests.{pass, passed, and-both, and-left, and-right, all-at, all-map-at}
+use Rattle.model.specs.Reading.{labelForm, subjectFrom, objectFrom, objectForm, tableFrom, tableForm, objectsFrom, objectsForm, monitorFrom, imageForm, stateList, beginningList, stateChecks, tableChecks, imageChecks}
+use Rattle.model.proofs.Tests.{and-both, and-left, and-right, all-at, all-map-at}
 use Rattle.model.proofs.Equal.{monitor-ext}
 use Rattle.model.proofs.Records.{label-length, label-read, label-form, label-back, object-length, object-read, object-form, object-back}
 use Rattle.invariants.specs.Sound.{Sound}
-use Rattle.images.specs.Tables.{tableOf, TableFits}
-use Rattle.images.proofs.Images.{state-passes, image-passed}
+use Rattle.images.specs.Tables.{tableOf, TableFits, TableInside}
+use Rattle.images.proofs.Images.{fresh-inside, begins, table-passed, state-passes, image-passed}
 
 -- ---- a table
 
@@ -53,15 +56,19 @@ module _ (l : List Subject) (T : TableFits l) where
   unfolding tableOf
   table-bits = bytesToBits-bitsToBytes tableSize (tableBits l) (table-length)
 
-  -- a written table is accepted, and reads back to its subjects
-  pub table-accepted : tableChecks (tableOf l) ≡ Granted
-  unfolding tableChecks tableOf
-  table-accepted =
-      pass _ WrongLength _ (eq-eqb (length (tableOf l)) tableSize (length-bitsToBytes tableSize (tableBits l)))
-      ∙ pass _ StrayBits _ (table-form (tableOf l) table-bits)
-
   pub table-read-back : tableFrom (tableOf l) ≡ l
   table-read-back = subjects-back (tableOf l) table-bits
+
+  table-long : length (tableOf l) ≡ tableSize
+  unfolding tableOf
+  table-long = length-bitsToBytes tableSize (tableBits l)
+
+  -- a written table is accepted under each profile that it is inside, and reads back to its subjects
+  pub table-accepted : (p : Profile) → TableInside p l → tableChecks p (tableOf l) ≡ Granted
+  unfolding tableChecks
+  table-accepted p I =
+      ap (λ (k : List Subject). firstFailing (beginningList (eqb (length (tableOf l)) tableSize) (tableForm (tableOf l)) (fresh p k) [])) table-read-back
+      ∙ begins _ _ (fresh p l) [] (eq-eqb (length (tableOf l)) tableSize table-long) (table-form (tableOf l) table-bits) (fresh-inside p l I) refl
 
 -- ---- a written image
 
@@ -98,15 +105,15 @@ module _ (m : Monitor) (S : Sound m) where
   object-records : cut objectCount objectWidth (bytesToBits (drop tableSize (imageOf m))) ≡ map objectBits (m .objects)
   object-records = ap (cut objectCount objectWidth) object-part ∙ cut-join objectBits objectWidth noObject objectCount (m .objects) (S .formed .objects-length) each-object
 
-  -- reading what was written gives the monitor
-  pub image-read-back : monitorFrom (imageOf m) ≡ m
+  -- reading what was written gives the monitor, under its profile
+  pub image-read-back : monitorFrom (m .profile) (imageOf m) ≡ m
   unfolding monitorFrom objectsFrom
   image-read-back =
       let subs = subjects-back (m .subjects) table-fits (take tableSize (imageOf m)) table-part in
       let objs : map objectFrom (cut objectCount objectWidth (bytesToBits (drop tableSize (imageOf m)))) ≡ m .objects =
       ap (map objectFrom) object-records
       ∙ map-back objectBits objectFrom noObject (m .objects) (λ i h. object-read (m .subjects) (object m i) (S .formed .objects-formed i)) in
-      monitor-ext (monitorFrom (imageOf m)) m subs objs
+      monitor-ext (monitorFrom (m .profile) (imageOf m)) m refl subs objs
 
   image-form : imageForm (imageOf m) ≡ true
   unfolding imageForm objectsForm
@@ -116,14 +123,15 @@ module _ (m : Monitor) (S : Sound m) where
       ∙ all-map-at objectBits objectForm noObject (m .objects) (λ i. object-form (m .subjects) (object m i) (S .formed .objects-formed i)))
 
   -- and it is accepted
-  pub image-accepted : imageChecks (imageOf m) ≡ Granted
+  pub image-accepted : imageChecks (m .profile) (imageOf m) ≡ Granted
   unfolding imageChecks stateChecks
   image-accepted =
-      pass _ WrongLength _ (eq-eqb (length (imageOf m)) imageSize size) ∙ pass _ StrayBits _ image-form ∙ ap stateChecks image-read-back ∙ state-passes m S
+      ap (λ (k : Monitor). firstFailing (beginningList (eqb (length (imageOf m)) imageSize) (imageForm (imageOf m)) k (stateList k))) image-read-back
+      ∙ begins _ _ m (stateList m) (eq-eqb (length (imageOf m)) imageSize size) image-form (S .inside) (state-passes m S)
 
--- two states with one image are one
-pub image-tells : (m n : Monitor) → Sound m → Sound n → imageOf m ≡ imageOf n → m ≡ n
-image-tells m n S N e = sym (image-read-back m S) ∙ ap monitorFrom e ∙ image-read-back n N
+-- two states of one profile with one image are one
+pub image-tells : (m n : Monitor) → Sound m → Sound n → m .profile ≡ n .profile → imageOf m ≡ imageOf n → m ≡ n
+image-tells m n S N p e = sym (image-read-back m S) ∙ ap₂ monitorFrom p e ∙ image-read-back n N
 
 -- ---- an accepted image, an accepted table
 
@@ -144,22 +152,21 @@ unfolding objectsForm objectsFrom
 objects-written b l e = records-back objectBits objectFrom objectForm objectCount objectWidth (bytesToBits b) (length-bytesToBits b ∙ omega (arith, l)) object-back e
 
 -- writing the subjects of an accepted table gives its bytes
-pub table-bytes-back : (b : List ℕ) → Bytes b → tableChecks b ≡ Granted → tableOf (tableFrom b) ≡ b
-unfolding tableChecks tableOf
-table-bytes-back b hb e =
-    let ten = passed _ WrongLength _ refl e in
-    let l = eqb-true (length b) tableSize (ten .0) in
-    ap (bitsToBytes tableSize) (subjects-written b l (passed _ StrayBits _ refl (ten .1) .0)) ∙ bitsToBytes-bytesToBits tableSize b hb l
+pub table-bytes-back : (p : Profile) (b : List ℕ) → Bytes b → tableChecks p b ≡ Granted → tableOf (tableFrom b) ≡ b
+unfolding tableOf
+table-bytes-back p b hb e =
+    let t = table-passed p b e in
+    ap (bitsToBytes tableSize) (subjects-written b (t .0) (t .1)) ∙ bitsToBytes-bytesToBits tableSize b hb (t .0)
 
 -- writing from the monitor of an accepted image gives its bytes
-pub image-bytes-back : (b : List ℕ) → Bytes b → imageChecks b ≡ Granted → imageOf (monitorFrom b) ≡ b
+pub image-bytes-back : (p : Profile) (b : List ℕ) → Bytes b → imageChecks p b ≡ Granted → imageOf (monitorFrom p b) ≡ b
 unfolding imageForm monitorFrom imageOf imageBits
-image-bytes-back b hb e =
-    let p = image-passed b e in
-    let f = p .1 in
-    let bits : imageBits (monitorFrom b) ≡ bytesToBits b =
+image-bytes-back p b hb e =
+    let t = image-passed p b e in
+    let f = t .1 in
+    let bits : imageBits (monitorFrom p b) ≡ bytesToBits b =
     ap₂ (λ (x y : List Bool). x ++ y)
-    (subjects-written (take tableSize b) (length-take-le tableSize b (omega (arith, p .0))) (and-left (tableForm (take tableSize b)) (objectsForm (drop tableSize b)) f))
-    (objects-written (drop tableSize b) (length-drop tableSize b ∙ omega (arith, p .0)) (and-right (tableForm (take tableSize b)) (objectsForm (drop tableSize b)) f))
+    (subjects-written (take tableSize b) (length-take-le tableSize b (omega (arith, t .0))) (and-left (tableForm (take tableSize b)) (objectsForm (drop tableSize b)) f))
+    (objects-written (drop tableSize b) (length-drop tableSize b ∙ omega (arith, t .0)) (and-right (tableForm (take tableSize b)) (objectsForm (drop tableSize b)) f))
     ∙ sym (bytesToBits-append (take tableSize b) (drop tableSize b)) ∙ ap bytesToBits (take-append-drop tableSize b) in
-    ap (bitsToBytes imageSize) bits ∙ bitsToBytes-bytesToBits imageSize b hb (p .0)
+    ap (bitsToBytes imageSize) bits ∙ bitsToBytes-bytesToBits imageSize b hb (t .0)

@@ -1,2 +1,2 @@
--- Tables whose clearances fit.
+-- Tables whose clearances fit, and the profile of a beginning.
 pub mod Tables
