@@ -5,3 +5,4 @@ pub mod Images
 pub mod Trips
 pub mod Reached
 pub mod RoundTrips
+pub mod Widest

@@ -9,7 +9,6 @@ use mathlib.Core.List.{List, _++_}
 use lib.ListN.{take}
 use Rattle.bits.specs.Laws.{length-bitsToBytes}
 use Rattle.model.specs.declared.Level.{Level}
-use Rattle.model.specs.declared.Label.{Label}
 use Rattle.model.specs.declared.Label.the-variants.{Present}
 use Rattle.model.specs.declared.Profile.{Profile}
 use Rattle.model.specs.declared.Monitor.{Monitor}

@@ -1,2 +1,3 @@
--- Tables whose clearances fit, and the profile of a beginning.
+-- Tables whose clearances fit, and the profile of a beginning; the checks of the scope without a profile.
 pub mod Tables
+pub mod Base
