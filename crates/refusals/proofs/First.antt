@@ -1,7 +1,7 @@
 -- A list of checks answers the first of its causes: one check more, and the end.
 -- Assumes nothing.
 use mathlib.Core.Path.{_≡_, refl, sym, ap}
-use mathlib.Core.Logic.{inl, inr, ⊎-elim}
+use mathlib.Core.Logic.{_⊎_, inl, inr, ⊎-elim}
 use mathlib.Core.Bool.{Bool, true, false}
 use Rattle.model.specs.declared.Decision.{Decision}
 use Rattle.model.specs.declared.Decision.the-variants.{Granted}
@@ -9,6 +9,10 @@ use Rattle.model.specs.Tests.{unless}
 use Rattle.model.specs.Decisions.{refuses}
 use Rattle.model.proofs.Tests.{apart}
 use Rattle.refusals.specs.First.{Causes, none, row, FirstIn, AnswersFirst}
+
+-- a first cause that is not that of a row is one of the later rows
+pub over : {A B C : Type 0} → (A → ⊥) → (A × B) ⊎ C → C
+over n = ⊎-elim (λ a. absurd (n (a .0))) (λ c. c)
 
 not-granted : {P : Type 0} (d : Decision) → refuses d ≡ true → d ≡ Granted → P
 not-granted d r e = apart r (ap refuses e)

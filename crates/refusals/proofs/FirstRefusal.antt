@@ -7,6 +7,7 @@ use mathlib.Core.Logic.{_↔_, _≢_}
 use mathlib.Core.Bool.{true}
 use mathlib.Core.List.{List}
 use borrow.Author.Tests.{leb-true}
+use Rattle.model.specs.declared.Profile.{Profile}
 use Rattle.model.specs.declared.Monitor.{Monitor}
 use Rattle.model.specs.declared.Request.{Request}
 use Rattle.model.specs.declared.Request.the-variants.{Get, Release, Give, Rescind, Create, Delete, ChangeLevel}
@@ -57,30 +58,30 @@ never-malformed q m = never-answers MalformedRequest (distinct _ _ refl) (checkL
     go (Delete s o) = refl
     go (ChangeLevel s o l) = refl
 
--- 2: exactly the first row, on every monitor
-pub reply-2-exactly : (g : List ℕ) (m : Monitor) → (reply g m ≡ 2) ↔ MalformedBytes g
+-- 2: exactly the first row and what is outside the profile of the monitor, on every monitor
+pub reply-2-exactly : (g : List ℕ) (m : Monitor) → (reply g m ≡ 2) ↔ MalformedBytes (m .profile) g
 unfolding respond
 reply-2-exactly g m = (
-  λ e. malformed-exactly g .0
-      (respond-all (λ (r : Response). number (r .decision) ≡ 2 → decode g ≡ Malformed) g m (λ w z. w)
+  λ e. malformed-exactly (m .profile) g .0
+      (respond-all (λ (r : Response). number (r .decision) ≡ 2 → decode (m .profile) g ≡ Malformed) g m (λ w z. w)
       (λ q d z. absurd (never-malformed q m (reply-is q m MalformedRequest refl .0 z))) e),
-  λ w. ap (λ (d : Decoded). number (carryOut d m .decision)) (malformed-exactly g .1 w),
+  λ w. ap (λ (d : Decoded). number (carryOut d m .decision)) (malformed-exactly (m .profile) g .1 w),
 )
 
 -- 3 to 9 and 14: the reply is k exactly when cause k holds and no earlier one does
-pub reply-first-cause : (m : Monitor) → Reached m → (g : List ℕ) (q : Request) → decode g ≡ Says q → (d : Decision) → refuses d ≡ true
+pub reply-first-cause : (m : Monitor) → Reached m → (g : List ℕ) (q : Request) → decode (m .profile) g ≡ Says q → (d : Decision) → refuses d ≡ true
     → (reply g m ≡ number d) ↔ FirstIn (requestCauses q m) d
 reply-first-cause m R g q e d r =
-    let A = request-answers m (sound-reached m R) q (decode-range g q e) in
+    let A = request-answers m (sound-reached m R) q (decode-range (m .profile) g q e) in
     let a = reply-is q m d r in
     subst (λ (k : Response). (number (k .decision) ≡ number d) ↔ FirstIn (requestCauses q m) d) (sym (respond-says g q m e))
     (λ w. A .refused d r .0 (a .0 w), λ w. a .1 (A .refused d r .1 w))
 
 -- 0 or 1: exactly when there is none
-pub reply-no-cause : (m : Monitor) → Reached m → (g : List ℕ) (q : Request) → decode g ≡ Says q
+pub reply-no-cause : (m : Monitor) → Reached m → (g : List ℕ) (q : Request) → decode (m .profile) g ≡ Says q
     → (reply g m < 2) ↔ NoneIn (requestCauses q m)
 reply-no-cause m R g q e =
-    let A = request-answers m (sound-reached m R) q (decode-range g q e) in
+    let A = request-answers m (sound-reached m R) q (decode-range (m .profile) g q e) in
     let a = reply-granted q m in
     subst (λ (k : Response). (number (k .decision) < 2) ↔ NoneIn (requestCauses q m)) (sym (respond-says g q m e))
     (λ w. A .granted .0 (a .0 w), λ w. a .1 (A .granted .1 w))
@@ -95,27 +96,27 @@ module _ (causes : Causes) (answer : Decision) (A : AnswersFirst causes answer) 
   none-number : (number answer ≡ 0) ↔ NoneIn causes
   none-number = (λ e. A .granted .0 (number-inj answer Granted e), λ w. ap number (A .granted .1 w))
 
-pub table-first-cause : (b : List ℕ) (d : Decision) → refuses d ≡ true → (number (readTable b .decision) ≡ number d) ↔ FirstIn (tableCauses b) d
+pub table-first-cause : (p : Profile) (b : List ℕ) (d : Decision) → refuses d ≡ true → (number (readTable p b .decision) ≡ number d) ↔ FirstIn (tableCauses p b) d
 unfolding readTable begin
-table-first-cause b = first-number (tableCauses b) (tableChecks b) (table-answers b)
+table-first-cause p b = first-number (tableCauses p b) (tableChecks p b) (table-answers p b)
 
-pub table-no-cause : (b : List ℕ) → (number (readTable b .decision) ≡ 0) ↔ NoneIn (tableCauses b)
+pub table-no-cause : (p : Profile) (b : List ℕ) → (number (readTable p b .decision) ≡ 0) ↔ NoneIn (tableCauses p b)
 unfolding readTable begin
-table-no-cause b = none-number (tableCauses b) (tableChecks b) (table-answers b)
+table-no-cause p b = none-number (tableCauses p b) (tableChecks p b) (table-answers p b)
 
-pub image-first-cause : (b : List ℕ) (d : Decision) → refuses d ≡ true → (number (readImage b .decision) ≡ number d) ↔ FirstIn (imageCauses b) d
+pub image-first-cause : (p : Profile) (b : List ℕ) (d : Decision) → refuses d ≡ true → (number (readImage p b .decision) ≡ number d) ↔ FirstIn (imageCauses p b) d
 unfolding readImage begin
-image-first-cause b = first-number (imageCauses b) (imageChecks b) (image-answers b)
+image-first-cause p b = first-number (imageCauses p b) (imageChecks p b) (image-answers p b)
 
-pub image-no-cause : (b : List ℕ) → (number (readImage b .decision) ≡ 0) ↔ NoneIn (imageCauses b)
+pub image-no-cause : (p : Profile) (b : List ℕ) → (number (readImage p b .decision) ≡ 0) ↔ NoneIn (imageCauses p b)
 unfolding readImage begin
-image-no-cause b = none-number (imageCauses b) (imageChecks b) (image-answers b)
+image-no-cause p b = none-number (imageCauses p b) (imageChecks p b) (image-answers p b)
 
 -- a refusal returns "the number and the empty monitor, nobody enrolled"
-pub table-refused-empty : (b : List ℕ) → refuses (readTable b .decision) ≡ true → readTable b .monitor ≡ emptyMonitor
+pub table-refused-empty : (p : Profile) (b : List ℕ) → refuses (readTable p b .decision) ≡ true → readTable p b .monitor ≡ emptyMonitor
 unfolding readTable begin
-table-refused-empty b e = cond-true (refuses (tableChecks b)) _ _ e
+table-refused-empty p b e = cond-true (refuses (tableChecks p b)) _ _ e
 
-pub image-refused-empty : (b : List ℕ) → refuses (readImage b .decision) ≡ true → readImage b .monitor ≡ emptyMonitor
+pub image-refused-empty : (p : Profile) (b : List ℕ) → refuses (readImage p b .decision) ≡ true → readImage p b .monitor ≡ emptyMonitor
 unfolding readImage begin
-image-refused-empty b e = cond-true (refuses (imageChecks b)) _ _ e
+image-refused-empty p b e = cond-true (refuses (imageChecks p b)) _ _ e

@@ -1,96 +1,34 @@
 -- The checks of tables and images answer the first of their causes; when exactly an image is accepted.
 -- Assumes nothing.
-use Prim.Native.Nat.{ℕ, zero, suc}
-use mathlib.Core.Path.{_≡_, refl, sym, _∙_, ap, subst}
+use Prim.Native.Nat.{ℕ}
+use mathlib.Core.Path.{_≡_, refl, ap, subst}
 use mathlib.Core.Logic.{_⊎_, inl, inr, ⊎-elim, _↔_, _≢_}
 use mathlib.Core.Bool.{Bool, true, false, _&&_, _||_}
-use mathlib.Core.List.{List, [], _∷_}
-use lib.ListN.{length, getD, take, drop}
+use mathlib.Core.List.{List}
+use lib.ListN.{length}
 use lib.Dec.{eqb}
 use borrow.Author.Tests.{eq-eqb, eqb-true}
-use Rattle.bits.specs.Bits.{first, allZero}
+use Rattle.model.specs.declared.Subject.{Subject}
+use Rattle.model.specs.declared.Object.{Object}
+use Rattle.model.specs.declared.Profile.{Profile}
 use Rattle.model.specs.declared.Monitor.{Monitor}
-use Rattle.model.specs.declared.Decision.the-variants.{Granted, NoRight, NoLabel, SimpleBroken, StarBroken, WrongLength, StrayBits, AbsentSubject}
-use Rattle.model.specs.State.{noObject, clearanceAt, clearance, enrolled, object, rightsOf, heldBy, WellFormed}
+use Rattle.model.specs.declared.Decision.the-variants.{Granted, NoRight, NoLabel, SimpleBroken, StarBroken, WrongLength, StrayBits, AbsentSubject, OutsideProfile}
+use Rattle.model.specs.State.{noObject, clearanceAt, clearance, enrolled, object, rightsOf, heldBy, fresh, WellFormed}
 use Rattle.model.specs.Properties.{Secure}
-use Rattle.model.specs.Layout.{labelWidth, labelOffset, tableSize, imageSize}
-use Rattle.model.specs.Reading.{stateList, labelForm, objectForm, tableRecords, objectRecords, tableForm, objectsForm, imageForm, monitorFrom, stateChecks, tableChecks, imageChecks, onlyEnrolled}
+use Rattle.model.specs.Layout.{tableSize, imageSize}
+use Rattle.model.specs.Reading.{tableFrom, monitorFrom, tableChecks, imageChecks, onlyEnrolled}
 use Rattle.model.specs.Tests.{allOf, implies}
 use Rattle.model.specs.Levels.{present}
-use Rattle.model.proofs.Tests.{split, apart, clash, and-left, and-right, and-false, or-cases, or-false, cond-true, cond-false, all-out, all-false, implies-false, below-false}
-use Rattle.model.proofs.Checks.{all-pass}
+use Rattle.model.proofs.Tests.{apart, and-false, or-false, all-false, implies-false, below-false, replicate-at}
 use Rattle.model.proofs.Levels.{absent}
-use Rattle.images.proofs.Shapes.{image-shape}
+use Rattle.images.proofs.Shapes.{table-shape, fresh-shape, image-shape}
 use Rattle.images.proofs.StateTests.{formed-out, matrix-out, matrix-in, labelled-out, labelled-in, simple-all-out, simple-all-in, stars-out, stars-in}
 use Rattle.images.proofs.Images.{image-passed}
 use Rattle.refusals.specs.First.{AnswersFirst}
-use Rattle.refusals.specs.Causes.{Stray, StrayLabel, StrayInTable, StrayInObjects, StrayInImage, AbsentActs, tableCauses, imageCauses}
+use Rattle.refusals.specs.Causes.{ProfileOutside, StrayInImage, ClearanceOutside, LabelOutside, OutsideInImage, AbsentActs, tableCauses, imageCauses}
 use Rattle.refusals.proofs.First.{answers-end, answers-check}
-
--- ---- bits of what is absent
-
-zero-at : (b : List Bool) → allZero b ≡ true → (j : ℕ) → getD b j false ≡ false
-unfolding allZero
-zero-at [] e j = refl
-zero-at (true ∷ b) e j = clash (sym e)
-zero-at (false ∷ b) e zero = refl
-zero-at (false ∷ b) e (suc j) = zero-at b e j
-
-one-at : (b : List Bool) → allZero b ≡ false → (j : ℕ) × (getD b j false ≡ true)
-unfolding allZero
-one-at [] e = clash e
-one-at (true ∷ b) e = (0, refl)
-one-at (false ∷ b) e = let p = one-at b e in (suc (p .0), p .1)
-
-label-stray : (r : List Bool) → labelForm r ≡ false → Stray r
-unfolding labelForm
-label-stray r e = let p = or-false (first r) (allZero r) e in (p .0, one-at r (p .1))
-
-label-clear : (r : List Bool) → labelForm r ≡ true → Stray r → ⊥
-unfolding labelForm
-label-clear r e s =
-    or-cases (first r) (allZero r) e (λ w. apart w (s .0)) (λ w. apart (s .1 .1) (zero-at r w (s .1 .0)))
-
-object-stray : (r : List Bool) → objectForm r ≡ false → Stray r ⊎ StrayLabel r
-unfolding objectForm
-object-stray r e =
-    split (first r)
-    (λ w. inr (w, label-stray (take labelWidth (drop labelOffset r)) (sym (cond-true (first r) _ _ w) ∙ e)))
-    (λ w. inl (w, one-at r (sym (cond-false (first r) _ _ w) ∙ e)))
-
-object-clear : (r : List Bool) → objectForm r ≡ true → (Stray r ⊎ StrayLabel r) → ⊥
-unfolding objectForm
-object-clear r e s =
-    ⊎-elim (λ (u : Stray r). apart (u .1 .1) (zero-at r (sym (cond-false (first r) _ _ (u .0)) ∙ e) (u .1 .0)))
-    (λ (u : StrayLabel r). label-clear (take labelWidth (drop labelOffset r)) (sym (cond-true (first r) _ _ (u .0)) ∙ e) (u .1)) s
-
-table-stray : (b : List ℕ) → tableForm b ≡ false → StrayInTable b
-unfolding tableForm
-table-stray b e = all-false labelForm [] (tableRecords b) e (λ i h w. (i, label-stray _ w))
-
-table-clear : (b : List ℕ) → tableForm b ≡ true → StrayInTable b → ⊥
-unfolding tableForm labelForm allZero
-table-clear b e s = label-clear (getD (tableRecords b) (s .0) []) (all-out labelForm [] (tableRecords b) refl e (s .0)) (s .1)
-
-objects-stray : (b : List ℕ) → objectsForm b ≡ false → StrayInObjects b
-unfolding objectsForm
-objects-stray b e = all-false objectForm [] (objectRecords b) e (λ i h w. (i, object-stray _ w))
-
-objects-clear : (b : List ℕ) → objectsForm b ≡ true → StrayInObjects b → ⊥
-unfolding objectsForm objectForm allZero
-objects-clear b e s = object-clear (getD (objectRecords b) (s .0) []) (all-out objectForm [] (objectRecords b) refl e (s .0)) (s .1)
-
-image-stray : (b : List ℕ) → imageForm b ≡ false → StrayInImage b
-unfolding imageForm
-image-stray b e =
-    and-false (tableForm (take tableSize b)) (objectsForm (drop tableSize b)) e
-    (λ w. inl (table-stray (take tableSize b) w)) (λ w. inr (objects-stray (drop tableSize b) w))
-
-image-clear : (b : List ℕ) → imageForm b ≡ true → StrayInImage b → ⊥
-unfolding imageForm
-image-clear b e s =
-    ⊎-elim (λ (u : StrayInTable (take tableSize b)). table-clear (take tableSize b) (and-left (tableForm (take tableSize b)) _ e) u)
-    (λ (u : StrayInObjects (drop tableSize b)). objects-clear (drop tableSize b) (and-right (tableForm (take tableSize b)) _ e) u) s
+use Rattle.refusals.proofs.ProfileCauses.{profile-outside, profile-not-outside, levels-outside, levels-not-outside}
+use Rattle.refusals.proofs.StrayBits.{table-11, table-not-11, image-11, image-not-11}
 
 -- ---- who is absent
 
@@ -139,58 +77,76 @@ length-is b n e w = w (eqb-true _ _ e)
 length-is-not : (b : List ℕ) (n : ℕ) → eqb (length b) n ≡ false → length b ≢ n
 length-is-not b n e w = apart (eq-eqb (length b) n w) e
 
--- "Tables are checked 10, 11"
-pub table-answers : (b : List ℕ) → AnswersFirst (tableCauses b) (tableChecks b)
+-- no object of a fresh monitor has a label
+no-label-outside : (p : Profile) (l : List Subject) → LabelOutside p (fresh p l .objects) → ⊥
+no-label-outside p l w = apart (ap present (w .2)) (ap (λ (x : Object). present (x .label)) (replicate-at noObject 64 (w .0)))
+
+-- "Tables are checked 10, 11", with 16 before and after
+pub table-answers : (p : Profile) (b : List ℕ) → AnswersFirst (tableCauses p b) (tableChecks p b)
 unfolding tableChecks
-table-answers b =
-    answers-check _ WrongLength _ _ _ refl (length-is b tableSize) (length-is-not b tableSize)
-    (answers-check _ StrayBits _ _ _ refl (table-clear b) (table-stray b)
-    answers-end)
+table-answers p b =
+    let l = tableFrom b in
+    let m = fresh p l in
+    let S = fresh-shape p l (table-shape b) in
+    answers-check _ OutsideProfile _ _ _ refl (profile-not-outside p) (profile-outside p)
+    (answers-check _ WrongLength _ _ _ refl (length-is b tableSize) (length-is-not b tableSize)
+    (answers-check _ StrayBits _ _ _ refl (table-not-11 p b) (table-11 p b)
+    (answers-check _ OutsideProfile _ _ _ refl (λ e w. levels-not-outside m S e (inl w))
+    (λ e. ⊎-elim (λ (w : ClearanceOutside p l). w) (λ (w : LabelOutside p (m .objects)). absurd (no-label-outside p l w)) (levels-outside m S e))
+    answers-end)))
 
 -- a property that its test decides
 decided : {P : Type 0} (b : Bool) → (P → b ≡ true) → b ≡ false → P → ⊥
 decided b f e p = apart (f p) e
 
--- "images 10, 11, 12, 6, 7, 8, 9, each over the whole image before the next"
-pub image-answers : (b : List ℕ) → AnswersFirst (imageCauses b) (imageChecks b)
-unfolding imageChecks stateChecks
-image-answers b =
-    let m = monitorFrom b in
-    let S = image-shape b in
-    answers-check _ WrongLength _ _ _ refl (length-is b imageSize) (length-is-not b imageSize)
-    (answers-check _ StrayBits _ _ _ refl (image-clear b) (image-stray b)
+-- "images 10, 11, 12, 6, 7, 8, 9, each over the whole image before the next", with 16 before 10 and after 11
+pub image-answers : (p : Profile) (b : List ℕ) → AnswersFirst (imageCauses p b) (imageChecks p b)
+unfolding imageChecks monitorFrom
+image-answers p b =
+    let m = monitorFrom p b in
+    let S = image-shape p b in
+    answers-check _ OutsideProfile _ _ _ refl (profile-not-outside p) (profile-outside p)
+    (answers-check _ WrongLength _ _ _ refl (length-is b imageSize) (length-is-not b imageSize)
+    (answers-check _ StrayBits _ _ _ refl (image-not-11 p b) (image-11 p b)
+    (answers-check _ OutsideProfile _ _ _ refl (levels-not-outside m S) (levels-outside m S)
     (answers-check _ AbsentSubject _ _ _ refl (λ e. none-acts m (formed-out m S e)) (absent-acts m)
     (answers-check _ NoRight _ _ _ refl (λ e w. w (matrix-out m S e)) (decided _ (matrix-in m S))
     (answers-check _ NoLabel _ _ _ refl (λ e w. w (labelled-out m S e)) (decided _ (labelled-in m S))
     (answers-check _ SimpleBroken _ _ _ refl (λ e w. w (simple-all-out m S e)) (decided _ (simple-all-in m S))
     (answers-check _ StarBroken _ _ _ refl (λ e w. w (stars-out m S e)) (decided _ (stars-in m S))
-    answers-end))))))
+    answers-end))))))))
 
 -- ---- acceptance
 
--- "An image is accepted exactly when it has this form, only enrolled subjects own, have rights or hold, and the state is secure"
-pub image-accepted-exactly : (b : List ℕ)
-    → (imageChecks b ≡ Granted)
-    ↔ ((length b ≡ imageSize) × (StrayInImage b → ⊥) × (AbsentActs (monitorFrom b) → ⊥) × Secure (monitorFrom b))
-unfolding imageChecks stateChecks
-image-accepted-exactly b = (
-  λ e. let p = image-passed b e in (p .0, image-clear b (p .1), none-acts (monitorFrom b) (p .2 .formed), p .2 .secure),
-  λ p.
-      let m = monitorFrom b in
-      let S = image-shape b in
-      all-pass ((eqb (length b) imageSize, WrongLength) ∷ (imageForm b, StrayBits) ∷ stateList m) (
-        eq-eqb (length b) imageSize (p .0),
+-- "An image is accepted exactly when it has this form, only enrolled subjects own, have rights or hold, and the state is secure"; under a profile
+-- in its ranges, with nothing outside it
+pub image-accepted-exactly : (p : Profile) (b : List ℕ)
+    → (imageChecks p b ≡ Granted)
+    ↔ ((ProfileOutside p → ⊥) × (length b ≡ imageSize) × (StrayInImage p b → ⊥) × (OutsideInImage p b → ⊥) × (AbsentActs (monitorFrom p b) → ⊥)
+    × Secure (monitorFrom p b))
+image-accepted-exactly p b = (
+  λ e.
+      let n = image-answers p b .granted .0 e in
+      let S = image-passed p b e .2 in
+      (n .0, image-passed p b e .0, n .1 .1 .0, n .1 .1 .1 .0, n .1 .1 .1 .1 .0, S .secure),
+  λ h.
+      let S = h .5 in
+      image-answers p b .granted .1 (
+        h .0,
         (
-          holds (imageForm b) (λ e. p .1 (image-stray b e)),
+          λ w. w (h .1),
           (
-            holds _ (λ e. p .2 (absent-acts m e)),
+            h .2,
             (
-              matrix-in m S (p .3 .discretionary),
+              h .3,
               (
-                labelled-in m S (p .3 .labelled),
+                h .4,
                 (
-                  simple-all-in m S (p .3 .simple),
-                  (stars-in m S (p .3 .star), tt),
+                  λ w. w (S .discretionary),
+                  (
+                    λ w. w (S .labelled),
+                    (λ w. w (S .simple), (λ w. w (S .star), tt)),
+                  ),
                 ),
               ),
             ),
@@ -198,7 +154,3 @@ image-accepted-exactly b = (
         ),
       ),
 )
-  where
-    holds : (b : Bool) → (b ≡ false → ⊥) → b ≡ true
-    holds true h = refl
-    holds false h = absurd (h refl)

@@ -2,7 +2,10 @@
 pub mod Orders
 pub mod First
 pub mod RequestCauses
+pub mod ProfileCauses
 pub mod Malformed
+pub mod StrayBits
 pub mod ImageCauses
 pub mod FirstRefusal
+pub mod Outside
 pub mod ModePairs

@@ -1,4 +1,4 @@
--- A byte string is malformed exactly when it is one of the first row of "Refused causes".
+-- A byte string is malformed under a profile exactly when it is one of the first row of "Refused causes" or outside the profile.
 -- Assumes nothing.
 use Prim.Native.Nat.{ℕ, _<_, _≤_}
 use native.Mathlib.Omega.{arith}
@@ -8,23 +8,20 @@ use mathlib.Core.Bool.{Bool, true, false, cond, _&&_, _||_}
 use mathlib.Core.List.{List}
 use lib.ListN.{length}
 use lib.Dec.{eqb, ltb, leb}
-use borrow.Author.Tests.{eq-eqb, eqb-true, le-leb, leb-true, lt-ltb}
+use borrow.Author.Tests.{eq-eqb, eqb-true, le-leb, leb-true}
+use Rattle.model.specs.declared.Profile.{Profile}
 use Rattle.model.specs.declared.Fields.{Fields}
 use Rattle.model.specs.declared.Request.{Request}
 use Rattle.model.specs.declared.Decoded.{Decoded}
 use Rattle.model.specs.declared.Decoded.the-variants.{Malformed, Says}
-use Rattle.model.specs.Requests.{fields, modeAllowed, unusedZero, wellFormed, decode}
+use Rattle.model.specs.Requests.{fields, modeAllowed, unusedZero, fieldsFormed, levelOf, within, wellFormed, decode}
 use Rattle.model.proofs.Tests.{split, apart, clash, and-left, and-right, and-false, or-cases, or-false, cond-true, cond-false, le-or-lt}
+use Rattle.model.proofs.Within.{within-fields, formed-of, within-of}
 use Rattle.model.proofs.Requests.{in-kinds, actor-in, other-in, object-in, last-two, decode-says, says-decode}
-use Rattle.refusals.specs.Causes.{ModeNotAllowed, UnusedSet, MalformedBytes, not-six-bytes, kind-below, kind-above, actor-above, other-above, object-above, mode-not-allowed, unused-set}
+use Rattle.refusals.specs.Causes.{NeedOutside, ModeNotAllowed, UnusedSet, MalformedBytes, not-six-bytes, kind-below, kind-above, actor-above, other-above, object-above, mode-not-allowed, unused-set, actor-outside, other-outside, object-outside, class-outside, need-outside}
+use Rattle.refusals.proofs.ProfileCauses.{leb-false, ltb-false, level-outside, level-not-outside}
 
--- ---- tests of numbers that fail
-
-leb-false : (a b : ℕ) → leb a b ≡ false → b < a
-leb-false a b e = ⊎-elim (λ (h : a ≤ b). apart (le-leb a b h) e) (λ (h : b < a). h) (le-or-lt a b)
-
-ltb-false : (a b : ℕ) → ltb a b ≡ false → b ≤ a
-ltb-false a b e = ⊎-elim (λ (h : b ≤ a). h) (λ (h : a < b). apart (lt-ltb a b h) e) (le-or-lt b a)
+-- ---- a test of a number that fails
 
 eqb-false : (a b : ℕ) → eqb a b ≡ false → a ≢ b
 eqb-false a b e w = apart (eq-eqb a b w) e
@@ -103,9 +100,9 @@ unused-passes f e (inr (inr p)) =
 
 -- ---- the theorem
 
-fields-fail : (b : List ℕ) → wellFormed (fields b) ≡ false → MalformedBytes b
-unfolding wellFormed
-fields-fail b e =
+form-fails : (p : Profile) (b : List ℕ) → fieldsFormed (fields b) ≡ false → MalformedBytes p b
+unfolding fieldsFormed
+form-fails p b e =
     let f = fields b in
     and-false (leb 1 (f .kind) && leb (f .kind) 7) _ e
     (λ w. and-false (leb 1 (f .kind)) (leb (f .kind) 7) w (λ v. kind-below (leb-false 1 _ v)) (λ v. kind-above (leb-false _ 7 v)))
@@ -114,29 +111,49 @@ fields-fail b e =
     (λ u. and-false (ltb (f .object) 64) _ u (λ t. object-above (ltb-false _ 64 t))
     (λ t. and-false (modeAllowed (f .kind) (f .mode)) _ t (λ r. mode-not-allowed (mode-fails _ _ r)) (λ r. unused-set (unused-fails f r))))))
 
--- bytes that say a request are none of these
-pub says-not-malformed : (b : List ℕ) (q : Request) → decode b ≡ Says q → MalformedBytes b → ⊥
-says-not-malformed b q e w =
-    let d = decode-says b q e in
+within-fails : (p : Profile) (b : List ℕ) → within p (fields b) ≡ false → MalformedBytes p b
+unfolding within
+within-fails p b e =
     let f = fields b in
-    let kinds = in-kinds f (d .1) in
+    and-false (ltb (f .actor) (p .subjects)) _ e (λ v. actor-outside (ltb-false _ _ v))
+    (λ w. and-false (ltb (f .other) (p .subjects)) _ w (λ v. other-outside (ltb-false _ _ v))
+    (λ u. and-false (ltb (f .object) (p .objects)) _ u (λ v. object-outside (ltb-false _ _ v))
+    (λ t. ⊎-elim (λ (h : p .highest .class < f .class). class-outside h) (λ (h : NeedOutside p (f .needs)). need-outside h) (level-outside p (levelOf f) t))))
+
+fields-fail : (p : Profile) (b : List ℕ) → wellFormed p (fields b) ≡ false → MalformedBytes p b
+unfolding wellFormed
+fields-fail p b e = and-false (fieldsFormed (fields b)) (within p (fields b)) e (form-fails p b) (within-fails p b)
+
+-- bytes that say a request are none of these
+pub says-not-malformed : (p : Profile) (b : List ℕ) (q : Request) → decode p b ≡ Says q → MalformedBytes p b → ⊥
+says-not-malformed p b q e w =
+    let d = decode-says p b q e in
+    let f = fields b in
+    let F = formed-of p f (d .1) in
+    let I = within-fields p f (within-of p f (d .1)) in
+    let kinds = in-kinds f F in
     elim w [
       | not-six-bytes h ↦ h (d .0)
       | kind-below h ↦ absurd (omega (arith, h, leb-true 1 (f .kind) (and-left (leb 1 (f .kind)) _ kinds)))
       | kind-above h ↦ absurd (omega (arith, h, leb-true (f .kind) 7 (and-right (leb 1 (f .kind)) _ kinds)))
-      | actor-above h ↦ absurd (omega (arith, h, actor-in f (d .1)))
-      | other-above h ↦ absurd (omega (arith, h, other-in f (d .1)))
-      | object-above h ↦ absurd (omega (arith, h, object-in f (d .1)))
-      | mode-not-allowed h ↦ mode-passes _ _ (and-left (modeAllowed (f .kind) (f .mode)) _ (last-two f (d .1))) h
-      | unused-set h ↦ unused-passes f (and-right (modeAllowed (f .kind) (f .mode)) _ (last-two f (d .1))) h
+      | actor-above h ↦ absurd (omega (arith, h, actor-in f F))
+      | other-above h ↦ absurd (omega (arith, h, other-in f F))
+      | object-above h ↦ absurd (omega (arith, h, object-in f F))
+      | mode-not-allowed h ↦ mode-passes _ _ (and-left (modeAllowed (f .kind) (f .mode)) _ (last-two f F)) h
+      | unused-set h ↦ unused-passes f (and-right (modeAllowed (f .kind) (f .mode)) _ (last-two f F)) h
+      | actor-outside h ↦ absurd (omega (arith, h, I .actor))
+      | other-outside h ↦ absurd (omega (arith, h, I .other))
+      | object-outside h ↦ absurd (omega (arith, h, I .object))
+      | class-outside h ↦ level-not-outside p (levelOf f) (I .level) (inl h)
+      | need-outside h ↦ level-not-outside p (levelOf f) (I .level) (inr h)
     ]
 
-pub malformed-exactly : (b : List ℕ) → (decode b ≡ Malformed) ↔ MalformedBytes b
-malformed-exactly b = (
+pub malformed-exactly : (p : Profile) (b : List ℕ) → (decode p b ≡ Malformed) ↔ MalformedBytes p b
+malformed-exactly p b = (
   λ e. split (eqb (length b) 6)
-      (λ l. split (wellFormed (fields b)) (λ w. absurd (not-both (sym e ∙ says-decode b (eqb-true (length b) 6 l) w))) (fields-fail b))
+      (λ l. split (wellFormed p (fields b)) (λ w. absurd (not-both (sym e ∙ says-decode p b (eqb-true (length b) 6 l) w))) (fields-fail p b))
       (λ l. not-six-bytes (eqb-false (length b) 6 l)),
-  λ w. go (decode b) (λ q e. says-not-malformed b q e w),
+  λ w. go (decode p b) (λ q e. says-not-malformed p b q e w),
 )
   where
     isSays : Decoded → Bool

@@ -22,29 +22,26 @@ use Rattle.model.specs.Rules.{changed, afterwards}
 use Rattle.model.specs.Runs.{reply}
 use Rattle.model.specs.Beginnings.{Reached}
 use Rattle.model.proofs.Tests.{apart, distinct}
-use Rattle.model.proofs.Requests.{decode-range}
+use Rattle.model.proofs.Requests.{decode-range, decode-within}
 use Rattle.invariants.proofs.Steps.{sound-afterwards}
 use Rattle.invariants.proofs.Outcomes.{reply-granted}
 use Rattle.invariants.proofs.ModePairs.{star-added}
 use Rattle.images.proofs.Reached.{sound-reached, respond-says}
+use Rattle.refusals.proofs.First.{over}
 use Rattle.refusals.proofs.FirstRefusal.{reply-first-cause, reply-no-cause}
 
--- a first cause that is not that of a row is one of the later rows
-over : {A B C : Type 0} → (A → ⊥) → (A × B) ⊎ C → C
-over n = ⊎-elim (λ a. absurd (n (a .0))) (λ c. c)
-
-module _ (m : Monitor) (R : Reached m) (g : List ℕ) (s o : ℕ) (x : Mode) (says : decode g ≡ Says (Get s o x)) where
+module _ (m : Monitor) (R : Reached m) (g : List ℕ) (s o : ℕ) (x : Mode) (says : decode (m .profile) g ≡ Says (Get s o x)) where
   -- where no label is missing, the star property after the get is the table's
   by-held : ((x ≢ Execute) × (object m o .label ≡ Absent) → ⊥) → Star (afterwards (Get s o x) m) ↔ KeptByHeld m s o x
   unfolding changed
   by-held h =
-      let b = decode-range g (Get s o x) says in
+      let b = decode-range (m .profile) g (Get s o x) says in
       star-added m (sound-reached m R) s o x (b .0) (b .1) (λ n e. h (λ q. apart n (ap needsLabel q), e))
 
   -- a get that is granted leaves a state with the star property
   star-after : reply g m < 2 → Star (afterwards (Get s o x) m)
   star-after h =
-      sound-afterwards (Get s o x) m (decode-range g (Get s o x) says) (sound-reached m R)
+      sound-afterwards (Get s o x) m (decode-range (m .profile) g (Get s o x) says) (decode-within (m .profile) g (Get s o x) says) (sound-reached m R)
       (reply-granted (Get s o x) m .0 (subst (λ (r : Response). number (r .decision) < 2) (respond-says g (Get s o x) m says) h)) .secure .star
 
   kept-granted : reply g m < 2 → KeptByHeld m s o x

@@ -4,6 +4,7 @@ use Prim.Native.Nat.{ℕ}
 use mathlib.Core.Path.{_≡_, refl}
 use mathlib.Core.List.{List, [], _∷_}
 use Rattle.model.specs.declared.Level.{Level}
+use Rattle.model.specs.declared.Profile.{Profile}
 use Rattle.model.specs.declared.Monitor.{Monitor}
 use Rattle.model.specs.declared.Mode.{Mode}
 use Rattle.model.specs.declared.Creation.{Creation}
@@ -23,6 +24,8 @@ pub orders-of-requests : (m : Monitor) (s t o : ℕ) (x : Mode) (c : Creation) (
     × (orderOf (requestCauses (ChangeLevel s o l) m) ≡ 3 ∷ 4 ∷ 6 ∷ 14 ∷ 8 ∷ 9 ∷ [])
 orders-of-requests m s t o x c l = (refl, refl, refl, refl, refl, refl, refl)
 
--- "Tables are checked 10, 11; images 10, 11, 12, 6, 7, 8, 9"
-pub orders-of-beginnings : (b : List ℕ) → (orderOf (tableCauses b) ≡ 10 ∷ 11 ∷ []) × (orderOf (imageCauses b) ≡ 10 ∷ 11 ∷ 12 ∷ 6 ∷ 7 ∷ 8 ∷ 9 ∷ [])
-orders-of-beginnings b = (refl, refl)
+-- "Tables are checked 10, 11; images 10, 11, 12, 6, 7, 8, 9"; 16 "before anything else is read" and "directly after 11"
+pub orders-of-beginnings : (p : Profile) (b : List ℕ)
+    → (orderOf (tableCauses p b) ≡ 16 ∷ 10 ∷ 11 ∷ 16 ∷ [])
+    × (orderOf (imageCauses p b) ≡ 16 ∷ 10 ∷ 11 ∷ 16 ∷ 12 ∷ 6 ∷ 7 ∷ 8 ∷ 9 ∷ [])
+orders-of-beginnings p b = (refl, refl)

@@ -7,22 +7,40 @@ use mathlib.Core.Bool.{Bool, true, false}
 use mathlib.Core.List.{List, []}
 use lib.ListN.{length, getD, take, drop}
 use Rattle.bits.specs.Bits.{first}
+use Rattle.model.specs.declared.Level.{Level}
 use Rattle.model.specs.declared.Label.the-variants.{Absent, Present}
+use Rattle.model.specs.declared.Subject.{Subject}
+use Rattle.model.specs.declared.Object.{Object}
+use Rattle.model.specs.declared.Profile.{Profile}
 use Rattle.model.specs.declared.Monitor.{Monitor}
 use Rattle.model.specs.declared.Mode.{Mode}
 use Rattle.model.specs.declared.Mode.the-variants.{Execute}
 use Rattle.model.specs.declared.Fields.{Fields}
 use Rattle.model.specs.declared.Request.{Request}
 use Rattle.model.specs.declared.Request.the-variants.{Get, Release, Give, Rescind, Create, Delete, ChangeLevel}
-use Rattle.model.specs.declared.Decision.the-variants.{NotEnrolled, NotLive, AlreadyLive, NoRight, NoLabel, SimpleBroken, StarBroken, WrongLength, StrayBits, AbsentSubject, LabelLowered}
-use Rattle.model.specs.Levels.{Dominates}
-use Rattle.model.specs.State.{clearance, object, rightsOf, heldBy}
+use Rattle.model.specs.declared.Decision.the-variants.{NotEnrolled, NotLive, AlreadyLive, NoRight, NoLabel, SimpleBroken, StarBroken, WrongLength, StrayBits, AbsentSubject, LabelLowered, OutsideProfile}
+use Rattle.model.specs.Levels.{need, Dominates}
+use Rattle.model.specs.State.{clearanceAt, clearance, objectAt, object, rightsOf, heldBy}
 use Rattle.model.specs.Properties.{Permits, Discretionary, Labelled, Simple, Star}
 use Rattle.model.specs.Requests.{fields}
 use Rattle.model.specs.Rules.{afterwards}
 use Rattle.model.specs.Layout.{labelWidth, labelOffset, tableSize, imageSize}
-use Rattle.model.specs.Reading.{tableRecords, objectRecords, monitorFrom}
+use Rattle.model.specs.Reading.{tableRecords, objectRecords, tableFrom, monitorFrom}
 use Rattle.refusals.specs.First.{Causes, none, row}
+
+-- ---- outside a profile (change request §8)
+
+-- "the subjects in use (1 to 16), objects in use (1 to 64), highest class (0 to 15)": "a profile outside these ranges"
+abbrev pub ProfileOutside : Profile → Type 0
+ProfileOutside p = (p .subjects < 1) ⊎ ((16 < p .subjects) ⊎ ((p .objects < 1) ⊎ ((64 < p .objects) ⊎ (15 < p .highest .class))))
+
+-- a need of the set that is not in "the needs in use"
+abbrev pub NeedOutside : Profile → ℕ → Type 0
+NeedOutside p needs = (k : ℕ) × (k < 16) × (need k needs ≡ true) × (need k (p .highest .needs) ≡ false)
+
+-- a class above the "highest class", or such a need
+abbrev pub LevelOutside : Profile → Level → Type 0
+LevelOutside p l = (p .highest .class < l .class) ⊎ NeedOutside p (l .needs)
 
 -- ---- 2, of byte strings
 
@@ -40,16 +58,22 @@ UnusedSet f =
     ⊎ (((f .kind ≢ 7) × ((f .class ≢ 0) ⊎ (f .needs ≢ 0)))
     ⊎ (f .spare ≢ 0))
 
--- "request not 6 bytes; kind not 1 to 7; actor or other above 15; object above 63; mode not allowed; an unused field not 0"
-pub data MalformedBytes (b : List ℕ) : Type 0 where
-  not-six-bytes : length b ≢ 6 → MalformedBytes b
-  kind-below : fields b .kind < 1 → MalformedBytes b
-  kind-above : 7 < fields b .kind → MalformedBytes b
-  actor-above : 15 < fields b .actor → MalformedBytes b
-  other-above : 15 < fields b .other → MalformedBytes b
-  object-above : 63 < fields b .object → MalformedBytes b
-  mode-not-allowed : ModeNotAllowed (fields b .kind) (fields b .mode) → MalformedBytes b
-  unused-set : UnusedSet (fields b) → MalformedBytes b
+-- "request not 6 bytes; kind not 1 to 7; actor or other above 15; object above 63; mode not allowed; an unused field not 0"; "A subject,
+-- object, class or need outside it in a request is malformed", by the profile of the monitor
+pub data MalformedBytes (p : Profile) (b : List ℕ) : Type 0 where
+  not-six-bytes : length b ≢ 6 → MalformedBytes p b
+  kind-below : fields b .kind < 1 → MalformedBytes p b
+  kind-above : 7 < fields b .kind → MalformedBytes p b
+  actor-above : 15 < fields b .actor → MalformedBytes p b
+  other-above : 15 < fields b .other → MalformedBytes p b
+  object-above : 63 < fields b .object → MalformedBytes p b
+  mode-not-allowed : ModeNotAllowed (fields b .kind) (fields b .mode) → MalformedBytes p b
+  unused-set : UnusedSet (fields b) → MalformedBytes p b
+  actor-outside : p .subjects ≤ fields b .actor → MalformedBytes p b
+  other-outside : p .subjects ≤ fields b .other → MalformedBytes p b
+  object-outside : p .objects ≤ fields b .object → MalformedBytes p b
+  class-outside : p .highest .class < fields b .class → MalformedBytes p b
+  need-outside : NeedOutside p (fields b .needs) → MalformedBytes p b
 
 -- ---- 3 to 9 and 14, of requests
 
@@ -113,7 +137,7 @@ requestCauses (ChangeLevel s o l) m =
     (row StarBroken (Star (afterwards (ChangeLevel s o l) m) → ⊥)
     none)))))
 
--- ---- 10, 11, 12 and 6 to 9, of tables and images
+-- ---- 16, 10, 11, 12 and 6 to 9, of tables and images
 
 -- an absent record: its first bit is 0, and another of its own bits is set
 abbrev pub Stray : List Bool → Type 0
@@ -123,13 +147,25 @@ Stray r = (first r ≡ false) × ((j : ℕ) × (getD r j false ≡ true))
 abbrev pub StrayLabel : List Bool → Type 0
 StrayLabel r = (first r ≡ true) × Stray (take labelWidth (drop labelOffset r))
 
--- "an absent table record .. with another of its own bits set"
-abbrev pub StrayInTable : List ℕ → Type 0
-StrayInTable b = (i : ℕ) × Stray (getD (tableRecords b) i [])
+-- "a record beyond the profile is absent, and a bit in it gets 11": any bit, in a record from the n-th on, where n are in use
+abbrev pub BitBeyond : ℕ → List (List Bool) → Type 0
+BitBeyond n records = (i : ℕ) × (n ≤ i) × ((j : ℕ) × (getD (getD records i []) j false ≡ true))
 
--- "an absent .. object record or label with another of its own bits set"
-abbrev pub StrayInObjects : List ℕ → Type 0
-StrayInObjects b = (i : ℕ) × (Stray (getD (objectRecords b) i []) ⊎ StrayLabel (getD (objectRecords b) i []))
+-- "an absent table record .. with another of its own bits set", or a bit beyond the subjects in use
+abbrev pub StrayInTable : Profile → List ℕ → Type 0
+StrayInTable p b = ((i : ℕ) × Stray (getD (tableRecords b) i [])) ⊎ BitBeyond (p .subjects) (tableRecords b)
+
+-- "an absent .. object record or label with another of its own bits set", or a bit beyond the objects in use
+abbrev pub StrayInObjects : Profile → List ℕ → Type 0
+StrayInObjects p b =
+    ((i : ℕ) × (Stray (getD (objectRecords b) i []) ⊎ StrayLabel (getD (objectRecords b) i []))) ⊎ BitBeyond (p .objects) (objectRecords b)
+
+-- "a clearance .. outside its profile", "a .. label outside its profile": of somebody enrolled, of some object
+abbrev pub ClearanceOutside : Profile → List Subject → Type 0
+ClearanceOutside p l = (s : ℕ) × (a : Level) × (clearanceAt l s ≡ Present a) × LevelOutside p a
+
+abbrev pub LabelOutside : Profile → List Object → Type 0
+LabelOutside p l = (o : ℕ) × (a : Level) × (objectAt l o .label ≡ Present a) × LevelOutside p a
 
 -- "an absent subject owns, has a right or holds"
 abbrev pub AbsentActs : Monitor → Type 0
@@ -138,24 +174,33 @@ AbsentActs m =
     ⊎ ((rightsOf (object m o) s ≢ 0) ⊎ (heldBy (object m o) s ≢ 0))))
 
 -- the same of the table or of the objects of an image
-abbrev pub StrayInImage : List ℕ → Type 0
-StrayInImage b = StrayInTable (take tableSize b) ⊎ StrayInObjects (drop tableSize b)
+abbrev pub StrayInImage : Profile → List ℕ → Type 0
+StrayInImage p b = StrayInTable p (take tableSize b) ⊎ StrayInObjects p (drop tableSize b)
 
--- "Tables are checked 10, 11"
-abbrev pub tableCauses : List ℕ → Causes
-tableCauses b =
-    row WrongLength (length b ≢ tableSize)
-    (row StrayBits (StrayInTable b)
-    none)
+-- "a table or image with a clearance or label outside its profile"
+abbrev pub OutsideInImage : Profile → List ℕ → Type 0
+OutsideInImage p b = ClearanceOutside p (monitorFrom p b .subjects) ⊎ LabelOutside p (monitorFrom p b .objects)
 
--- "images 10, 11, 12, 6, 7, 8, 9, each over the whole image before the next"
-abbrev pub imageCauses : List ℕ → Causes
-imageCauses b =
-    row WrongLength (length b ≢ imageSize)
-    (row StrayBits (StrayInImage b)
-    (row AbsentSubject (AbsentActs (monitorFrom b))
-    (row NoRight (Discretionary (monitorFrom b) → ⊥)
-    (row NoLabel (Labelled (monitorFrom b) → ⊥)
-    (row SimpleBroken (Simple (monitorFrom b) → ⊥)
-    (row StarBroken (Star (monitorFrom b) → ⊥)
-    none))))))
+-- "Tables are checked 10, 11"; "16, a profile outside these ranges, before anything else is read, or a table or image with a clearance or
+-- label outside its profile, checked directly after 11": two rows with one number
+abbrev pub tableCauses : Profile → List ℕ → Causes
+tableCauses p b =
+    row OutsideProfile (ProfileOutside p)
+    (row WrongLength (length b ≢ tableSize)
+    (row StrayBits (StrayInTable p b)
+    (row OutsideProfile (ClearanceOutside p (tableFrom b))
+    none)))
+
+-- "images 10, 11, 12, 6, 7, 8, 9, each over the whole image before the next", with 16 as for tables
+abbrev pub imageCauses : Profile → List ℕ → Causes
+imageCauses p b =
+    row OutsideProfile (ProfileOutside p)
+    (row WrongLength (length b ≢ imageSize)
+    (row StrayBits (StrayInImage p b)
+    (row OutsideProfile (OutsideInImage p b)
+    (row AbsentSubject (AbsentActs (monitorFrom p b))
+    (row NoRight (Discretionary (monitorFrom p b) → ⊥)
+    (row NoLabel (Labelled (monitorFrom p b) → ⊥)
+    (row SimpleBroken (Simple (monitorFrom p b) → ⊥)
+    (row StarBroken (Star (monitorFrom p b) → ⊥)
+    none))))))))
