@@ -75,8 +75,8 @@ module _ (m : Monitor) (W : WellFormed m) where
       ∙ object-there q m W (target-below q r))
 
 -- reply 0 or 1 to any bytes that say a request, on any reached monitor: the state left has its effect
-pub reply-effect : (m : Monitor) → Reached m → (g : List ℕ) (q : Request) → decode g ≡ Says q → reply g m < 2 → Effect q (respond g m .monitor)
+pub reply-effect : (m : Monitor) → Reached m → (g : List ℕ) (q : Request) → decode (m .profile) g ≡ Says q → reply g m < 2 → Effect q (respond g m .monitor)
 reply-effect m R g q e h =
     let same = respond-says g q m e in
     subst (λ (k : Response). Effect q (k .monitor)) (sym same)
-    (granted-effect m (sound-reached m R .formed) q (decode-range g q e) (reply-granted q m .0 (subst (λ (k : Response). number (k .decision) < 2) same h)))
+    (granted-effect m (sound-reached m R .formed) q (decode-range (m .profile) g q e) (reply-granted q m .0 (subst (λ (k : Response). number (k .decision) < 2) same h)))

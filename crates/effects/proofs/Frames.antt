@@ -237,14 +237,14 @@ step-life q m o =
 
 -- whatever the bytes and the monitor: a live object ends only by a delete of it
 pub live-kept : (m : Monitor) (g : List ℕ) (o : ℕ) → object m o .live ≡ true
-    → (object (respond g m .monitor) o .live ≡ true) ⊎ ((s : ℕ) × (decode g ≡ Says (Delete s o)))
+    → (object (respond g m .monitor) o .live ≡ true) ⊎ ((s : ℕ) × (decode (m .profile) g ≡ Says (Delete s o)))
 live-kept m g o live =
-    respond-all (λ (r : Response). (object (r .monitor) o .live ≡ true) ⊎ ((s : ℕ) × (decode g ≡ Says (Delete s o)))) g m (λ e. inl live)
+    respond-all (λ (r : Response). (object (r .monitor) o .live ≡ true) ⊎ ((s : ℕ) × (decode (m .profile) g ≡ Says (Delete s o)))) g m (λ e. inl live)
     (λ q d. elim (step-life q m o) [ stays e ↦ inl (e ∙ live) | begins s c e f ↦ inl f | ends s e f ↦ inr (s, d ∙ ap Says e) ])
 
 -- and one that is not live begins only by a create of it
 pub live-by-create : (m : Monitor) (g : List ℕ) (o : ℕ) → object m o .live ≡ false
-    → (object (respond g m .monitor) o .live ≡ false) ⊎ ((s : ℕ) × (c : Creation) × (decode g ≡ Says (Create s o c)))
+    → (object (respond g m .monitor) o .live ≡ false) ⊎ ((s : ℕ) × (c : Creation) × (decode (m .profile) g ≡ Says (Create s o c)))
 live-by-create m g o dead =
-    respond-all (λ (r : Response). (object (r .monitor) o .live ≡ false) ⊎ ((s : ℕ) × (c : Creation) × (decode g ≡ Says (Create s o c)))) g m (λ e. inl dead)
+    respond-all (λ (r : Response). (object (r .monitor) o .live ≡ false) ⊎ ((s : ℕ) × (c : Creation) × (decode (m .profile) g ≡ Says (Create s o c)))) g m (λ e. inl dead)
     (λ q d. elim (step-life q m o) [ stays e ↦ inl (e ∙ dead) | begins s c e f ↦ inr (s, c, d ∙ ap Says e) | ends s e f ↦ inl f ])

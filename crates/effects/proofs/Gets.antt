@@ -60,7 +60,7 @@ module _ (m : Monitor) (S : Sound m) (s o : ℕ) (x : Mode) (there : enrolled m 
 
   pub granted-secure : (checks (Get s o x) m ≡ Granted) ↔ Secure (withAccess m s o x)
   unfolding changed
-  granted-secure = (λ g. sound-afterwards (Get s o x) m (s-below, o-below) S g .secure, secure-granted m S s o x s-below o-below there live)
+  granted-secure = (λ g. sound-afterwards (Get s o x) m (s-below, o-below) (S .inside .subjects-inside s there, S .inside .objects-inside o live) S g .secure, secure-granted m S s o x s-below o-below there live)
 
   pub get-refused-exactly : (2 ≤ number (step (Get s o x) m .decision)) ↔ (Secure (withAccess m s o x) → ⊥)
   get-refused-exactly =

@@ -73,18 +73,18 @@ respond-rises g m o live =
 
 -- whatever the bytes and the monitor: the label of a live object is dominated by the next one, or the bytes say a delete of the object
 pub label-ends-by-delete : (m : Monitor) (g : List ℕ) (o : ℕ) → object m o .live ≡ true → object m o .label ≢ Absent
-    → Dominates (object (respond g m .monitor) o .label) (object m o .label) ⊎ ((s : ℕ) × (decode g ≡ Says (Delete s o)))
+    → Dominates (object (respond g m .monitor) o .label) (object m o .label) ⊎ ((s : ℕ) × (decode (m .profile) g ≡ Says (Delete s o)))
 unfolding Rises
 label-ends-by-delete m g o live there = kept (live-kept m g o live)
   where
-    kept : (object (respond g m .monitor) o .live ≡ true) ⊎ ((s : ℕ) × (decode g ≡ Says (Delete s o)))
-        → Dominates (object (respond g m .monitor) o .label) (object m o .label) ⊎ ((s : ℕ) × (decode g ≡ Says (Delete s o)))
+    kept : (object (respond g m .monitor) o .live ≡ true) ⊎ ((s : ℕ) × (decode (m .profile) g ≡ Says (Delete s o)))
+        → Dominates (object (respond g m .monitor) o .label) (object m o .label) ⊎ ((s : ℕ) × (decode (m .profile) g ≡ Says (Delete s o)))
     kept (inl stays) = inl (respond-rises g m o live stays there)
     kept (inr ended) = inr ended
 
 -- ---- what is never refused
 
-module _ (m : Monitor) (R : Reached m) (g : List ℕ) (o : ℕ) (l : Level) (says : decode g ≡ Says (ChangeLevel (object m o .owner) o l))
+module _ (m : Monitor) (R : Reached m) (g : List ℕ) (o : ℕ) (l : Level) (says : decode (m .profile) g ≡ Says (ChangeLevel (object m o .owner) o l))
     (live : object m o .live ≡ true) where
   -- the reply to the owner's change of level, where it is granted
   owner-reply : (was : Bool) → checks (ChangeLevel (object m o .owner) o l) m ≡ Granted → sameLabel (object m o .label) (Present l) ≡ was
