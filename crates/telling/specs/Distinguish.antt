@@ -1,9 +1,9 @@
 -- A list of at most four requests on which two states reply differently, empty where they are the same state.
 -- Assumes nothing.
 use Prim.Native.Nat.{ℕ, zero, suc}
-use mathlib.Core.Bool.{Bool, true, false, cond, not, _&&_, Bool·beq}
+use mathlib.Core.Bool.{Bool, true, false, cond, not, _||_, Bool·beq}
 use mathlib.Core.List.{List, [], _∷_}
-use lib.Dec.{eqb, ltb}
+use lib.Dec.{eqb, leb}
 use Rattle.model.specs.declared.Level.{Level}
 use Rattle.model.specs.declared.Label.{Label}
 use Rattle.model.specs.declared.Label.the-variants.{Absent, Present}
@@ -77,14 +77,10 @@ module _ (m n : Monitor) where
       orElse (byLife o) (orElse (byOwner o) (orElse (byLabel o)
       (orElse (search subjectCount (λ s. searchModes (byRight o s))) (search subjectCount (λ s. searchModes (byAccess o s))))))
 
--- object k is in use and not live
-abbrev pub isFree : Monitor → ℕ → Bool
-isFree m k = ltb k (m .profile .objects) && not (object m k .live)
-
--- the last object below k that is so, 0 where none is
+-- the last object below k that is neither live nor outside the profile (change request §8), 0 where there is none
 unfoldable pub freeBelow : ℕ → Monitor → ℕ
 freeBelow zero m = 0
-freeBelow (suc k) m = cond (isFree m k) k (freeBelow k m)
+freeBelow (suc k) m = cond (object m k .live || leb (m .profile .objects) k) (freeBelow k m) k
 
 -- the owner makes room where none is; then the subject creates an object, labels it and asks to read it
 unfoldable pub readAt : Monitor → ℕ → ℕ → Level → List Request
