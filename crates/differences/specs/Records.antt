@@ -10,14 +10,15 @@ use Rattle.model.specs.declared.Label.{Label}
 use Rattle.model.specs.declared.Label.the-variants.{Absent, Present}
 use Rattle.model.specs.declared.Subject.{Subject}
 use Rattle.model.specs.declared.Object.{Object}
+use Rattle.model.specs.declared.Monitor.{Monitor}
 use Rattle.model.specs.declared.Mode.{Mode}
 use Rattle.model.specs.declared.Mode.the-variants.{Read}
 use Rattle.model.specs.declared.Request.{Request}
 use Rattle.model.specs.declared.Request.the-variants.{Get, Release, Delete}
 use Rattle.model.specs.Levels.{compare, present}
 use Rattle.model.specs.Modes.{has}
-use Rattle.model.specs.State.{subjectCount, objectCount, clearanceAt, objectAt}
-use Rattle.telling.specs.Distinguish.{byComparison, orElse, search, searchModes, when, differ, toLabel}
+use Rattle.model.specs.State.{subjectCount, objectCount, clearanceAt, objectAt, object}
+use Rattle.telling.specs.Distinguish.{byComparison, orElse, search, searchModes, when, differ, toLabel, freeBelow}
 use Rattle.differences.specs.declared.sequence.Place.{Place}
 use Rattle.differences.specs.Sequences.{readingAt, requestsOf}
 
@@ -68,18 +69,13 @@ enrolmentApart s a b = when (differ (present a) (present b)) (Delete s 0)
 unfoldable pub enrolmentsApart : List Subject → List Subject → List Request
 enrolmentsApart a b = search subjectCount (λ s. enrolmentApart s (clearanceAt a s) (clearanceAt b s))
 
--- the last object below k that is not live, 0 where all are
-unfoldable pub freeOf : ℕ → List Object → ℕ
-freeOf zero l = 0
-freeOf (suc k) l = cond (objectAt l k .live) (freeOf k l) k
-
--- where an object is created: in the last free place, or in that of object 0
-unfoldable pub freePlace : List Object → Place
-freePlace l =
+-- where an object is created: in the last free place that is in use, or in that of object 0
+unfoldable pub freePlace : Monitor → Place
+freePlace m =
     record {
-      live = objectAt l (freeOf objectCount l) .live;
-      owner = objectAt l (freeOf objectCount l) .owner;
-      object = freeOf objectCount l;
+      live = object m (freeBelow objectCount m) .live;
+      owner = object m (freeBelow objectCount m) .owner;
+      object = freeBelow objectCount m;
     }
 
 -- two levels: s reads at the one that the other does not dominate

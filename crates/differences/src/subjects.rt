@@ -1,7 +1,7 @@
 // The clearances of the subjects in two states: who is enrolled, and a level that one clearance dominates and the other does not.
 ghost use mathlib.Core.Path.{_≡_};
 ghost use mathlib.Core.Bool.{cond};
-ghost use Rattle.unit.specs.Rows.{rowCount, subjectsIn, objectsIn};
+ghost use Rattle.unit.specs.Rows.{rowCount, subjectsIn, stateIn};
 ghost use Rattle.differences.specs.Sequences.{requestsOf};
 ghost use Rattle.differences.specs.Records.{enrolmentApart, enrolmentsApart, freePlace, levelApart, clearanceApart, clearancesApart};
 use crate::sequence::Place;
@@ -20,6 +20,7 @@ use model::Request;
 use unit::clearance_of;
 use unit::is_live;
 use unit::owner_of;
+use unit::profile_of;
 
 // Enrolled in one only: any request by that subject, 3 or not.
 fn enrolment_apart(s: u8, a: Label, b: Label) -> Sequence
@@ -48,21 +49,23 @@ pub fn enrolments_apart(a: &[[u8; 16]], b: &[[u8; 16]]) -> Sequence
 }
 
 // The last free object, one object further on.
-fn last_free(live: bool, free: usize, o: usize) -> usize
-    ensures { λ r. ⌜ r ≡ cond live free o ⌝ }
+fn last_free(taken: bool, free: usize, o: usize) -> usize
+    ensures { λ r. ⌜ r ≡ cond taken free o ⌝ }
 {
-    if live { free } else { o }
+    if taken { free } else { o }
 }
 
-// The last object that is not live; where all are, object 0, which its owner can delete.
+// The last object that is in use and not live; where there is none, object 0, which its owner can delete.
 pub fn free_place(unit: &[[u8; 16]]) -> Place
     requires { do ⌜ (← ⟦unit.len()⟧) ≡ rowCount ⌝ }
-    ensures { λ r. ⌜ r ≡ freePlace (objectsIn (now (unit .entry))) ⌝ }
+    ensures { λ r. ⌜ r ≡ freePlace (stateIn (now (unit .entry))) ⌝ }
 {
+    let profile = profile_of(unit);
     let mut free: usize = 0;
     let mut o: usize = 0;
     while o < Monitor::OBJECTS {
-        free = last_free(is_live(unit, o as u8), free, o);
+        let taken = is_live(unit, o as u8) | (profile.objects <= o as u8);
+        free = last_free(taken, free, o);
         o += 1;
     }
     let object = free as u8;

@@ -1,6 +1,6 @@
 -- The definition `distinguish` from the parts that the code computes.
 -- Assumes nothing.
-use Prim.Native.Nat.{ℕ, zero, suc}
+use Prim.Native.Nat.{ℕ}
 use mathlib.Core.Path.{_≡_, refl, sym, ap, ap₂, _∙_}
 use mathlib.Core.Bool.{Bool, true, false, cond}
 use mathlib.Core.List.{List}
@@ -13,7 +13,7 @@ use Rattle.model.specs.State.{clearance, object}
 use Rattle.telling.specs.Distinguish.{orElse, search, searchModes, byEnrolment, byLife, byOwner, byLabel, byRight, byAccess, byObject, freeBelow, readAt, toClearance, byClearance, distinguish}
 use Rattle.differences.specs.declared.sequence.Sequence.{Sequence}
 use Rattle.differences.specs.Sequences.{found, readingAt, requestsOf}
-use Rattle.differences.specs.Records.{lifeApart, ownerApart, modeApart, setApart, rowApart, objectApart, objectsApart, enrolmentApart, enrolmentsApart, freeOf, freePlace, levelApart, clearanceApart, clearancesApart}
+use Rattle.differences.specs.Records.{lifeApart, ownerApart, modeApart, setApart, rowApart, objectApart, objectsApart, enrolmentApart, enrolmentsApart, freePlace, levelApart, clearanceApart, clearancesApart}
 use Rattle.differences.proofs.Searching.{or-found, or-nothing, search-same}
 
 module _ (m n : Monitor) where
@@ -29,22 +29,16 @@ module _ (m n : Monitor) where
   unfolding byObject objectApart byLife byOwner byLabel lifeApart ownerApart
   object-part o = rw (rights-part o, held-part o)
 
-free-same : (k : ℕ) (m : Monitor) → freeBelow k m ≡ freeOf k (m .objects)
-unfolding freeBelow freeOf
-free-same zero m = refl
-free-same (suc k) m = ap (λ (i : ℕ). cond (object m k .live) i k) (free-same k m)
-
 requests-either : (b : Bool) (x y : Sequence) → requestsOf (cond b x y) ≡ cond b (requestsOf x) (requestsOf y)
 requests-either true x y = refl
 requests-either false x y = refl
 
-reading-part : (m : Monitor) (s : ℕ) (l : Level) → readAt m (freeBelow 64 m) s l ≡ requestsOf (readingAt (freePlace (m .objects)) s l)
+reading-part : (m : Monitor) (s : ℕ) (l : Level) → readAt m (freeBelow 64 m) s l ≡ requestsOf (readingAt (freePlace m) s l)
 unfolding readAt readingAt freePlace
 reading-part m s l =
-    ap (λ (o : ℕ). readAt m o s l) (free-same 64 m)
-    ∙ sym (requests-either (object m (freeOf 64 (m .objects)) .live) _ _)
+    sym (requests-either (object m (freeBelow 64 m) .live) _ _)
 
-clearance-part : (m : Monitor) (s : ℕ) (a b : Label) → toClearance m s a b ≡ clearanceApart (freePlace (m .objects)) s a b
+clearance-part : (m : Monitor) (s : ℕ) (a b : Label) → toClearance m s a b ≡ clearanceApart (freePlace m) s a b
 unfolding toClearance clearanceApart levelApart
 clearance-part m s Absent b = refl
 clearance-part m s (Present a) Absent = refl
@@ -52,7 +46,7 @@ clearance-part m s (Present a) (Present b) = rw (reading-part m s a, reading-par
 
 -- what is looked at after the objects, and after the enrolments
 abbrev pub afterObjects : Monitor → Monitor → List Request
-afterObjects m n = clearancesApart (freePlace (m .objects)) (m .subjects) (n .subjects)
+afterObjects m n = clearancesApart (freePlace m) (m .subjects) (n .subjects)
 
 abbrev pub afterEnrolment : Monitor → Monitor → List Request
 afterEnrolment m n = orElse (objectsApart (m .objects) (n .objects)) (afterObjects m n)
@@ -62,7 +56,7 @@ unfolding distinguish enrolmentsApart enrolmentApart byEnrolment objectsApart cl
 distinguish-parts m n =
     ap₂ (λ (a b : List Request). orElse (search 16 (byEnrolment m n)) (orElse a b))
     (search-same 64 (byObject m n) (λ o. objectApart o (object m o) (object n o)) (object-part m n))
-    (search-same 16 (byClearance m n) (λ s. clearanceApart (freePlace (m .objects)) s (clearance m s) (clearance n s)) (λ s. clearance-part m s (clearance m s) (clearance n s)))
+    (search-same 16 (byClearance m n) (λ s. clearanceApart (freePlace m) s (clearance m s) (clearance n s)) (λ s. clearance-part m s (clearance m s) (clearance n s)))
 
 -- the first part that has a request is the whole list
 module _ (m n : Monitor) (q : Sequence) (e : requestsOf q ≡ enrolmentsApart (m .subjects) (n .subjects)) where

@@ -1,7 +1,7 @@
 // The table reader and the image reader: a unit begun from bytes of any length and content; a refusal leaves the empty monitor in it.
 ghost use mathlib.Core.Path.{_≡_};
 ghost use mathlib.Core.Bool.{cond};
-ghost use Rattle.model.specs.State.{fresh, emptyMonitor};
+ghost use Rattle.model.specs.State.{widest, fresh, emptyMonitor};
 ghost use Rattle.model.specs.Decisions.{refuses};
 ghost use Rattle.model.specs.Reading.{readTable, readImage};
 ghost use Rattle.unit.specs.Rows.{rowCount, stateIn};
@@ -91,4 +91,20 @@ pub fn open(unit: &mut [[u8; 16]], profile: Profile, image: &[u8]) -> Decision
     let formed = read_objects(unit, &image[Monitor::TABLE_BYTES..]);
     let later = state_checks(unit);
     settle(unit, table.formed & formed, later)
+}
+
+// Begins from an enrolment table under the widest profile.
+pub fn start_widest(unit: &mut [[u8; 16]], table: &[u8]) -> Decision
+    requires { do ⌜ (← ⟦unit.len()⟧) ≡ rowCount ⌝ }
+    ensures { λ r. ⌜ (r ≡ readTable widest (now (table .entry)) .decision) × (now (unit .exit) ≡ unitOf (readTable widest (now (table .entry)) .monitor)) ⌝ }
+{
+    start(unit, widest(), table)
+}
+
+// Begins from an image under the widest profile.
+pub fn open_widest(unit: &mut [[u8; 16]], image: &[u8]) -> Decision
+    requires { do ⌜ (← ⟦unit.len()⟧) ≡ rowCount ⌝ }
+    ensures { λ r. ⌜ (r ≡ readImage widest (now (image .entry)) .decision) × (now (unit .exit) ≡ unitOf (readImage widest (now (image .entry)) .monitor)) ⌝ }
+{
+    open(unit, widest(), image)
 }

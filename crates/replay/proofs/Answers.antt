@@ -14,6 +14,7 @@ use Rattle.model.specs.declared.Decision.the-variants.{Granted, ShortBuffer}
 use Rattle.model.specs.declared.Response.{Response}
 use Rattle.model.specs.Decisions.{refuses}
 use Rattle.model.specs.Runs.{replies}
+use Rattle.model.specs.State.{widest}
 use Rattle.model.specs.Reading.{readTable}
 use Rattle.model.specs.Program.{pieces, pieceCount}
 use Rattle.model.proofs.Tests.{cond-true, cond-false}
@@ -26,12 +27,12 @@ left : (table requests out : List ℕ) (d : Decision) → d ≡ replayAnswer tab
 unfolding replayed
 left table requests out d e r = sym (cond-true (refuses (replayAnswer table requests (length out))) _ _ (ap refuses (sym e) ∙ r))
 
-module _ (table requests out : List ℕ) (r : Response) (e : r ≡ readTable table) where
+module _ (table requests out : List ℕ) (r : Response) (e : r ≡ readTable widest table) where
   pub table-refused : refuses (r .decision) ≡ true → (r .decision ≡ replayAnswer table requests (length out)) × (out ≡ replayed table requests out)
   unfolding replayAnswer
   table-refused w =
       let d = ap (λ (k : Response). k .decision) e in
-      let p : r .decision ≡ replayAnswer table requests (length out) = d ∙ sym (cond-true (refuses (readTable table .decision)) _ _ (ap refuses (sym d) ∙ w)) in
+      let p : r .decision ≡ replayAnswer table requests (length out) = d ∙ sym (cond-true (refuses (readTable widest table .decision)) _ _ (ap refuses (sym d) ∙ w)) in
       (p, left table requests out (r .decision) p w)
 
   -- what is left where the table is accepted
@@ -39,7 +40,7 @@ module _ (table requests out : List ℕ) (r : Response) (e : r ≡ readTable tab
   unfolding replayAnswer
   accepted w b f =
       ap (λ k. cond k ShortBuffer Granted) (sym f)
-      ∙ sym (cond-false (refuses (readTable table .decision)) _ _ (ap (λ (k : Response). refuses (k .decision)) (sym e) ∙ w))
+      ∙ sym (cond-false (refuses (readTable widest table .decision)) _ _ (ap (λ (k : Response). refuses (k .decision)) (sym e) ∙ w))
 
   pub no-room : refuses (r .decision) ≡ false → (k : ℕ) → k ≡ pieceCount (length requests) → length out < k
       → (ShortBuffer ≡ replayAnswer table requests (length out)) × (out ≡ replayed table requests out)
@@ -56,6 +57,6 @@ module _ (table requests out : List ℕ) (r : Response) (e : r ≡ readTable tab
       let all : turns requests (length out) ≡ pieces requests = take-all (length out) (pieces requests) (omega (arith, h, p, length-pieces requests)) in (
         q,
         f ∙ ap₂ (λ ps (m : Response). replies ps (m .monitor) ++ drop (length ps) out) all e
-            ∙ ap (λ n. replies (pieces requests) (readTable table .monitor) ++ drop n out) (length-pieces requests)
+            ∙ ap (λ n. replies (pieces requests) (readTable widest table .monitor) ++ drop n out) (length-pieces requests)
             ∙ sym (cond-false (refuses (replayAnswer table requests (length out))) _ _ (ap refuses (sym q))),
       )

@@ -13,6 +13,7 @@ use Rattle.model.specs.declared.Response.{Response}
 use Rattle.model.specs.Decisions.{number, refuses}
 use Rattle.model.specs.Runs.{replies}
 use Rattle.model.specs.Layout.{tableSize}
+use Rattle.model.specs.State.{widest}
 use Rattle.model.specs.Reading.{readTable}
 use Rattle.model.specs.Program.{pieces, line, linesAfter, program, pieceCount}
 use Rattle.model.proofs.Tests.{cond-true, cond-false, le-or-lt}
@@ -42,9 +43,9 @@ module _ (input : List ℕ) (e : ℕ) (is : e ≡ min tableSize (length input)) 
       ap (take (l - e)) (drop-of-length-le input {i = e} (omega (arith, is))) ∙ none (l - e) ∙ sym (ap (take 24576) (drop-of-length-le input {i = tableSize} (omega arith)) ∙ none 24576))
       (le-or-lt tableSize (length input))
 
-  module _ (r : Response) (read : r ≡ readTable (take (e - 0) (drop 0 input))) where
-    read-is : r ≡ readTable (take tableSize input)
-    read-is = read ∙ ap readTable table-bytes
+  module _ (r : Response) (read : r ≡ readTable widest (take (e - 0) (drop 0 input))) where
+    read-is : r ≡ readTable widest (take tableSize input)
+    read-is = read ∙ ap (readTable widest) table-bytes
 
     -- a refused table: its number
     pub prints-refusal : refuses (r .decision) ≡ true → (n : ℕ) → n ≡ number (r .decision) → (zeros last : List ℕ) (k : ℕ) → last ≡ put zeros 0 (line n)
@@ -53,7 +54,7 @@ module _ (input : List ℕ) (e : ℕ) (is : e ≡ min tableSize (length input)) 
     prints-refusal w n p zeros last k f g =
         let q : line n ≡ program input =
         ap line (p ∙ ap (λ (x : Response). number (x .decision)) read-is)
-        ∙ sym (cond-true (refuses (readTable (take tableSize input) .decision)) _ _ (ap (λ (x : Response). refuses (x .decision)) (sym read-is) ∙ w)) in
+        ∙ sym (cond-true (refuses (readTable widest (take tableSize input) .decision)) _ _ (ap (λ (x : Response). refuses (x .decision)) (sym read-is) ∙ w)) in
         (f ∙ ap (put zeros 0) q, g ∙ (let z : 0 + length (line n) ≡ length (line n) = omega arith in z) ∙ ap length q, omega (arith, g, line-short n))
 
     -- else a line for each reply
@@ -75,5 +76,5 @@ module _ (input : List ℕ) (e : ℕ) (is : e ≡ min tableSize (length input)) 
         let q : join (map line (take c out)) ≡ program input =
         ap (λ x. join (map line x))
         (front ∙ ap₂ (λ y (x : Response). replies (pieces y) (x .monitor)) (request-bytes l p) read-is)
-        ∙ sym (cond-false (refuses (readTable (take tableSize input) .decision)) _ _ (ap (λ (x : Response). refuses (x .decision)) (sym read-is) ∙ w)) in
+        ∙ sym (cond-false (refuses (readTable widest (take tableSize input) .decision)) _ _ (ap (λ (x : Response). refuses (x .decision)) (sym read-is) ∙ w)) in
         (h ∙ ap (put zeros 0) q, j ∙ ap length q, omega (arith, j, room, lines-short (take c out), length-take c out))

@@ -1,4 +1,4 @@
-// A whole run from a table: one reply byte for each piece, or the lines that the program prints.
+// A whole run from a table under the widest profile: one reply byte for each piece, or the lines that the program prints.
 ghost use mathlib.Core.Path.{_≡_};
 ghost use mathlib.Core.List.{map};
 ghost use Prim.Native.Nat.{_+_, _*_, _≤_, _<_};
@@ -11,7 +11,7 @@ ghost use Rattle.model.specs.Program.{mostRequests, line, program};
 ghost use Rattle.replay.specs.Replay.{replayAnswer, replayed};
 use bits::smaller;
 use buffers::put_two;
-use image::start;
+use image::start_widest;
 use labels::number;
 use labels::refuses;
 use model::Decision;
@@ -25,7 +25,7 @@ pub fn replay(table: &[u8], requests: &[u8], out: &mut [u8]) -> Decision
     ensures { λ r. ⌜ (r ≡ replayAnswer (now (table .entry)) (now (requests .entry)) (length (now (out .entry)))) × (now (out .exit) ≡ replayed (now (table .entry)) (now (requests .entry)) (now (out .entry))) ⌝ }
 {
     let mut unit = [[0u8; 16]; ROWS];
-    let decision = start(&mut unit, table);
+    let decision = start_widest(&mut unit, table);
     if refuses(decision) {
         return decision;
     }
@@ -91,7 +91,7 @@ pub fn program(input: &[u8]) -> Printed
     let mut bytes = [0u8; 12288];
     let end = smaller(Monitor::TABLE_BYTES, input.len());
     let mut unit = [[0u8; 16]; ROWS];
-    let decision = start(&mut unit, &input[0..end]);
+    let decision = start_widest(&mut unit, &input[0..end]);
     if refuses(decision) {
         let len = put_line(&mut bytes, 0, number(decision));
         return Printed { bytes, len };

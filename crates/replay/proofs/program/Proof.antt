@@ -12,20 +12,20 @@ use Rattle.replay.proofs.program.Tie as tie
 smaller-requires : tie.Need-smaller-requires
 smaller-requires c κs = search needs
 
-slice-aggregate-start : tie.Need-slice-aggregate-start
-slice-aggregate-start c = search needs
+slice-aggregate-start-widest : tie.Need-slice-aggregate-start-widest
+slice-aggregate-start-widest c = search needs
 
-sub-start : tie.Need-sub-start
-sub-start c = search needs
+sub-start-widest : tie.Need-sub-start-widest
+sub-start-widest c = search needs
 
-part-start-start : tie.Need-part-start-start
-part-start-start c = search needs
+part-start-widest-start : tie.Need-part-start-widest-start
+part-start-widest-start c = search needs
 
-part-start-end : tie.Need-part-start-end
-part-start-end c = search needs
+part-start-widest-end : tie.Need-part-start-widest-end
+part-start-widest-end c = search needs
 
-start-requires : tie.Need-start-requires
-start-requires c κs = search needs
+start-widest-requires : tie.Need-start-widest-requires
+start-widest-requires c κs = search needs
 
 refuses-requires : tie.Need-refuses-requires
 refuses-requires c κs = search needs
@@ -40,7 +40,7 @@ put-line-requires : tie.Need-put-line-requires
 put-line-requires c κs = search needs
 
 returns : tie.Need-returns
-returns c = prints-refusal _ _ (c .before .before .before .before .before .before .before .before .before .before .smaller .ensures) _ (table-begun _ _ _ (c .before .before .before .before .before .before .before .start .ensures .0) (c .before .before .before .before .before .before .before .start .ensures .1)) (sym (c .before .before .before .before .before .refuses .ensures) ∙ c .before .before .before .before .if1 .taken) _ (c .before .before .number .ensures) _ _ _ (c .before .put-line .ensures .0) (c .before .put-line .ensures .1)
+returns c = prints-refusal _ _ (c .before .before .before .before .before .before .before .before .before .before .smaller .ensures) _ (table-begun _ _ _ _ (c .before .before .before .before .before .before .before .start-widest .ensures .0) (c .before .before .before .before .before .before .before .start-widest .ensures .1)) (sym (c .before .before .before .before .before .refuses .ensures) ∙ c .before .before .before .before .if1 .taken) _ (c .before .before .number .ensures) _ _ _ (c .before .put-line .ensures .0) (c .before .put-line .ensures .1)
 
 add-smaller : tie.Need-add-smaller
 add-smaller c = search needs
@@ -83,7 +83,7 @@ put-lines-requires c κs = search needs
 
 returns-2 : tie.Need-returns-2
 returns-2 c =
-    prints-replies _ _ (c .before .before .before .before .before .before .before .before .before .before .before .before .before .before .before .before .before .before .smaller .ensures) _ (table-begun _ _ _ (c .before .before .before .before .before .before .before .before .before .before .before .before .before .before .before .start .ensures .0) (c .before .before .before .before .before .before .before .before .before .before .before .before .before .before .before .start .ensures .1)) (sym (c .before .before .before .before .before .before .before .before .before .before .before .before .before .refuses .ensures) ∙ c .before .before .before .before .before .before .before .before .before .before .before .before .if1 .left) _ (c .before .before .before .before .before .before .before .before .before .before .before .smaller2 .ensures)
+    prints-replies _ _ (c .before .before .before .before .before .before .before .before .before .before .before .before .before .before .before .before .before .before .smaller .ensures) _ (table-begun _ _ _ _ (c .before .before .before .before .before .before .before .before .before .before .before .before .before .before .before .start-widest .ensures .0) (c .before .before .before .before .before .before .before .before .before .before .before .before .before .before .before .start-widest .ensures .1)) (sym (c .before .before .before .before .before .before .before .before .before .before .before .before .before .refuses .ensures) ∙ c .before .before .before .before .before .before .before .before .before .before .before .before .if1 .left) _ (c .before .before .before .before .before .before .before .before .before .before .before .smaller2 .ensures)
     (replicate {A = ℕ} 4096 0) _ (length-replicate {A = ℕ} 4096 0) (c .before .before .before .before .before .before .before .run .ensures .1) _ (c .before .before .before .before .piece-count .ensures) _ _ _ (c .before .put-lines .ensures .0) (c .before .put-lines .ensures .1)
 
 pub program-spec : {M : Type 1} → statement M
@@ -91,11 +91,11 @@ program-spec =
     tie.close
     (tie.spec
     smaller-requires
-    slice-aggregate-start
-    sub-start
-    part-start-start
-    part-start-end
-    start-requires
+    slice-aggregate-start-widest
+    sub-start-widest
+    part-start-widest-start
+    part-start-widest-end
+    start-widest-requires
     refuses-requires
     slice-aggregate-put-line
     number-requires
