@@ -6,10 +6,11 @@ use mathlib.Core.Path.{_≡_, refl, sym, ap, _∙_, subst}
 use mathlib.Core.Logic.{_≢_}
 use mathlib.Core.Bool.{true, false, not}
 use lib.ListN.{drop}
-use lib.Dec.{eqb}
+use lib.Dec.{eqb, lit<}
 use borrow.Author.Tests.{eq-eqb, eqb-true, leb-true}
 use Rattle.model.specs.declared.Level.{Level}
 use Rattle.model.specs.declared.Label.the-variants.{Present}
+use Rattle.model.specs.declared.Profile.{Profile}
 use Rattle.model.specs.declared.Monitor.{Monitor}
 use Rattle.model.specs.declared.Mode.{Mode}
 use Rattle.model.specs.declared.Mode.the-variants.{Read}
@@ -21,7 +22,6 @@ use Rattle.model.specs.Levels.{sameLabel}
 use Rattle.model.specs.Modes.{has}
 use Rattle.model.specs.State.{enrolled, object, rightsOf, heldBy, LabelFits}
 use Rattle.model.specs.Decisions.{number, refuses}
-use Rattle.model.specs.Requests.{InRange}
 use Rattle.model.specs.Rules.{checkList, target, already, checks, owns, step}
 use Rattle.model.proofs.Tests.{split, apart, pass, stop, distinct}
 use Rattle.model.proofs.Decisions.{number-inj}
@@ -33,6 +33,8 @@ use Rattle.invariants.proofs.Relabelling.{same-label-granted}
 use Rattle.invariants.specs.Sound.{Sound}
 use Rattle.invariants.proofs.Steps.{step-refused}
 use Rattle.invariants.proofs.Outcomes.{step-cases}
+use Rattle.equal_images.specs.Inputs.{Formed}
+use Rattle.equal_images.proofs.Under.{Under, subject-in, object-in, first-in, label-in}
 
 -- ---- replies that differ
 
@@ -67,40 +69,43 @@ release-granted m s o x e g = grants-release m s o x (record { there = e; live =
 
 -- ---- each difference of an object, from one state to the other
 
-module _ (m n : Monitor) (S : Sound m) (N : Sound n) where
-  pub tells-enrolment : (s : ℕ) → enrolled m s ≡ true → enrolled n s ≡ false → number (step (Delete s 0) m .decision) ≢ number (step (Delete s 0) n .decision)
+module _ (p : Profile) (m n : Monitor) (S : Under p m) (N : Under p n) where
+  pub tells-enrolment : (s : ℕ) → s < 16 → enrolled m s ≡ true → enrolled n s ≡ false
+      → Formed p (Delete s 0) × (number (step (Delete s 0) m .decision) ≢ number (step (Delete s 0) n .decision))
   unfolding checks
-  tells-enrolment s e g =
-      tells-refusal (Delete s 0) m n NotEnrolled refl (stop _ NotEnrolled _ g)
-      (λ w. never-answers NotEnrolled (distinct _ _ refl) (drop 1 (checkList (Delete s 0) m)) refl (sym (pass _ NotEnrolled _ e) ∙ w))
+  tells-enrolment s h e g = (
+    ((h, lit< tt), (subject-in p m S s e, first-in p m S)),
+    tells-refusal (Delete s 0) m n NotEnrolled refl (stop _ NotEnrolled _ g)
+        (λ w. never-answers NotEnrolled (distinct _ _ refl) (drop 1 (checkList (Delete s 0) m)) refl (sym (pass _ NotEnrolled _ e) ∙ w)),
+  )
 
   module _ (same : (s : ℕ) → s < 16 → enrolled m s ≡ enrolled n s) (o : ℕ) (o-below : o < 64) where
     there : (s : ℕ) → s < 16 → enrolled m s ≡ true → enrolled n s ≡ true
     there s h e = sym (same s h) ∙ e
 
     pub tells-life : object m o .live ≡ true → object n o .live ≡ false
-        → InRange (Release (object m o .owner) o Read) × (number (step (Release (object m o .owner) o Read) m .decision) ≢ number (step (Release (object m o .owner) o Read) n .decision))
+        → Formed p (Release (object m o .owner) o Read) × (number (step (Release (object m o .owner) o Read) m .decision) ≢ number (step (Release (object m o .owner) o Read) n .decision))
     unfolding checks
     tells-life a b =
-        let F = S .formed .objects-formed o in
+        let F = S .sound .formed .objects-formed o in
         let w = object m o .owner in
         let q = Release w o Read in (
-          (F .shape .owner-fits, o-below),
+          ((F .shape .owner-fits, o-below), (subject-in p m S w (F .owner-enrolled a), object-in p m S o a)),
           tells-refusal q m n NotLive refl (pass _ NotEnrolled _ (there w (F .shape .owner-fits) (F .owner-enrolled a)) ∙ stop _ NotLive _ b)
               (λ e. distinct _ _ refl (sym (release-granted m w o Read (F .owner-enrolled a) a) ∙ e)),
         )
 
     module _ (a : object m o .live ≡ true) (b : object n o .live ≡ true) where
       pub tells-owner : eqb (object m o .owner) (object n o .owner) ≡ false
-          → InRange (Delete (object m o .owner) o) × (number (step (Delete (object m o .owner) o) m .decision) ≢ number (step (Delete (object m o .owner) o) n .decision))
+          → Formed p (Delete (object m o .owner) o) × (number (step (Delete (object m o .owner) o) m .decision) ≢ number (step (Delete (object m o .owner) o) n .decision))
       unfolding checks
       tells-owner h =
-          let F = S .formed .objects-formed o in
+          let F = S .sound .formed .objects-formed o in
           let w = object m o .owner in (
-            (F .shape .owner-fits, o-below),
+            ((F .shape .owner-fits, o-below), (subject-in p m S w (F .owner-enrolled a), object-in p m S o a)),
             tells-refusal (Delete w o) m n NoRight refl
                 (pass _ NotEnrolled _ (there w (F .shape .owner-fits) (F .owner-enrolled a)) ∙ pass _ NotLive _ b ∙ stop _ NoRight _ (not-owned h))
-                (λ e. distinct _ _ refl (sym (delete-granted m S o a) ∙ e)),
+                (λ e. distinct _ _ refl (sym (delete-granted m (S .sound) o a) ∙ e)),
           )
         where
           not-owned : eqb (object m o .owner) (object n o .owner) ≡ false → owns (object m o .owner) (object n o) ≡ false
@@ -109,33 +114,33 @@ module _ (m n : Monitor) (S : Sound m) (N : Sound n) where
               (λ e. apart (eq-eqb (object m o .owner) (object n o .owner) (sym (eqb-true (object n o .owner) (object m o .owner) e))) h) (λ e. e)
 
       pub tells-label : (l : Level) → object m o .label ≡ Present l → sameLabel (object n o .label) (Present l) ≡ false
-          → InRange (ChangeLevel (object m o .owner) o l)
+          → Formed p (ChangeLevel (object m o .owner) o l)
           × (number (step (ChangeLevel (object m o .owner) o l) m .decision) ≢ number (step (ChangeLevel (object m o .owner) o l) n .decision))
       unfolding already
       tells-label l e h =
-          let F = S .formed .objects-formed o in (
-            (F .shape .owner-fits, o-below, subst LabelFits e (F .shape .label-fits)),
-            tells-already (ChangeLevel (object m o .owner) o l) m n (same-label-granted m S o l a e) (label-same _ _ e) h,
+          let F = S .sound .formed .objects-formed o in (
+            ((F .shape .owner-fits, o-below, subst LabelFits e (F .shape .label-fits)), (subject-in p m S (object m o .owner) (F .owner-enrolled a), object-in p m S o a, label-in p m S o l e)),
+            tells-already (ChangeLevel (object m o .owner) o l) m n (same-label-granted m (S .sound) o l a e) (label-same _ _ e) h,
           )
 
       pub tells-right : (s : ℕ) (x : Mode) → s < 16 → has x (rightsOf (object m o) s) ≡ true → has x (rightsOf (object n o) s) ≡ false
-          → InRange (Get s o x) × (number (step (Get s o x) m .decision) ≢ number (step (Get s o x) n .decision))
+          → Formed p (Get s o x) × (number (step (Get s o x) m .decision) ≢ number (step (Get s o x) n .decision))
       unfolding checks
       tells-right s x h e g =
-          let p : enrolled m s ≡ true =
-          split (enrolled m s) (λ w. w) (λ w. apart e (ap (has x) (S .formed .objects-formed o .absent-rights s w) ∙ has-none x)) in (
-            (h, o-below),
-            tells-refusal (Get s o x) m n NoRight refl (pass _ NotEnrolled _ (there s h p) ∙ pass _ NotLive _ b ∙ stop _ NoRight _ g)
-                (λ w. never-answers NoRight (distinct _ _ refl) (drop 3 (checkList (Get s o x) m)) refl
-                (sym (pass _ NotEnrolled _ p ∙ pass _ NotLive _ a ∙ pass _ NoRight _ e) ∙ w)),
+          let w : enrolled m s ≡ true =
+          split (enrolled m s) (λ v. v) (λ v. apart e (ap (has x) (S .sound .formed .objects-formed o .absent-rights s v) ∙ has-none x)) in (
+            ((h, o-below), (subject-in p m S s w, object-in p m S o a)),
+            tells-refusal (Get s o x) m n NoRight refl (pass _ NotEnrolled _ (there s h w) ∙ pass _ NotLive _ b ∙ stop _ NoRight _ g)
+                (λ v. never-answers NoRight (distinct _ _ refl) (drop 3 (checkList (Get s o x) m)) refl
+                (sym (pass _ NotEnrolled _ w ∙ pass _ NotLive _ a ∙ pass _ NoRight _ e) ∙ v)),
           )
 
       pub tells-access : (s : ℕ) (x : Mode) → s < 16 → has x (heldBy (object m o) s) ≡ true → has x (heldBy (object n o) s) ≡ false
-          → InRange (Release s o x) × (number (step (Release s o x) n .decision) ≢ number (step (Release s o x) m .decision))
+          → Formed p (Release s o x) × (number (step (Release s o x) n .decision) ≢ number (step (Release s o x) m .decision))
       unfolding already
       tells-access s x h e g =
-          let p : enrolled m s ≡ true =
-          split (enrolled m s) (λ w. w) (λ w. apart e (ap (has x) (S .formed .objects-formed o .absent-held s w) ∙ has-none x)) in (
-            (h, o-below),
-            tells-already (Release s o x) n m (release-granted n s o x (there s h p) b) (ap not g) (ap not e),
+          let w : enrolled m s ≡ true =
+          split (enrolled m s) (λ v. v) (λ v. apart e (ap (has x) (S .sound .formed .objects-formed o .absent-held s v) ∙ has-none x)) in (
+            ((h, o-below), (subject-in p m S s w, object-in p m S o a)),
+            tells-already (Release s o x) n m (release-granted n s o x (there s h w) b) (ap not g) (ap not e),
           )

@@ -8,6 +8,7 @@ use mathlib.Core.Logic.{_≢_, ⊎-elim}
 use mathlib.Core.Bool.{Bool, true, false}
 use mathlib.Core.List.{List, [], _∷_, map}
 use lib.ListN.{length, getD}
+use Rattle.model.specs.declared.Profile.{Profile}
 use Rattle.model.specs.declared.Monitor.{Monitor}
 use Rattle.model.specs.declared.Mode.{Mode}
 use Rattle.model.specs.declared.Mode.the-variants.{Read, Write, Append, Execute}
@@ -15,18 +16,18 @@ use Rattle.model.specs.declared.Request.{Request}
 use Rattle.model.specs.declared.Decoded.{Decoded}
 use Rattle.model.specs.declared.Response.{Response}
 use Rattle.model.specs.Decisions.{number}
-use Rattle.model.specs.Requests.{encode, InRange}
+use Rattle.model.specs.Requests.{encode, decode}
 use Rattle.model.specs.Rules.{step}
 use Rattle.model.specs.Runs.{carryOut, respond, replies}
 use Rattle.model.proofs.Tests.{clash}
 use Rattle.model.proofs.Requests.{encode-decode}
 use Rattle.telling.specs.Distinguish.{orElse, search, searchModes, when, differ}
-use Rattle.equal_images.specs.Inputs.{AllInRange}
+use Rattle.equal_images.specs.Inputs.{Formed, AllFormed}
 
--- the response to the bytes of a request in range
-pub respond-encode : (q : Request) (m : Monitor) → InRange q → respond (encode q) m ≡ step q m
+-- the response of a monitor of the profile to the bytes of a request that is well formed for it
+pub respond-encode : (p : Profile) (q : Request) (m : Monitor) → m .profile ≡ p → Formed p q → respond (encode q) m ≡ step q m
 unfolding respond
-respond-encode q m r = ap (λ (d : Decoded). carryOut d m) (encode-decode q r)
+respond-encode p q m e f = ap (λ (d : Decoded). carryOut d m) (ap (λ (k : Profile). decode k (encode q)) e ∙ encode-decode p q (f .0) (f .1))
 
 -- the replies to a list of requests differ at some place
 unfoldable pub Differs : List Request → Monitor → Monitor → Type 0
@@ -36,37 +37,42 @@ pub differs-sym : (qs : List Request) (m n : Monitor) → Differs qs m n → Dif
 unfolding Differs
 differs-sym qs m n d e = d (sym e)
 
--- at the first request
-pub differs-first : (q : Request) (qs : List Request) (m n : Monitor) → InRange q → number (step q m .decision) ≢ number (step q n .decision) → Differs (q ∷ qs) m n
-unfolding Differs replies
-differs-first q qs m n r h e =
-    h (ap (λ (k : Response). number (k .decision)) (sym (respond-encode q m r)) ∙ ap (λ (l : List ℕ). getD l 0 0) e ∙ ap (λ (k : Response). number (k .decision)) (respond-encode q n r))
+-- two monitors of one profile
+module _ (p : Profile) (m n : Monitor) (here : m .profile ≡ p) (there : n .profile ≡ p) (q : Request) (qs : List Request) (f : Formed p q) where
+  -- at the first request
+  pub differs-first : number (step q m .decision) ≢ number (step q n .decision) → Differs (q ∷ qs) m n
+  unfolding Differs replies
+  differs-first h e =
+      h
+      (ap (λ (k : Response). number (k .decision)) (sym (respond-encode p q m here f)) ∙ ap (λ (l : List ℕ). getD l 0 0) e
+      ∙ ap (λ (k : Response). number (k .decision)) (respond-encode p q n there f))
 
--- after it
-pub differs-later : (q : Request) (qs : List Request) (m n : Monitor) → InRange q → Differs qs (step q m .monitor) (step q n .monitor) → Differs (q ∷ qs) m n
-unfolding Differs replies
-differs-later q qs m n r h e =
-    h
-    (ap (λ (k : Response). replies (map encode qs) (k .monitor)) (sym (respond-encode q m r)) ∙ ap tail e ∙ ap (λ (k : Response). replies (map encode qs) (k .monitor)) (respond-encode q n r))
-  where
-    tail : List ℕ → List ℕ
-    tail [] = []
-    tail (x ∷ xs) = xs
+  -- after it
+  pub differs-later : Differs qs (step q m .monitor) (step q n .monitor) → Differs (q ∷ qs) m n
+  unfolding Differs replies
+  differs-later h e =
+      h
+      (ap (λ (k : Response). replies (map encode qs) (k .monitor)) (sym (respond-encode p q m here f)) ∙ ap tail e
+      ∙ ap (λ (k : Response). replies (map encode qs) (k .monitor)) (respond-encode p q n there f))
+    where
+      tail : List ℕ → List ℕ
+      tail [] = []
+      tail (x ∷ xs) = xs
 
 -- a list tells the two states apart, or it is empty and something is known
-module _ (m n : Monitor) where
+module _ (p : Profile) (m n : Monitor) where
   pub data Probe (qs : List Request) (known : Type 0) : Type 0 where
     alike : qs ≡ [] → known → Probe qs known
-    apart : AllInRange qs → length qs ≤ 4 → Differs qs m n → Probe qs known
+    apart : AllFormed p qs → length qs ≤ 4 → Differs qs m n → Probe qs known
 
   pub probe-map : {E F : Type 0} (qs : List Request) → (E → F) → Probe qs E → Probe qs F
-  probe-map qs f (alike p e) = alike p (f e)
+  probe-map qs f (alike o e) = alike o (f e)
   probe-map qs f (apart r l d) = apart r l d
 
   -- the second list is looked at where the first is empty
   pub probe-or : {E F : Type 0} (qs rs : List Request) → Probe qs E → (E → Probe rs F) → Probe (orElse qs rs) (E × F)
   unfolding orElse Differs replies
-  probe-or {E} {F} qs rs (alike p e) g = subst (λ (l : List Request). Probe (orElse l rs) (E × F)) (sym p) (probe-map rs (λ f. (e, f)) (g e))
+  probe-or {E} {F} qs rs (alike o e) g = subst (λ (l : List Request). Probe (orElse l rs) (E × F)) (sym o) (probe-map rs (λ f. (e, f)) (g e))
   probe-or [] rs (apart r l d) g = absurd (d refl)
   probe-or (q ∷ qs) rs (apart r l d) g = apart r l d
 
@@ -89,18 +95,19 @@ module _ (m n : Monitor) where
       each p Append = p .1 .1 .0
       each p Execute = p .1 .1 .1
 
-  -- one request, where a test passes
-  pub probe-when : {E : Type 0} (b : Bool) (q : Request) → (b ≡ false → E) → (b ≡ true → InRange q × (number (step q m .decision) ≢ number (step q n .decision)))
-      → Probe (when b q) E
+-- one request, where a test passes
+module _ (p : Profile) (m n : Monitor) (here : m .profile ≡ p) (there : n .profile ≡ p) where
+  pub probe-when : {E : Type 0} (b : Bool) (q : Request) → (b ≡ false → E) → (b ≡ true → Formed p q × (number (step q m .decision) ≢ number (step q n .decision)))
+      → Probe p m n (when b q) E
   unfolding when
-  probe-when true q f g = let p = g refl in apart (p .0, tt) (omega arith) (differs-first q [] m n (p .0) (p .1))
+  probe-when true q f g = let t = g refl in apart (t .0, tt) (omega arith) (differs-first p m n here there q [] (t .0) (t .1))
   probe-when false q f g = alike refl (f refl)
 
   -- a test of two that differs where one passes and the other does not
   pub probe-differ : (a b : Bool) (q : Request)
-      → (a ≡ true → b ≡ false → InRange q × (number (step q m .decision) ≢ number (step q n .decision)))
-      → (a ≡ false → b ≡ true → InRange q × (number (step q m .decision) ≢ number (step q n .decision)))
-      → Probe (when (differ a b) q) (a ≡ b)
+      → (a ≡ true → b ≡ false → Formed p q × (number (step q m .decision) ≢ number (step q n .decision)))
+      → (a ≡ false → b ≡ true → Formed p q × (number (step q m .decision) ≢ number (step q n .decision)))
+      → Probe p m n (when (differ a b) q) (a ≡ b)
   probe-differ true true q f g = probe-when _ q (λ e. refl) (λ e. clash (sym e))
   probe-differ true false q f g = probe-when _ q (λ e. clash e) (λ e. f refl refl)
   probe-differ false true q f g = probe-when _ q (λ e. clash e) (λ e. g refl refl)

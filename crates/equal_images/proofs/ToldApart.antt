@@ -1,4 +1,4 @@
--- Two accepted images: the requests that `distinguish` gives for their monitors are none exactly where the images are equal.
+-- Two images accepted under one profile: the requests that `distinguish` gives for their monitors are none exactly where the images are equal.
 -- Assumes nothing.
 use Prim.Native.Nat.{ℕ, zero, suc, _≤_}
 use native.Mathlib.Omega.{arith}
@@ -11,6 +11,7 @@ use Rattle.bits.specs.Bits.{Bytes}
 use Rattle.model.specs.declared.Level.{Level}
 use Rattle.model.specs.declared.Label.{Label}
 use Rattle.model.specs.declared.Label.the-variants.{Absent, Present}
+use Rattle.model.specs.declared.Profile.{Profile}
 use Rattle.model.specs.declared.Monitor.{Monitor}
 use Rattle.model.specs.declared.Mode.{Mode}
 use Rattle.model.specs.declared.Request.{Request}
@@ -26,7 +27,7 @@ use Rattle.model.proofs.Tests.{cond-all, cond-false}
 use Rattle.telling.specs.Distinguish.{orElse, search, searchModes, when, byEnrolment, byLife, byOwner, toLabel, byLabel, byRight, byAccess, byObject, readAt, toClearance, byClearance, distinguish}
 use Rattle.equal_images.proofs.Answers.{comparison-all}
 use Rattle.images.proofs.Trips.{image-bytes-back}
-use Rattle.images.proofs.Reached.{sound-begun}
+use Rattle.images.proofs.Reached.{sound-begun, begun-profile}
 use Rattle.equal_images.proofs.Demand3.{distinguishes, distinguishes-not}
 
 -- ---- never more than four requests, also for monitor records that no run reaches
@@ -87,24 +88,24 @@ at-most-four m n =
 -- ---- accepted images
 
 -- the monitor of an accepted image is written as that image
-pub written-back : (b : List ℕ) → Bytes b → Accepted (image b) → imageOf (readImage b .monitor) ≡ b
+pub written-back : (p : Profile) (b : List ℕ) → Bytes b → Accepted (image p b) → imageOf (readImage p b .monitor) ≡ b
 unfolding readImage begin
-written-back b hb e = ap imageOf (cond-false (refuses (imageChecks b)) emptyMonitor (monitorFrom b) (ap refuses e)) ∙ image-bytes-back b hb e
+written-back p b hb e = ap imageOf (cond-false (refuses (imageChecks p b)) emptyMonitor (monitorFrom p b) (ap refuses e)) ∙ image-bytes-back p b hb e
 
-module _ (a b : List ℕ) (A : Accepted (image a)) (B : Accepted (image b)) where
-  pub equal-images-told : a ≡ b → distinguish (readImage a .monitor) (readImage b .monitor) ≡ []
-  equal-images-told e = distinguishes-not _ _ (sound-begun (image a) A) (sound-begun (image b) B) (ap (λ (c : List ℕ). readImage c .monitor) e)
+module _ (p : Profile) (a b : List ℕ) (A : Accepted (image p a)) (B : Accepted (image p b)) where
+  pub equal-images-told : a ≡ b → distinguish (readImage p a .monitor) (readImage p b .monitor) ≡ []
+  equal-images-told e = distinguishes-not _ _ (sound-begun (image p a) A) (sound-begun (image p b) B) (ap (λ (c : List ℕ). readImage p c .monitor) e)
 
   pub different-images-told : Bytes a → Bytes b → a ≢ b
-      → (distinguish (readImage a .monitor) (readImage b .monitor) ≢ [])
-      × (length (distinguish (readImage a .monitor) (readImage b .monitor)) ≤ 4)
-      × (replies (map encode (distinguish (readImage a .monitor) (readImage b .monitor))) (readImage a .monitor)
-      ≢ replies (map encode (distinguish (readImage a .monitor) (readImage b .monitor))) (readImage b .monitor))
+      → (distinguish (readImage p a .monitor) (readImage p b .monitor) ≢ [])
+      × (length (distinguish (readImage p a .monitor) (readImage p b .monitor)) ≤ 4)
+      × (replies (map encode (distinguish (readImage p a .monitor) (readImage p b .monitor))) (readImage p a .monitor)
+      ≢ replies (map encode (distinguish (readImage p a .monitor) (readImage p b .monitor))) (readImage p b .monitor))
   unfolding replies
   different-images-told ha hb h =
-      let m = readImage a .monitor in
-      let n = readImage b .monitor in
-      let d = distinguishes m n (sound-begun (image a) A) (sound-begun (image b) B) (λ e. h (sym (written-back a ha A) ∙ ap imageOf e ∙ written-back b hb B)) in (
+      let m = readImage p a .monitor in
+      let n = readImage p b .monitor in
+      let d = distinguishes m n (sound-begun (image p a) A) (sound-begun (image p b) B) (begun-profile (image p a) A ∙ sym (begun-profile (image p b) B)) (λ e. h (sym (written-back p a ha A) ∙ ap imageOf e ∙ written-back p b hb B)) in (
         λ e. d .2 (ap (λ (qs : List Request). replies (map encode qs) m) e ∙ sym (ap (λ (qs : List Request). replies (map encode qs) n) e)),
         d .1,
         d .2,

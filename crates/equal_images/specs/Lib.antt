@@ -1,2 +1,2 @@
--- Lists of requests in range.
+-- Lists of requests that are well formed for a monitor of a profile.
 pub mod Inputs

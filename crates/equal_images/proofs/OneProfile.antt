@@ -1,0 +1,80 @@
+-- Why image equality is claimed "between monitors of one profile" (change request §8): equal images under two profiles that reply differently. And
+-- what tells two states apart under a profile with one subject and one object. All by computation from the bytes.
+-- Assumes nothing.
+use Prim.Native.Nat.{ℕ}
+use mathlib.Core.Path.{_≡_, refl, ap₂}
+use mathlib.Core.Bool.{false}
+use mathlib.Core.List.{List, [], _∷_, _++_, map}
+use lib.ListN.{replicate}
+use Rattle.bits.specs.Bits.{odd, toBits, fromBits, bytesToBits, bitsToBytes, field, cut, allZero}
+use Rattle.model.specs.declared.Level.{Level}
+use Rattle.model.specs.declared.Subject.{Subject}
+use Rattle.model.specs.declared.Object.{Object}
+use Rattle.model.specs.declared.Profile.{Profile}
+use Rattle.model.specs.declared.Monitor.{Monitor}
+use Rattle.model.specs.declared.Mode.the-variants.{Read}
+use Rattle.model.specs.declared.Request.{Request}
+use Rattle.model.specs.declared.Request.the-variants.{Get, Create, Delete, ChangeLevel}
+use Rattle.model.specs.Tests.{implies, unless}
+use Rattle.model.specs.Levels.{compare, levelDominates, dominates, sameLabel}
+use Rattle.model.specs.Modes.{has, add}
+use Rattle.model.specs.Profiles.{profileFits, labelInside, absentBeyond, levelsInside}
+use Rattle.model.specs.Requests.{fields, modeAllowed, unusedZero, fieldsFormed, within, wellFormed, request, creation, decodeFields, decode, pack, encode}
+use Rattle.model.specs.Rules.{simpleAll, starPair, starFrom, starFor, starAll, notLowered, changed, already, checks, answer, step}
+use Rattle.model.specs.Runs.{respond, after, replies}
+use Rattle.model.specs.Layout.{imageSize, tableBits, objectsBits, imageBits, imageOf}
+use Rattle.model.specs.Reading.{labelFrom, labelForm, tableFrom, tableForm, tableChecks, begin, readTable}
+use Rattle.model.specs.Beginnings.{table, Accepted, left}
+use Rattle.telling.specs.Distinguish.{orElse, search, when, byEnrolment, byLife, byOwner, toLabel, byLabel, byRight, byAccess, byObject, freeBelow, readAt, toClearance, byClearance, distinguish}
+
+abbrev level : ℕ → Level
+level class = record { class = class; needs = 0 }
+
+-- a site with one subject, so many objects, and no need in use
+abbrev site : ℕ → ℕ → Profile
+site objects class = record { subjects = 1; objects = objects; highest = level class }
+
+-- tables with subject 0 alone, of class 0 and of class 1
+pub low : List ℕ
+low = 0x80 ∷ replicate 41 0
+
+pub high : List ℕ
+high = 0x88 ∷ replicate 41 0
+
+abbrev begunLow : Profile → List Request → Monitor
+begunLow p qs = left (table p low) (map encode qs)
+
+-- the image holds the subjects and the objects, and not the profile
+image-parts : (m n : Monitor) → m .subjects ≡ n .subjects → m .objects ≡ n .objects → imageOf m ≡ imageOf n
+unfolding imageOf imageBits
+image-parts m n subjects objects = ap₂ (λ (a : List Subject) (b : List Object). bitsToBytes imageSize (tableBits a ++ objectsBits b)) subjects objects
+
+-- one object in use, and two: get r of object 1 draws 2 from the one and 4 from the other
+pub objects-in-use : Accepted (table (site 1 0) low) × Accepted (table (site 2 0) low)
+    × (imageOf (begunLow (site 1 0) []) ≡ imageOf (begunLow (site 2 0) []))
+    × (replies (map encode (Get 0 1 Read ∷ [])) (begunLow (site 1 0) []) ≡ 2 ∷ [])
+    × (replies (map encode (Get 0 1 Read ∷ [])) (begunLow (site 2 0) []) ≡ 4 ∷ [])
+unfolding low bitsToBytes pack tableFrom tableForm labelForm labelFrom tableChecks profileFits absentBeyond levelsInside labelInside begin readTable allZero bytesToBits toBits odd cut fromBits field decode decodeFields fields wellFormed fieldsFormed within modeAllowed unusedZero request respond step replies after checks already changed starAll starFor starFrom starPair implies unless answer simpleAll has add notLowered sameLabel dominates levelDominates compare
+objects-in-use = (refl, refl, image-parts _ _ refl refl, refl, refl)
+
+-- highest class 0, and 1: after a create, a change of level to class 1 draws 2 from the one and 0 from the other
+pub class-in-use : Accepted (table (site 1 0) low) × Accepted (table (site 1 1) low)
+    × (imageOf (begunLow (site 1 0) (Create 0 0 (creation false) ∷ [])) ≡ imageOf (begunLow (site 1 1) (Create 0 0 (creation false) ∷ [])))
+    × (replies (map encode (ChangeLevel 0 0 (level 1) ∷ [])) (begunLow (site 1 0) (Create 0 0 (creation false) ∷ [])) ≡ 2 ∷ [])
+    × (replies (map encode (ChangeLevel 0 0 (level 1) ∷ [])) (begunLow (site 1 1) (Create 0 0 (creation false) ∷ [])) ≡ 0 ∷ [])
+unfolding low bitsToBytes pack tableFrom tableForm labelForm labelFrom tableChecks profileFits absentBeyond levelsInside labelInside begin readTable allZero bytesToBits toBits odd cut fromBits field decode decodeFields fields wellFormed fieldsFormed within modeAllowed unusedZero request respond step replies after checks already changed starAll starFor starFrom starPair implies unless answer simpleAll has add notLowered sameLabel dominates levelDominates compare
+class-in-use = (refl, refl, image-parts _ _ refl refl, refl, refl)
+
+-- what subject 0 is asked in the only slot
+abbrev reading : List Request
+reading = Create 0 0 (creation false) ∷ ChangeLevel 0 0 (level 1) ∷ Get 0 0 Read ∷ []
+
+-- one subject and one object, and two clearances: three requests where the only slot is free, and four where it is live
+pub told-in-one-slot :
+    (distinguish (left (table (site 1 1) low) []) (left (table (site 1 1) high) []) ≡ reading)
+    × (distinguish (left (table (site 1 1) low) (encode (Create 0 0 (creation false)) ∷ [])) (left (table (site 1 1) high) (encode (Create 0 0 (creation false)) ∷ []))
+    ≡ Delete 0 0 ∷ reading)
+    × (replies (map encode reading) (left (table (site 1 1) low) []) ≡ 0 ∷ 0 ∷ 8 ∷ [])
+    × (replies (map encode reading) (left (table (site 1 1) high) []) ≡ 0 ∷ 0 ∷ 0 ∷ [])
+unfolding low high orElse search when byEnrolment byLife byOwner toLabel byLabel byRight byAccess byObject freeBelow readAt toClearance byClearance distinguish bitsToBytes pack tableFrom tableForm labelForm labelFrom tableChecks profileFits absentBeyond levelsInside labelInside begin readTable allZero bytesToBits toBits odd cut fromBits field decode decodeFields fields wellFormed fieldsFormed within modeAllowed unusedZero request respond step replies after checks already changed starAll starFor starFrom starPair implies unless answer simpleAll has add notLowered sameLabel dominates levelDominates compare
+told-in-one-slot = (refl, refl, refl, refl)
