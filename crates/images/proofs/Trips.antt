@@ -105,15 +105,18 @@ module _ (m : Monitor) (S : Sound m) where
   object-records : cut objectCount objectWidth (bytesToBits (drop tableSize (imageOf m))) ≡ map objectBits (m .objects)
   object-records = ap (cut objectCount objectWidth) object-part ∙ cut-join objectBits objectWidth noObject objectCount (m .objects) (S .formed .objects-length) each-object
 
-  -- reading what was written gives the monitor, under its profile
-  pub image-read-back : monitorFrom (m .profile) (imageOf m) ≡ m
+  -- reading what was written gives the subjects and the objects, whatever the profile, and so the monitor under its own
+  pub image-read-under : (p : Profile) → monitorFrom p (imageOf m) ≡ record { profile = p; subjects = m .subjects; objects = m .objects }
   unfolding monitorFrom objectsFrom
-  image-read-back =
+  image-read-under p =
       let subs = subjects-back (m .subjects) table-fits (take tableSize (imageOf m)) table-part in
       let objs : map objectFrom (cut objectCount objectWidth (bytesToBits (drop tableSize (imageOf m)))) ≡ m .objects =
       ap (map objectFrom) object-records
       ∙ map-back objectBits objectFrom noObject (m .objects) (λ i h. object-read (m .subjects) (object m i) (S .formed .objects-formed i)) in
-      monitor-ext (monitorFrom (m .profile) (imageOf m)) m refl subs objs
+      monitor-ext (monitorFrom p (imageOf m)) (record { profile = p; subjects = m .subjects; objects = m .objects }) refl subs objs
+
+  pub image-read-back : monitorFrom (m .profile) (imageOf m) ≡ m
+  image-read-back = image-read-under (m .profile)
 
   image-form : imageForm (imageOf m) ≡ true
   unfolding imageForm objectsForm
@@ -122,12 +125,19 @@ module _ (m : Monitor) (S : Sound m) where
       (ap (allOf objectForm) object-records
       ∙ all-map-at objectBits objectForm noObject (m .objects) (λ i. object-form (m .subjects) (object m i) (S .formed .objects-formed i)))
 
-  -- and it is accepted
+  -- it has its length and its form, and the other checks are those of what it says
+  pub image-checks-under : (p : Profile) (n : Monitor) → record { profile = p; subjects = m .subjects; objects = m .objects } ≡ n
+      → imageChecks p (imageOf m) ≡ firstFailing (beginningList true true n (stateList n))
+  unfolding imageChecks
+  image-checks-under p n e =
+      ap₂ (λ (l f : Bool). firstFailing (beginningList l f (monitorFrom p (imageOf m)) (stateList (monitorFrom p (imageOf m)))))
+      (eq-eqb (length (imageOf m)) imageSize size) image-form
+      ∙ ap (λ (k : Monitor). firstFailing (beginningList true true k (stateList k))) (image-read-under p ∙ e)
+
+  -- so that it is accepted under the profile of its monitor
   pub image-accepted : imageChecks (m .profile) (imageOf m) ≡ Granted
-  unfolding imageChecks stateChecks
-  image-accepted =
-      ap (λ (k : Monitor). firstFailing (beginningList (eqb (length (imageOf m)) imageSize) (imageForm (imageOf m)) k (stateList k))) image-read-back
-      ∙ begins _ _ m (stateList m) (eq-eqb (length (imageOf m)) imageSize size) image-form (S .inside) (state-passes m S)
+  unfolding stateChecks
+  image-accepted = image-checks-under (m .profile) m refl ∙ begins true true m (stateList m) refl refl (S .inside) (state-passes m S)
 
 -- two states of one profile with one image are one
 pub image-tells : (m n : Monitor) → Sound m → Sound n → m .profile ≡ n .profile → imageOf m ≡ imageOf n → m ≡ n

@@ -4,3 +4,4 @@ pub mod Lowering
 pub mod Programs
 pub mod Witnesses
 pub mod ModePairs
+pub mod Sites

@@ -9,6 +9,7 @@ use mathlib.Core.List.{List, [], _∷_, _++_, map}
 use lib.ListN.{length, getD, take, replicate, length-append, length-replicate}
 use Rattle.bits.specs.Bits.{odd, toBits, fromBits, bytesToBits, field, cut, allZero, Bytes}
 use Rattle.bits.specs.Laws.{bytes-bitsToBytes, length-bitsToBytes}
+use Rattle.model.specs.declared.Profile.{Profile}
 use Rattle.model.specs.declared.Monitor.{Monitor}
 use Rattle.model.specs.declared.Mode.the-variants.{Read, Append}
 use Rattle.model.specs.declared.Request.the-variants.{Get, Create, ChangeLevel}
@@ -17,13 +18,14 @@ use Rattle.model.specs.declared.Decision.the-variants.{Granted, NotEnrolled}
 use Rattle.model.specs.Tests.{implies, unless}
 use Rattle.model.specs.Levels.{compare, levelDominates, dominates, sameLabel}
 use Rattle.model.specs.Modes.{has, add, remove}
-use Rattle.model.specs.State.{enrolled, object, heldBy}
+use Rattle.model.specs.State.{widest, enrolled, object, heldBy}
 use Rattle.model.specs.Decisions.{number, refuses}
-use Rattle.model.specs.Requests.{fields, modeAllowed, unusedZero, wellFormed, request, creation, decodeFields, decode, pack, encode, InRange}
+use Rattle.model.specs.Profiles.{profileFits, labelInside, absentBeyond, levelsInside}
+use Rattle.model.specs.Requests.{fields, modeAllowed, unusedZero, fieldsFormed, within, wellFormed, request, creation, decodeFields, decode, pack, encode, InRange}
 use Rattle.model.specs.Rules.{target, simpleAll, starPair, starFrom, starFor, starAll, notLowered, changed, already, checks, answer, step}
 use Rattle.model.specs.Runs.{respond, reply, after}
 use Rattle.model.specs.Layout.{tableSize, tableBits, imageSize, imageBits, imageOf}
-use Rattle.model.specs.Reading.{labelFrom, labelForm, tableFrom, tableForm, tableChecks, imageChecks, begin, readTable, readImage}
+use Rattle.model.specs.Reading.{labelFrom, labelForm, tableFrom, tableForm, tableChecks, imageChecks, monitorFrom, begin, readTable, readImage}
 use Rattle.model.specs.Buffers.{tooShort}
 use Rattle.model.specs.Writing.{writing}
 use Rattle.model.specs.Beginnings.{table, image, Accepted, left, Reached, AllBytes}
@@ -34,31 +36,37 @@ use Rattle.invariants.specs.Sound.{Sound}
 use Rattle.images.specs.Tables.{tableOf, TableFits}
 use Rattle.images.proofs.Shapes.{table-shape}
 use Rattle.images.proofs.Trips.{image-accepted, image-tells}
-use Rattle.images.proofs.Reached.{sound-left}
+use Rattle.images.proofs.Reached.{sound-left, left-profile}
 use Rattle.refusals.specs.Causes.{MalformedBytes, not-six-bytes}
 use Rattle.runs.specs.Inputs.{SixEach}
 use Rattle.runs.specs.MarkedRun.{level, subjectsW, tableW, Row, rows}
 use Rattle.runs.proofs.MarkedRun.{marked-run}
 
 -- the byte strings of the marked run
-pub markedBytes : List (List ℕ)
+unfoldable pub markedBytes : List (List ℕ)
 markedBytes = map (λ (r : Row). r .bytes) rows
 
 -- an accepted table, and a reached monitor
-pub table-met : Accepted (table tableW)
+pub table-met : Accepted (table widest tableW)
 table-met = marked-run .1
 
-pub reached-met : Reached (left (table tableW) markedBytes)
-reached-met = record { beginning = table tableW; accepted = table-met; requests = markedBytes; reaches = refl }
+pub reached-met : Reached (left (table widest tableW) markedBytes)
+reached-met = record { beginning = table widest tableW; accepted = table-met; requests = markedBytes; reaches = refl }
 
 -- a sound state, and so one that is well formed
-pub sound-met : Sound (left (table tableW) markedBytes)
-sound-met = sound-left (table tableW) table-met markedBytes
+pub sound-met : Sound (left (table widest tableW) markedBytes)
+sound-met = sound-left (table widest tableW) table-met markedBytes
+
+-- the image of what any list leaves of table W
+accepted-at : (qs : List (List ℕ)) → Accepted (image widest (imageOf (left (table widest tableW) qs)))
+unfolding readImage begin
+accepted-at qs =
+    let m = left (table widest tableW) qs in
+    subst (λ (p : Profile). imageChecks p (imageOf m) ≡ Granted) (left-profile (table widest tableW) table-met qs) (image-accepted m (sound-left (table widest tableW) table-met qs))
 
 -- an accepted image, of bytes: that of the monitor which the marked run leaves
-pub image-met : Accepted (image (imageOf (left (table tableW) markedBytes)))
-unfolding readImage begin
-image-met = image-accepted (left (table tableW) markedBytes) (sound-left (table tableW) table-met markedBytes)
+pub image-met : Accepted (image widest (imageOf (left (table widest tableW) markedBytes)))
+image-met = accepted-at markedBytes
 
 pub image-bytes-met : (m : Monitor) → Bytes (imageOf m)
 unfolding imageOf
@@ -71,12 +79,12 @@ buffer-met m = ap number (cond-false (tooShort imageSize (imageOf m)) _ Granted 
 
 -- the state after the first k requests of the marked run
 abbrev pub stateAt : ℕ → Monitor
-stateAt k = left (table tableW) (take k markedBytes)
+stateAt k = left (table widest tableW) (take k markedBytes)
 
 -- what the run shows of itself, computed once
 pub record Shown : Type 0 where
   -- bytes that say a request, its actor enrolled, its object live, the object live after it too: step 5
-  pub says : decode (getD markedBytes 4 []) ≡ Says (Get 1 0 Read)
+  pub says : decode (stateAt 4 .profile) (getD markedBytes 4 []) ≡ Says (Get 1 0 Read)
   pub enrolled-there : enrolled (stateAt 4) 1 ≡ true
   pub live-there : object (stateAt 4) 0 .live ≡ true
   pub live-behind : object (step (Get 1 0 Read) (stateAt 4) .monitor) 0 .live ≡ true
@@ -91,15 +99,15 @@ pub record Shown : Type 0 where
   pub absent-there : enrolled (stateAt 5) 15 ≡ false
   -- gets of a by a subject that holds r on another object: granted at step 8, refused at step 13
   pub first-held : has Read (heldBy (object (stateAt 7) 0) 1) ≡ true
-  pub above-says : decode (getD markedBytes 7 []) ≡ Says (Get 1 1 Append)
+  pub above-says : decode (stateAt 7 .profile) (getD markedBytes 7 []) ≡ Says (Get 1 1 Append)
   pub above-granted : reply (getD markedBytes 7 []) (stateAt 7) ≡ 0
   pub second-held : has Read (heldBy (object (stateAt 12) 1) 1) ≡ true
-  pub below-says : decode (getD markedBytes 12 []) ≡ Says (Get 1 0 Append)
+  pub below-says : decode (stateAt 12 .profile) (getD markedBytes 12 []) ≡ Says (Get 1 0 Append)
   pub below-refused : reply (getD markedBytes 12 []) (stateAt 12) ≡ 9
   pub not-above : dominates (object (stateAt 12) 0 .label) (object (stateAt 12) 1 .label) ≡ false
 
 pub shown : Shown
-unfolding markedBytes rows tableW tableFrom tableForm labelForm labelFrom tableChecks begin readTable allZero bytesToBits toBits odd cut fromBits field decode decodeFields fields wellFormed modeAllowed unusedZero request respond step after checks already changed starAll starFor starFrom starPair implies unless answer simpleAll has add remove notLowered sameLabel dominates levelDominates compare
+unfolding markedBytes rows tableW tableFrom tableForm labelForm labelFrom tableChecks profileFits absentBeyond levelsInside labelInside begin readTable allZero bytesToBits toBits odd cut fromBits field decode decodeFields fields wellFormed fieldsFormed within modeAllowed unusedZero request respond step after checks already changed starAll starFor starFrom starPair implies unless answer simpleAll has add remove notLowered sameLabel dominates levelDominates compare
 shown =
     record {
       says = refl;
@@ -139,8 +147,8 @@ pub refusing-met : refuses NotEnrolled ≡ true
 refusing-met = refl
 
 -- two different reached states: before and after the marked run
-pub different-met : stateAt 0 ≢ left (table tableW) markedBytes
-unfolding markedBytes rows tableW tableFrom tableForm labelForm labelFrom tableChecks begin readTable allZero bytesToBits toBits odd cut fromBits field decode decodeFields fields wellFormed modeAllowed unusedZero request respond step after checks already changed starAll starFor starFrom starPair implies unless answer simpleAll has add remove notLowered sameLabel dominates levelDominates compare
+pub different-met : stateAt 0 ≢ left (table widest tableW) markedBytes
+unfolding markedBytes rows tableW tableFrom tableForm labelForm labelFrom tableChecks profileFits absentBeyond levelsInside labelInside begin readTable allZero bytesToBits toBits odd cut fromBits field decode decodeFields fields wellFormed fieldsFormed within modeAllowed unusedZero request respond step after checks already changed starAll starFor starFrom starPair implies unless answer simpleAll has add remove notLowered sameLabel dominates levelDominates compare
 different-met e = clash (sym (ap (λ (m : Monitor). object m 0 .live) e))
 
 -- a table of bytes, whose clearances fit
@@ -148,7 +156,7 @@ pub table-bytes-met : Bytes tableW
 unfolding tableOf
 table-bytes-met = subst Bytes (marked-run .0) (bytes-bitsToBytes tableSize (tableBits subjectsW))
 
-table-says : tableFrom tableW ≡ subjectsW
+pub table-says : tableFrom tableW ≡ subjectsW
 unfolding tableFrom tableW subjectsW labelFrom bytesToBits toBits odd cut fromBits
 table-says = refl
 
@@ -182,19 +190,21 @@ unfolding tableW
 input-met = length-append tableW (replicate 24576 0) ∙ omega (arith, length-replicate {A = ℕ} 24576 0)
 
 -- and two different accepted images, of bytes: those of these two states
-pub images-met : Accepted (image (imageOf (stateAt 0))) × (imageOf (stateAt 0) ≢ imageOf (left (table tableW) markedBytes))
-unfolding readImage begin
+pub images-met : Accepted (image widest (imageOf (stateAt 0))) × (imageOf (stateAt 0) ≢ imageOf (left (table widest tableW) markedBytes))
 images-met =
-    let before = sound-left (table tableW) table-met [] in
-    let behind = sound-left (table tableW) table-met markedBytes in
-    (image-accepted (stateAt 0) before, λ e. different-met (image-tells _ _ before behind e))
+    let before = sound-left (table widest tableW) table-met [] in
+    let behind = sound-left (table widest tableW) table-met markedBytes in
+    (accepted-at [], λ e. different-met (image-tells _ _ before behind (one [] markedBytes) e))
+  where
+    one : (qs rs : List (List ℕ)) → left (table widest tableW) qs .profile ≡ left (table widest tableW) rs .profile
+    one qs rs = left-profile (table widest tableW) table-met qs ∙ sym (left-profile (table widest tableW) table-met rs)
 
 -- a malformed byte string, a refused table and a refused image: the empty ones
-pub malformed-met : MalformedBytes []
+pub malformed-met : MalformedBytes widest []
 malformed-met = not-six-bytes (λ e. absurd (omega (arith, e)))
 
-pub refused-met : (refuses (readTable [] .decision) ≡ true) × (refuses (readImage [] .decision) ≡ true)
-unfolding readTable readImage begin tableChecks imageChecks unless
+pub refused-met : (refuses (readTable widest [] .decision) ≡ true) × (refuses (readImage widest [] .decision) ≡ true)
+unfolding readTable readImage begin tableChecks imageChecks monitorFrom profileFits unless
 refused-met = (refl, refl)
 
 -- a buffer that is too short, and room for the requests that tell two images apart
