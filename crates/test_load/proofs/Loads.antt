@@ -14,6 +14,7 @@ use Rattle.bits.specs.Records.{cut-join, cut-at, cut-take}
 use Rattle.model.specs.declared.Fields.{Fields}
 use Rattle.model.specs.declared.Monitor.{Monitor}
 use Rattle.model.specs.declared.Decision.the-variants.{ZeroSeed}
+use Rattle.model.specs.State.{widest}
 use Rattle.model.specs.Requests.{requestSize, fields, pack}
 use Rattle.model.specs.Buffers.{front}
 use Rattle.model.specs.Runs.{reply}
@@ -86,9 +87,9 @@ module _ (seed : ℕ) (buffer : List ℕ) (e : seed ≢ 0) where
   pub load-fields-at : (i : ℕ) → i < count → fields (take requestSize (drop (requestSize * i) (loaded seed buffer))) ≡ made (draw (7 * i) seed)
   load-fields-at i h = ap fields (load-request-at i h) ∙ made-fields (draw (7 * i) seed)
 
-  -- no monitor replies 2 to it
-  pub load-never-2 : (m : Monitor) (i : ℕ) → i < count → reply (take requestSize (drop (requestSize * i) (loaded seed buffer))) m ≢ 2
-  load-never-2 m i h z = made-never-2 (draw (7 * i) seed) m (ap (λ b. reply b m) (sym (load-request-at i h)) ∙ z)
+  -- no monitor of the widest profile replies 2 to it
+  pub load-never-2 : (m : Monitor) → m .profile ≡ widest → (i : ℕ) → i < count → reply (take requestSize (drop (requestSize * i) (loaded seed buffer))) m ≢ 2
+  load-never-2 m w i h z = made-never-2 (draw (7 * i) seed) m w (ap (λ b. reply b m) (sym (load-request-at i h)) ∙ z)
 
   -- "the bytes after the last one are left"
   pub load-leaves-later : drop (requestSize * count) (loaded seed buffer) ≡ drop (requestSize * count) buffer

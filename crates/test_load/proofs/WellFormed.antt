@@ -1,4 +1,5 @@
--- "Every request made this way is well formed": its bytes say it, so no monitor replies 2.
+-- "Every request made this way is well formed", and that is sure "under the widest profile only" (change request §8): its bytes say it, so no
+-- monitor of that profile replies 2.
 -- Assumes nothing.
 use Prim.Native.Nat.{ℕ, zero, suc, _+_, _*_, _%_, _<_}
 use native.Mathlib.Nat.{mod-lt, zero-lt-suc}
@@ -10,13 +11,19 @@ use mathlib.Core.List.{map}
 use lib.Dec.{eqb, leb}
 use lib.ListN.{getD}
 use borrow.Author.Tests.{le-leb}
+use Rattle.model.specs.declared.Profile.{Profile}
 use Rattle.model.specs.declared.Monitor.{Monitor}
 use Rattle.model.specs.declared.Decoded.the-variants.{Says}
-use Rattle.model.specs.Requests.{fields, modeAllowed, unusedZero, wellFormed, request, decode, pack}
+use Rattle.model.specs.State.{widest}
+use Rattle.model.specs.Requests.{fields, modeAllowed, unusedZero, fieldsFormed, levelOf, within, wellFormed, request, decode, pack}
 use Rattle.model.specs.Runs.{reply, replies, respond}
 use Rattle.model.proofs.Tests.{split, and-both}
 use Rattle.model.proofs.Packing.{FieldsFit, pack-length, fields-packed}
+use Rattle.model.proofs.Levels.{at-least-decides}
+use Rattle.model.proofs.Profiles.{widest-level}
+use Rattle.model.proofs.Within.{well-formed, fields-within}
 use Rattle.model.proofs.Requests.{in-range, says-decode}
+use Rattle.invariants.proofs.Steps.{respond-profile}
 use Rattle.refusals.proofs.FirstRefusal.{reply-2-exactly}
 use Rattle.refusals.proofs.Malformed.{says-not-malformed}
 use Rattle.test_load.specs.Generator.{draw}
@@ -71,9 +78,10 @@ module _ (x : ℕ) where
       split (leb kind 4) (λ e. rw e (omega arith))
       (λ e. split (eqb kind 5) (λ f. rw (e, f) (omega arith)) (λ f. rw (e, f) (omega arith)))
 
-  pub made-well-formed : wellFormed (made x) ≡ true
+  -- under every profile but for what the profile asks
+  made-formed : fieldsFormed (made x) ≡ true
   unfolding made unusedZero
-  made-well-formed =
+  made-formed =
       in-range (made x)
       (and-both (le-leb 1 kind (omega arith)) (le-leb kind 7 (omega arith)))
       (omega arith) other-below (omega arith)
@@ -95,23 +103,37 @@ module _ (x : ℕ) where
         spare = omega arith;
       }
 
+  -- and inside the widest
+  made-within : within widest (made x) ≡ true
+  unfolding made
+  made-within =
+      fields-within widest (made x)
+      (record {
+        actor = omega arith;
+        other = other-below;
+        object = omega arith;
+        level = at-least-decides (widest .highest) (levelOf (made x)) .0 (widest-level (levelOf (made x)) (made-fits .class));
+      })
+
   -- its six bytes have the fields that were drawn
   pub made-fields : fields (pack (made x)) ≡ made x
   made-fields = fields-packed (made x) made-fits
 
   -- "Every request made this way is well formed"
-  pub made-says : decode (pack (made x)) ≡ Says (request (made x))
+  pub made-says : decode widest (pack (made x)) ≡ Says (request (made x))
   made-says =
-      says-decode (pack (made x)) (pack-length (made x)) (ap wellFormed made-fields ∙ made-well-formed)
+      says-decode widest (pack (made x)) (pack-length (made x)) (ap (wellFormed widest) made-fields ∙ well-formed widest (made x) made-formed made-within)
       ∙ ap (λ f. Says (request f)) made-fields
 
-  -- no monitor replies 2 to it
-  pub made-never-2 : (m : Monitor) → reply (pack (made x)) m ≢ 2
-  made-never-2 m e = says-not-malformed (pack (made x)) (request (made x)) made-says (reply-2-exactly (pack (made x)) m .0 e)
+  -- no monitor of the widest profile replies 2 to it
+  pub made-never-2 : (m : Monitor) → m .profile ≡ widest → reply (pack (made x)) m ≢ 2
+  made-never-2 m w e =
+      let says : decode (m .profile) (pack (made x)) ≡ Says (request (made x)) = ap (λ (p : Profile). decode p (pack (made x))) w ∙ made-says in
+      says-not-malformed (m .profile) (pack (made x)) (request (made x)) says (reply-2-exactly (pack (made x)) m .0 e)
 
 -- nor at any place of a run of them, whatever the state
-pub run-never-2 : (n x : ℕ) (m : Monitor) (i : ℕ) → getD (replies (map pack (requestsFrom n x)) m) i 0 ≢ 2
+pub run-never-2 : (n x : ℕ) (m : Monitor) → m .profile ≡ widest → (i : ℕ) → getD (replies (map pack (requestsFrom n x)) m) i 0 ≢ 2
 unfolding replies requestsFrom
-run-never-2 zero x m i = λ e. absurd (omega (arith, e))
-run-never-2 (suc n) x m zero = made-never-2 x m
-run-never-2 (suc n) x m (suc i) = run-never-2 n (draw 7 x) (respond (pack (made x)) m .monitor) i
+run-never-2 zero x m w i = λ e. absurd (omega (arith, e))
+run-never-2 (suc n) x m w zero = made-never-2 x m w
+run-never-2 (suc n) x m w (suc i) = run-never-2 n (draw 7 x) (respond (pack (made x)) m .monitor) (respond-profile (pack (made x)) m ∙ w) i
