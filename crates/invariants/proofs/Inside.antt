@@ -7,14 +7,17 @@ use mathlib.Core.Bool.{true}
 use Rattle.model.specs.declared.Object.{Object}
 use Rattle.model.specs.declared.Profile.{Profile}
 use Rattle.model.specs.declared.Monitor.{Monitor}
+use Rattle.model.specs.declared.Mode.{Mode}
 use Rattle.model.specs.declared.Request.{Request}
 use Rattle.model.specs.declared.Request.the-variants.{Get, Release, Give, Rescind, Create, Delete, ChangeLevel}
-use Rattle.model.specs.State.{object}
+use Rattle.model.specs.declared.Decision.the-variants.{Granted}
+use Rattle.model.specs.State.{enrolled, object}
 use Rattle.model.specs.Profiles.{LabelInside, Inside}
 use Rattle.model.specs.Requests.{Within}
-use Rattle.model.specs.Rules.{target, changed, afterwards}
-use Rattle.model.proofs.Tests.{clash}
+use Rattle.model.specs.Rules.{target, changed, afterwards, checks}
+use Rattle.model.proofs.Tests.{clash, and-left, and-right}
 use Rattle.model.proofs.After.{objects-after}
+use Rattle.invariants.proofs.Granted.{granted-get, granted-release, granted-give}
 
 -- the record of object o is inside the profile: it is not live or its number is, and its label is
 pub record ObjectInside (p : Profile) (o : ℕ) (ob : Object) : Type 0 where
@@ -46,3 +49,19 @@ inside-afterwards q m v I =
       clearances-inside = I .clearances-inside;
       labels-inside = λ o. O o .label;
     }
+
+-- a get, a release or a give that is granted is about who is enrolled and what is live, and so inside the profile
+module _ (m : Monitor) (I : Inside m) where
+  pub get-within : (s o : ℕ) (x : Mode) → checks (Get s o x) m ≡ Granted → Within (m .profile) (Get s o x)
+  get-within s o x e = let g = granted-get m s o x e in (I .subjects-inside s (g .there), I .objects-inside o (g .live))
+
+  pub release-within : (s o : ℕ) (x : Mode) → checks (Release s o x) m ≡ Granted → Within (m .profile) (Release s o x)
+  release-within s o x e = let g = granted-release m s o x e in (I .subjects-inside s (g .there), I .objects-inside o (g .live))
+
+  pub give-within : (s t o : ℕ) (x : Mode) → checks (Give s t o x) m ≡ Granted → Within (m .profile) (Give s t o x)
+  give-within s t o x e =
+      let g = granted-give m s t o x e in (
+        I .subjects-inside s (and-left (enrolled m s) _ (g .there)),
+        I .subjects-inside t (and-right (enrolled m s) _ (g .there)),
+        I .objects-inside o (g .live),
+      )

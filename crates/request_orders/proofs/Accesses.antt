@@ -13,21 +13,22 @@ use Rattle.invariants.proofs.Added.{same-unheld}
 
 -- two states that differ in their accesses only
 pub record SameButHeld (n k : Monitor) : Type 0 where
+  pub profile : n .profile ≡ k .profile
   pub subjects : n .subjects ≡ k .subjects
   pub objects : (o : ℕ) → unheld (object n o) ≡ unheld (object k o)
 
 pub same-back : {n k : Monitor} → SameButHeld n k → SameButHeld k n
-same-back E = record { subjects = sym (E .subjects); objects = λ o. sym (E .objects o) }
+same-back E = record { profile = sym (E .profile); subjects = sym (E .subjects); objects = λ o. sym (E .objects o) }
 
 pub same-on : {n k l : Monitor} → SameButHeld n k → SameButHeld k l → SameButHeld n l
-same-on E F = record { subjects = E .subjects ∙ F .subjects; objects = λ o. E .objects o ∙ F .objects o }
+same-on E F = record { profile = E .profile ∙ F .profile; subjects = E .subjects ∙ F .subjects; objects = λ o. E .objects o ∙ F .objects o }
 
 -- each access held in n is held in k
 abbrev pub Within : Monitor → Monitor → Type 0
 Within n k = (s o : ℕ) (x : Mode) → Holds n s o x → Holds k s o x
 
 pub added-same : (n : Monitor) (s o : ℕ) (x : Mode) → SameButHeld (withAccess n s o x) n
-added-same n s o x = record { subjects = refl; objects = same-unheld n s o x }
+added-same n s o x = record { profile = refl; subjects = refl; objects = same-unheld n s o x }
 
 -- ---- properties of pairs of accesses
 

@@ -8,6 +8,7 @@ use mathlib.Core.Logic.{_↔_}
 use mathlib.Core.Bool.{Bool, true, false, cond}
 use mathlib.Core.List.{List, [], _∷_, List·Permᴰ·nil, List·Permᴰ·cons, List·Permᴰ·swap, List·Permᴰ·trans}
 use lib.ListN.{length, getD}
+use Rattle.model.specs.declared.Profile.{Profile}
 use Rattle.model.specs.declared.Monitor.{Monitor}
 use Rattle.model.specs.declared.Request.{Request}
 use Rattle.model.specs.declared.Decoded.{Decoded}
@@ -29,17 +30,19 @@ use Rattle.request_orders.specs.AnyOrder.{IsGranted, GrantedAt, AnyOrder
 -- requests on a monitor m: I holds of the states that they may pass through, Q of the requests themselves
 pub record Commuting (m : Monitor) (I : Monitor → Type 0) (Q : Request → Type 0) : Type 0 where
   pub start : I m
+  -- under one profile, so that bytes say the same there
+  pub profile : (n : Monitor) → I n → n .profile ≡ m .profile
   pub keeps : (q : Request) (n : Monitor) → Q q → I n → checks q n ≡ Granted → I (afterwards q n)
   -- granted there exactly when granted alone
   pub alone : (q : Request) (n : Monitor) → Q q → I n → (checks q n ≡ Granted) ↔ (checks q m ≡ Granted)
   pub commute : (q r : Request) (n : Monitor) → Q q → Q r → I n → afterwards q (afterwards r n) ≡ afterwards r (afterwards q n)
 
--- what is decoded is such a request, or malformed; and bytes of which this is so
+-- what is decoded is such a request, or malformed; and bytes of which this is so under a profile
 abbrev pub Only : (Request → Type 0) → Decoded → Type 0
 Only Q d = (q : Request) → d ≡ Says q → Q q
 
-abbrev pub Saying : (Request → Type 0) → List ℕ → Type 0
-Saying Q b = Only Q (decode b)
+abbrev pub Saying : Profile → (Request → Type 0) → List ℕ → Type 0
+Saying k Q b = Only Q (decode k b)
 
 -- bytes say one request
 pub says-one : {d : Decoded} {q r : Request} → d ≡ Says q → d ≡ Says r → q ≡ r
@@ -50,7 +53,7 @@ says-one {q = q} e f = ap said (sym e ∙ f)
     said (Says k) = k
 
 -- bytes that say a request are granted where it is
-pub says-granted : (b : List ℕ) (q : Request) (n : Monitor) → decode b ≡ Says q → (reply b n < 2) ↔ (checks q n ≡ Granted)
+pub says-granted : (b : List ℕ) (q : Request) (n : Monitor) → decode (n .profile) b ≡ Says q → (reply b n < 2) ↔ (checks q n ≡ Granted)
 says-granted b q n e =
     subst (λ (r : Response). (number (r .decision) < 2) ↔ (checks q n ≡ Granted)) (sym (respond-says b q n e)) (reply-granted q n)
 
@@ -107,26 +110,40 @@ module _ (m : Monitor) (I : Monitor → Type 0) (Q : Request → Type 0) (S : Co
       let same = S .alone q n (w q refl) i in
       (λ h. reply-granted q m .1 (same .0 (reply-granted q n .0 h)), λ h. reply-granted q n .1 (same .1 (reply-granted q m .0 h)))
 
-  pub keeps-one : (b : List ℕ) → Saying Q b → (n : Monitor) → I n → I (respond b n .monitor)
+  -- bytes are carried out as what they say under the profile of m
+  pub said-there : (b : List ℕ) (n : Monitor) → I n → respond b n ≡ carryOut (decode (m .profile) b) n
   unfolding respond
-  keeps-one b w = keeps-turn (decode b) w
+  said-there b n i = ap (λ (k : Profile). carryOut (decode k b) n) (S .profile n i)
 
-  two-comm : (b c : List ℕ) → Saying Q b → Saying Q c → (n : Monitor) → I n → respond c (respond b n .monitor) .monitor ≡ respond b (respond c n .monitor) .monitor
-  unfolding respond
-  two-comm b c = turns-comm (decode b) (decode c)
+  pub keeps-one : (b : List ℕ) → Saying (m .profile) Q b → (n : Monitor) → I n → I (respond b n .monitor)
+  keeps-one b w n i = subst (λ (r : Response). I (r .monitor)) (sym (said-there b n i)) (keeps-turn (decode (m .profile) b) w n i)
 
-  pub granted-one : (b : List ℕ) → Saying Q b → (n : Monitor) → I n → IsGranted (reply b n) ↔ IsGranted (reply b m)
-  unfolding respond
-  granted-one b = granted-turn (decode b)
+  -- the state after two
+  after-two : (b c : List ℕ) → Saying (m .profile) Q b → (n : Monitor) → I n
+      → respond c (respond b n .monitor) .monitor ≡ carryOut (decode (m .profile) c) (carryOut (decode (m .profile) b) n .monitor) .monitor
+  after-two b c w n i =
+      ap (λ (r : Response). r .monitor) (said-there c (respond b n .monitor) (keeps-one b w n i))
+      ∙ ap (λ (r : Response). carryOut (decode (m .profile) c) (r .monitor) .monitor) (said-there b n i)
+
+  two-comm : (b c : List ℕ) → Saying (m .profile) Q b → Saying (m .profile) Q c → (n : Monitor) → I n
+      → respond c (respond b n .monitor) .monitor ≡ respond b (respond c n .monitor) .monitor
+  two-comm b c v w n i =
+      after-two b c v n i ∙ turns-comm (decode (m .profile) b) (decode (m .profile) c) v w n i ∙ sym (after-two c b w n i)
+
+  pub granted-one : (b : List ℕ) → Saying (m .profile) Q b → (n : Monitor) → I n → IsGranted (reply b n) ↔ IsGranted (reply b m)
+  granted-one b w n i =
+      subst (λ (r : Response). IsGranted (number (r .decision)) ↔ IsGranted (reply b m)) (sym (said-there b n i))
+      (subst (λ (r : Response). IsGranted (number (carryOut (decode (m .profile) b) n .decision)) ↔ IsGranted (number (r .decision))) (sym (said-there b m (S .start)))
+      (granted-turn (decode (m .profile) b) w n i))
 
   -- what they may pass through holds of the state after a list
-  pub keeps-all : (bs : List (List ℕ)) → Each (Saying Q) bs → (n : Monitor) → I n → I (after bs n)
+  pub keeps-all : (bs : List (List ℕ)) → Each (Saying (m .profile) Q) bs → (n : Monitor) → I n → I (after bs n)
   unfolding after
   keeps-all [] p n i = i
   keeps-all (b ∷ bs) p n i = keeps-all bs (p .1) (respond b n .monitor) (keeps-one b (p .0) n i)
 
   -- two orders leave one state
-  after-order : {bs cs : List (List ℕ)} → OrderOf bs cs → Each (Saying Q) bs → (n : Monitor) → I n → after bs n ≡ after cs n
+  after-order : {bs cs : List (List ℕ)} → OrderOf bs cs → Each (Saying (m .profile) Q) bs → (n : Monitor) → I n → after bs n ≡ after cs n
   unfolding after
   after-order List·Permᴰ·nil p n i = refl
   after-order (List·Permᴰ·cons {a = b} {l₂ = cs} e d) p n i =
@@ -135,19 +152,19 @@ module _ (m : Monitor) (I : Monitor → Type 0) (Q : Request → Type 0) (S : Co
       ap (after bs) (two-comm b c (p .0) (p .1 .0) n i)
       ∙ ap (λ (k : List ℕ). after bs (respond b (respond k n .monitor) .monitor)) f
       ∙ ap (λ (k : List ℕ). after bs (respond k (respond first n .monitor) .monitor)) e
-  after-order (List·Permᴰ·trans d k) p n i = after-order d p n i ∙ after-order k (each-order (Saying Q) d p) n i
+  after-order (List·Permᴰ·trans d k) p n i = after-order d p n i ∙ after-order k (each-order (Saying (m .profile) Q) d p) n i
 
   -- at each place of a list what is granted is granted alone
-  granted-at : (bs : List (List ℕ)) → Each (Saying Q) bs → (n : Monitor) → I n → (i : ℕ) → i < length bs → GrantedAt bs n i ↔ IsGranted (reply (getD bs i []) m)
+  granted-at : (bs : List (List ℕ)) → Each (Saying (m .profile) Q) bs → (n : Monitor) → I n → (i : ℕ) → i < length bs → GrantedAt bs n i ↔ IsGranted (reply (getD bs i []) m)
   unfolding replies
   granted-at [] p n w i h = absurd (not-suc-le-zero h)
   granted-at (b ∷ bs) p n w zero h = granted-one b (p .0) n w
   granted-at (b ∷ bs) p n w (suc i) h = granted-at bs (p .1) (respond b n .monitor) (keeps-one b (p .0) n w) i (le-of-suc-le-suc h)
 
   -- in every order, and with it granted in two orders or refused in both
-  module _ (bs : List (List ℕ)) (p : Each (Saying Q) bs) where
+  module _ (bs : List (List ℕ)) (p : Each (Saying (m .profile) Q) bs) where
     pub granted-alone : (cs : List (List ℕ)) → OrderOf bs cs → (i : ℕ) → i < length cs → GrantedAt cs m i ↔ IsGranted (reply (getD cs i []) m)
-    granted-alone cs c = granted-at cs (each-order (Saying Q) c p) m (S .start)
+    granted-alone cs c = granted-at cs (each-order (Saying (m .profile) Q) c p) m (S .start)
 
     pub any-order : AnyOrder bs m
     any-order =

@@ -17,13 +17,14 @@ use Rattle.model.specs.Tests.{firstFailing}
 use Rattle.model.specs.Levels.{present}
 use Rattle.model.specs.Modes.{has}
 use Rattle.model.specs.State.{clearanceAt, enrolled, object, rightsOf}
-use Rattle.model.specs.Requests.{InRange}
+use Rattle.model.specs.Requests.{InRange, Within}
 use Rattle.model.specs.Rules.{target, owns, mayGive, changed, afterwards, checks}
 use Rattle.model.proofs.Tests.{set-all, split, and-left, and-right}
 use Rattle.model.proofs.Modes.{add-same}
 use Rattle.model.proofs.After.{objects-after}
 use Rattle.invariants.specs.Sound.{Sound}
 use Rattle.invariants.proofs.Granted.{granted-give}
+use Rattle.invariants.proofs.Inside.{give-within, release-within}
 use Rattle.invariants.proofs.Steps.{sound-afterwards}
 use Rattle.request_orders.specs.RightsLists.{GiveOrRelease, give, release}
 use Rattle.request_orders.proofs.Commuting.{Commuting}
@@ -39,6 +40,7 @@ pub record SameOwner (a b : Object) : Type 0 where
 -- the states that gives and releases lead to from m
 pub record OwnersKept (m n : Monitor) : Type 0 where
   pub sound : Sound n
+  pub profile : n .profile ≡ m .profile
   pub subjects : n .subjects ≡ m .subjects
   pub objects : (o : ℕ) → SameOwner (object n o) (object m o)
 
@@ -90,10 +92,15 @@ module _ (m : Monitor) where
   owners-kept : (q : Request) (n : Monitor) → Ranged q → OwnersKept m n → checks q n ≡ Granted → OwnersKept m (afterwards q n)
   owners-kept q n w P g =
       record {
-        sound = sound-afterwards q n (w .0) (P .sound) g;
+        sound = sound-afterwards q n (w .0) (within q (w .1) g) (P .sound) g;
+        profile = P .profile;
         subjects = P .subjects;
         objects = objects-after (λ j ob. SameOwner ob (object m j)) q n (P .objects) (owner-keeps q n (w .1) P g);
       }
+    where
+      within : (q : Request) → GiveOrRelease q → checks q n ≡ Granted → Within (n .profile) q
+      within _ (give s t o x) g = give-within n (P .sound .inside) s t o x g
+      within _ (release s o x) g = release-within n (P .sound .inside) s o x g
 
   -- two of them do the same in both orders
   two-comm : (q r : Request) (n : Monitor) → GiveOrRelease q → GiveOrRelease r → OwnersKept m n → afterwards q (afterwards r n) ≡ afterwards r (afterwards q n)
@@ -105,7 +112,8 @@ module _ (m : Monitor) where
   pub rights-commuting : Sound m → Commuting m (OwnersKept m) Ranged
   rights-commuting S =
       record {
-        start = record { sound = S; subjects = refl; objects = λ o. record { live = refl; owner = refl; label = refl; rights = refl } };
+        start = record { sound = S; profile = refl; subjects = refl; objects = λ o. record { live = refl; owner = refl; label = refl; rights = refl } };
+        profile = λ n P. P .profile;
         keeps = owners-kept;
         alone = λ q n w P. let e = same-checks q n (w .1) P in (λ g. sym e ∙ g, λ g. e ∙ g);
         commute = λ q r n v w P. two-comm q r n (v .1) (w .1) P;

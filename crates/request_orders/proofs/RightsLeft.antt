@@ -41,7 +41,7 @@ use Rattle.orders.specs.Orders.{OrderOf, Each, Some}
 use Rattle.orders.proofs.Places.{each-order, some-order}
 use Rattle.request_orders.specs.AnyOrder.{IsGranted, OrdersAgree}
 use Rattle.request_orders.specs.RightsLists.{Gives, Releases, NothingElse, Left}
-use Rattle.request_orders.proofs.Commuting.{Commuting, Only, Saying, says-one, keeps-step, keeps-one, keeps-all}
+use Rattle.request_orders.proofs.Commuting.{Commuting, Only, Saying, says-one, said-there, keeps-step, keeps-one, keeps-all}
 use Rattle.request_orders.proofs.Owners.{OwnersKept, Ranged, same-checks, rights-commuting}
 use Rattle.request_orders.proofs.RightsLists.{ranged, of-kind}
 
@@ -129,36 +129,50 @@ module _ (m : Monitor) (S : Sound m) where
       let one = access-step q (w q refl) n P o s x in
       (λ h. let k = one .0 h in (k .0, λ e. k .1 (says-one refl e)), λ h. one .1 (h .0, λ e. h .1 (ap Says e)))
 
+  -- and to a monitor of the profile
+  right-one : (b : List ℕ) → Saying (m .profile) Ranged b → (n : Monitor) → OwnersKept m n → (t o : ℕ) (x : Mode)
+      → Permits (respond b n .monitor) t o x ↔ (Permits n t o x ⊎ (Gives (m .profile) t o x b × IsGranted (reply b m)))
+  right-one b w n P t o x =
+      subst (λ (r : Response). Permits (r .monitor) t o x ↔ (Permits n t o x ⊎ (Gives (m .profile) t o x b × IsGranted (reply b m)))) (sym (said-there m (OwnersKept m) Ranged C b n P))
+      (subst (λ (r : Response). Permits (carryOut (decode (m .profile) b) n .monitor) t o x ↔ (Permits n t o x ⊎ (Gives (m .profile) t o x b × IsGranted (number (r .decision)))))
+      (sym (said-there m (OwnersKept m) Ranged C b m (C .start))) (right-turn (decode (m .profile) b) w n P t o x))
+
+  access-one : (b : List ℕ) → Saying (m .profile) Ranged b → (n : Monitor) → OwnersKept m n → (s o : ℕ) (x : Mode)
+      → Holds (respond b n .monitor) s o x ↔ (Holds n s o x × (Releases (m .profile) s o x b → ⊥))
+  access-one b w n P s o x =
+      subst (λ (r : Response). Holds (r .monitor) s o x ↔ (Holds n s o x × (Releases (m .profile) s o x b → ⊥))) (sym (said-there m (OwnersKept m) Ranged C b n P))
+      (access-turn (decode (m .profile) b) w n P s o x)
+
   -- ---- lists
 
-  rights-all : (bs : List (List ℕ)) → Each (Saying Ranged) bs → (n : Monitor) → OwnersKept m n → (t o : ℕ) (x : Mode)
-      → Permits (after bs n) t o x ↔ (Permits n t o x ⊎ Some (λ b. Gives t o x b × IsGranted (reply b m)) bs)
-  unfolding after respond
+  rights-all : (bs : List (List ℕ)) → Each (Saying (m .profile) Ranged) bs → (n : Monitor) → OwnersKept m n → (t o : ℕ) (x : Mode)
+      → Permits (after bs n) t o x ↔ (Permits n t o x ⊎ Some (λ b. Gives (m .profile) t o x b × IsGranted (reply b m)) bs)
+  unfolding after
   rights-all [] p n P t o x = (λ h. inl h, ⊎-elim (λ h. h) (λ k. absurd k))
   rights-all (b ∷ bs) p n P t o x =
-      let one = right-turn (decode b) (p .0) n P t o x in
+      let one = right-one b (p .0) n P t o x in
       let rest = rights-all bs (p .1) (respond b n .monitor) (keeps-one m (OwnersKept m) Ranged C b (p .0) n P) t o x in (
         λ h. ⊎-elim (λ k. ⊎-elim (λ j. inl j) (λ j. inr (inl j)) (one .0 k)) (λ k. inr (inr k)) (rest .0 h),
         ⊎-elim (λ h. rest .1 (inl (one .1 (inl h)))) (⊎-elim (λ k. rest .1 (inl (one .1 (inr k)))) (λ k. rest .1 (inr k))),
       )
 
-  accesses-all : (bs : List (List ℕ)) → Each (Saying Ranged) bs → (n : Monitor) → OwnersKept m n → (s o : ℕ) (x : Mode)
-      → Holds (after bs n) s o x ↔ (Holds n s o x × Each (λ b. Releases s o x b → ⊥) bs)
-  unfolding after respond
+  accesses-all : (bs : List (List ℕ)) → Each (Saying (m .profile) Ranged) bs → (n : Monitor) → OwnersKept m n → (s o : ℕ) (x : Mode)
+      → Holds (after bs n) s o x ↔ (Holds n s o x × Each (λ b. Releases (m .profile) s o x b → ⊥) bs)
+  unfolding after
   accesses-all [] p n P s o x = (λ h. (h, tt), λ h. h .0)
   accesses-all (b ∷ bs) p n P s o x =
-      let one = access-turn (decode b) (p .0) n P s o x in
+      let one = access-one b (p .0) n P s o x in
       let rest = accesses-all bs (p .1) (respond b n .monitor) (keeps-one m (OwnersKept m) Ranged C b (p .0) n P) s o x in (
         λ h. let k = rest .0 h in let j = one .0 (k .0) in (j .0, (j .1, k .1)),
         λ h. rest .1 (one .1 (h .0, h .1 .0), h .1 .1),
       )
 
 -- what every order of a list of gives and releases leaves is said of the list alone
-pub rights-left : (m : Monitor) → Reached m → (bs : List (List ℕ)) → Each NothingElse bs → (cs : List (List ℕ)) → OrderOf bs cs → Left bs m (after cs m)
+pub rights-left : (m : Monitor) → Reached m → (bs : List (List ℕ)) → Each (NothingElse (m .profile)) bs → (cs : List (List ℕ)) → OrderOf bs cs → Left bs m (after cs m)
 rights-left m r bs p cs c =
     let S = sound-reached m r in
     let C = rights-commuting m S in
-    let v = each-order (Saying Ranged) c (ranged bs p) in
+    let v = each-order (Saying (m .profile) Ranged) c (ranged (m .profile) bs p) in
     let K = keeps-all m (OwnersKept m) Ranged C cs v m (C .start) in
     let back = Permᴰ·symm c in
     record {
@@ -167,8 +181,9 @@ rights-left m r bs p cs c =
           (λ h. ⊎-elim (λ k. inl k) (λ k. inr (some-order _ back k)) (here .0 h), λ h. here .1 (⊎-elim (λ k. inl k) (λ k. inr (some-order _ c k)) h));
       accesses = λ s o x.
           let here = accesses-all m S cs v m (C .start) s o x in
-          let none : List ℕ → Type 0 = λ b. Releases s o x b → ⊥ in
+          let none : List ℕ → Type 0 = λ b. Releases (m .profile) s o x b → ⊥ in
           (λ h. let k = here .0 h in (k .0, each-order none back (k .1)), λ h. here .1 (h .0, each-order none c (h .1)));
+      profile = K .profile;
       subjects = K .subjects;
       lives = λ o. K .objects o .live;
       owners = λ o. K .objects o .owner;
@@ -178,14 +193,14 @@ rights-left m r bs p cs c =
 -- and that is all of the state: two well-formed states of which it is so are one
 pub left-one : (bs : List (List ℕ)) (m n k : Monitor) → WellFormed n → WellFormed k → Left bs m n → Left bs m k → n ≡ k
 left-one bs m n k N K L M =
-    state-same n k N K (λ s h. ap (λ (l : List Subject). clearanceAt l s) (L .subjects ∙ sym (M .subjects)))
+    state-same n k N K (L .profile ∙ sym (M .profile)) (λ s h. ap (λ (l : List Subject). clearanceAt l s) (L .subjects ∙ sym (M .subjects)))
     (λ o h. object-same (object n o) (object k o) (N .objects-formed o) (K .objects-formed o)
     (L .lives o ∙ sym (M .lives o)) (L .owners o ∙ sym (M .owners o)) (L .labels o ∙ sym (M .labels o))
     (λ t h x. bool-ext _ _ (λ e. M .rights t o x .1 (L .rights t o x .0 e)) (λ e. L .rights t o x .1 (M .rights t o x .0 e)))
     (λ s h x. bool-ext _ _ (λ e. M .accesses s o x .1 (L .accesses s o x .0 e)) (λ e. L .accesses s o x .1 (M .accesses s o x .0 e))))
 
 -- so the order does not matter for the state: this once more, from what single requests do
-pub left-agree : (m : Monitor) → Reached m → (bs : List (List ℕ)) → Each NothingElse bs → OrdersAgree bs m
+pub left-agree : (m : Monitor) → Reached m → (bs : List (List ℕ)) → Each (NothingElse (m .profile)) bs → OrdersAgree bs m
 left-agree m r bs p cs ds c d =
     let formed : (es : List (List ℕ)) → WellFormed (after es m) = λ es. sound-reached (after es m) (reached-after m r es) .formed in
     left-one bs m (after cs m) (after ds m) (formed cs) (formed ds) (rights-left m r bs p cs c) (rights-left m r bs p ds d)

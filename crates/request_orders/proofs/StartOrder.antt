@@ -37,53 +37,53 @@ use Rattle.request_orders.proofs.Disagree.{never-both, not-both-granted
 
 -- ---- for any property of pairs of accesses
 
-module _ (Property : Monitor → Type 0) (R : PairProperty Property) (m : Monitor) (S : Sound m) (bs : List (List ℕ)) (p : Each IsGet bs) where
-  gets-at : (i : ℕ) → i < length bs → IsGet (getD bs i [])
-  gets-at = each-at [] IsGet bs p
+module _ (Property : Monitor → Type 0) (R : PairProperty Property) (m : Monitor) (S : Sound m) (bs : List (List ℕ)) (p : Each (IsGet (m .profile)) bs) where
+  gets-at : (i : ℕ) → i < length bs → IsGet (m .profile) (getD bs i [])
+  gets-at = each-at [] (IsGet (m .profile)) bs p
 
   -- what the bytes at a place say is a get of the list
-  gets-say : (i : ℕ) → i < length bs → Saying (Getting bs) (getD bs i [])
+  gets-say : (i : ℕ) → i < length bs → Saying (m .profile) (Getting (m .profile) bs) (getD bs i [])
   gets-say i h q e =
       let w = gets-at i h in
-      subst (Getting bs) (says-one (w .3) e) (getting (w .0) (w .1) (w .2) (record { at = i; within = h; says = w .3 }))
+      subst (Getting (m .profile) bs) (says-one (w .3) e) (getting (w .0) (w .1) (w .2) (record { at = i; within = h; says = w .3 }))
 
   -- where no two clash, the order changes neither the state nor what is granted
   pairs-any-order : NoClash Property bs m → AnyOrder bs m
   pairs-any-order N =
-      any-order m (Between bs m) (Getting bs) (gets-commuting Property R bs m S (held-together Property R bs m S N)) bs
-      (each-in [] (Saying (Getting bs)) bs gets-say)
+      any-order m (Between bs m) (Getting (m .profile) bs) (gets-commuting Property R bs m S (held-together Property R bs m S N)) bs
+      (each-in [] (Saying (m .profile) (Getting (m .profile) bs)) bs gets-say)
 
   pub pairs-exactly : OrdersAgree bs m ↔ NoClash Property bs m
   pairs-exactly = (agree-no-clash Property R m S bs p, λ N. pairs-any-order N .states)
 
 -- "For every reached monitor and every list of gets, all orders of the list leave equal states exactly when no two gets in it, each granted
 -- if it came alone, would together break the star property."
-pub gets-agree-exactly : (m : Monitor) → Reached m → (bs : List (List ℕ)) → Each IsGet bs → OrdersAgree bs m ↔ NoClash Star bs m
+pub gets-agree-exactly : (m : Monitor) → Reached m → (bs : List (List ℕ)) → Each (IsGet (m .profile)) bs → OrdersAgree bs m ↔ NoClash Star bs m
 gets-agree-exactly m r bs p = pairs-exactly Star star-pairs m (sound-reached m r) bs p
 
 -- and where they leave equal states, each get is granted in all orders or refused in all
-pub gets-agree-grants : (m : Monitor) → Reached m → (bs : List (List ℕ)) → Each IsGet bs → OrdersAgree bs m → AnyOrder bs m
+pub gets-agree-grants : (m : Monitor) → Reached m → (bs : List (List ℕ)) → Each (IsGet (m .profile)) bs → OrdersAgree bs m → AnyOrder bs m
 gets-agree-grants m r bs p agree =
     let S = sound-reached m r in
     pairs-any-order Star star-pairs m S bs p (pairs-exactly Star star-pairs m S bs p .0 agree)
 
 -- where two clash, the two orders that begin with them differ
-pub clash-orders-differ : (m : Monitor) → Reached m → (b c : List ℕ) (rest : List (List ℕ)) → Each IsGet (b ∷ c ∷ rest) → Clash Star m b c
+pub clash-orders-differ : (m : Monitor) → Reached m → (b c : List ℕ) (rest : List (List ℕ)) → Each (IsGet (m .profile)) (b ∷ c ∷ rest) → Clash Star m b c
     → after (b ∷ c ∷ rest) m ≢ after (c ∷ b ∷ rest) m
 clash-orders-differ m r b c rest p = clash-apart Star star-pairs m (sound-reached m r) b c rest (p .0) (p .1 .0) (p .1 .1)
 
 -- and no list of gets, in whatever order, leads to a state that holds both accesses
-pub clash-never-both : (m : Monitor) → Reached m → (b c : List ℕ) (K : Clash Star m b c) (ds : List (List ℕ)) → Each IsGet ds
+pub clash-never-both : (m : Monitor) → Reached m → (b c : List ℕ) (K : Clash Star m b c) (ds : List (List ℕ)) → Each (IsGet (m .profile)) ds
     → Holds (after ds m) (K .s) (K .p) (K .x) → Holds (after ds m) (K .t) (K .q) (K .y) → ⊥
 clash-never-both m r b c K ds p = never-both Star star-pairs m (sound-reached m r) b c K ds p
 
 -- so in no list of gets, in whatever order, are both granted
-pub clash-not-both-granted : (m : Monitor) → Reached m → (b c : List ℕ) → Clash Star m b c → (ds : List (List ℕ)) → Each IsGet ds
+pub clash-not-both-granted : (m : Monitor) → Reached m → (b c : List ℕ) → Clash Star m b c → (ds : List (List ℕ)) → Each (IsGet (m .profile)) ds
     → (i j : ℕ) → i < length ds → j < length ds → getD ds i [] ≡ b → getD ds j [] ≡ c → GrantedAt ds m i → GrantedAt ds m j → ⊥
 clash-not-both-granted m r = not-both-granted Star star-pairs m (sound-reached m r)
 
 -- a get does not clash with itself: "A list that holds the same get twice is included"
-pub never-itself : (m : Monitor) → Reached m → (b : List ℕ) → IsGet b → Clash Star m b b → ⊥
+pub never-itself : (m : Monitor) → Reached m → (b : List ℕ) → IsGet (m .profile) b → Clash Star m b b → ⊥
 never-itself m r b g K = clash-orders-differ m r b b [] (g, (g, tt)) K refl
 
 -- which of two is called the first does not matter
@@ -106,8 +106,8 @@ clash-turned m r b c K =
 
 -- ---- two gets by their replies
 
-module _ (m : Monitor) (S : Sound m) (b c : List ℕ) (s p : ℕ) (x : Mode) (t q : ℕ) (y : Mode) (says-first : decode b ≡ Says (Get s p x))
-    (says-second : decode c ≡ Says (Get t q y)) (first-alone : reply b m < 2) (second-alone : reply c m < 2) where
+module _ (m : Monitor) (S : Sound m) (b c : List ℕ) (s p : ℕ) (x : Mode) (t q : ℕ) (y : Mode) (says-first : decode (m .profile) b ≡ Says (Get s p x))
+    (says-second : decode (m .profile) c ≡ Says (Get t q y)) (first-alone : reply b m < 2) (second-alone : reply c m < 2) where
   first-granted : checks (Get s p x) m ≡ Granted
   first-granted = says-granted b (Get s p x) m says-first .0 first-alone
 
@@ -122,7 +122,7 @@ module _ (m : Monitor) (S : Sound m) (b c : List ℕ) (s p : ℕ) (x : Mode) (t 
   -- where they would together break star, the second gets 9 there, and else it is granted
   second-nine : (Star (withAccess (withAccess m s p x) t q y) → ⊥) → reply c (respond b m .monitor) ≡ 9
   second-nine n =
-      let broken = refused-after-first m S s p x t q y (decode-range b _ says-first) (decode-range c _ says-second) first-granted second-granted n in
+      let broken = refused-after-first m S s p x t q y (decode-range (m .profile) b _ says-first) (decode-range (m .profile) c _ says-second) first-granted second-granted n in
       ap (reply c) after-first ∙ ap (λ (r : Response). number (r .decision)) (respond-says c (Get t q y) (withAccess m s p x) says-second)
       ∙ ap (λ (r : Response). number (r .decision)) (step-refused (Get t q y) (withAccess m s p x) (ap refuses broken)) ∙ ap number broken
 
@@ -130,10 +130,10 @@ module _ (m : Monitor) (S : Sound m) (b c : List ℕ) (s p : ℕ) (x : Mode) (t 
   second-below T =
       subst (λ (n : Monitor). reply c n < 2) (sym after-first)
       (says-granted c (Get t q y) (withAccess m s p x) says-second .1
-      (granted-after-first m S s p x t q y (decode-range b _ says-first) (decode-range c _ says-second) first-granted second-granted T))
+      (granted-after-first m S s p x t q y (decode-range (m .profile) b _ says-first) (decode-range (m .profile) c _ says-second) first-granted second-granted T))
 
 -- two gets clash exactly where each gets 0 or 1 if it came alone, and the second gets 9 after the first
-pub clash-by-replies : (m : Monitor) → Reached m → (b c : List ℕ) → IsGet b → IsGet c
+pub clash-by-replies : (m : Monitor) → Reached m → (b c : List ℕ) → IsGet (m .profile) b → IsGet (m .profile) c
     → Clash Star m b c ↔ ((reply b m < 2) × (reply c m < 2) × (reply c (respond b m .monitor) ≡ 9))
 clash-by-replies m r b c v w =
     let S = sound-reached m r in (

@@ -21,6 +21,7 @@ use Rattle.model.specs.Rules.{changed, checks}
 use Rattle.model.proofs.Tests.{split, apart, le-or-lt}
 use Rattle.invariants.specs.Access.{withAccess, unheld}
 use Rattle.invariants.specs.Sound.{Sound}
+use Rattle.invariants.proofs.Inside.{get-within}
 use Rattle.invariants.proofs.Steps.{sound-afterwards}
 use Rattle.invariants.proofs.Added.{held-still, holds-now}
 use Rattle.request_orders.specs.StartOrder.{NoClash}
@@ -37,13 +38,13 @@ module _ (Property : Monitor → Type 0) (R : PairProperty Property) (bs : List 
   -- the state with two accesses added
   sound-one : (s o : ℕ) (x : Mode) → (s < 16) × (o < 64) → checks (Get s o x) m ≡ Granted → Sound (withAccess m s o x)
   unfolding changed
-  sound-one s o x r g = sound-afterwards (Get s o x) m r S g
+  sound-one s o x r g = sound-afterwards (Get s o x) m r (get-within m (S .inside) s o x g) S g
 
   module _ (N : NoClash Property bs m) where
     -- two gets of one subject at two places
     two-places : (i j : ℕ) → i < j → j < length bs → (s p q : ℕ) (x y : Mode)
-        → decode (getD bs i []) ≡ Says (Get s p x) → checks (Get s p x) m ≡ Granted
-        → decode (getD bs j []) ≡ Says (Get s q y) → checks (Get s q y) m ≡ Granted
+        → decode (m .profile) (getD bs i []) ≡ Says (Get s p x) → checks (Get s p x) m ≡ Granted
+        → decode (m .profile) (getD bs j []) ≡ Says (Get s q y) → checks (Get s q y) m ≡ Granted
         → (u v : ℕ) (a b : Mode)
         → Holds (withAccess (withAccess m s p x) s q y) s u a → Holds (withAccess (withAccess m s p x) s q y) s v b
         → R .test (unheld (object m u)) a (unheld (object m v)) b ≡ true
@@ -74,7 +75,7 @@ module _ (Property : Monitor → Type 0) (R : PairProperty Property) (bs : List 
         let S₂ = sound-one s q y k f in
         elim (ℕ-discrete (A .at) (C .at)) [
           | yes e ↦
-              let same = same-get (decode (getD bs (A .at) [])) s p q x y (A .says) (ap (λ (k : ℕ). decode (getD bs k [])) e ∙ C .says) in
+              let same = same-get (decode (m .profile) (getD bs (A .at) [])) s p q x y (A .says) (ap (λ (k : ℕ). decode (m .profile) (getD bs k [])) e ∙ C .says) in
               let new = holds-now m S s p x (r .0) (r .1) in
               subst₂ (λ (j : ℕ) (z : Mode). R .test (unheld (object m p)) x (unheld (object m j)) z ≡ true) (same .0) (same .1)
               (beside Property R bs m S s p x g s p p x x new new)

@@ -24,6 +24,7 @@ use Rattle.invariants.specs.Access.{withAccess, unheld}
 use Rattle.invariants.specs.Sound.{Sound}
 use Rattle.invariants.proofs.Granted.{granted-get}
 use Rattle.invariants.proofs.Secure.{star-in, star-for, star-of, star-get}
+use Rattle.invariants.proofs.Inside.{get-within}
 use Rattle.invariants.proofs.Steps.{sound-afterwards}
 use Rattle.invariants.proofs.Added.{same-unheld, held-now, holds-now}
 use Rattle.invariants.proofs.ModePairs.{star-added}
@@ -40,7 +41,7 @@ module _ (m : Monitor) (S : Sound m) (s p : ℕ) (x : Mode) (t q : ℕ) (y : Mod
 
   sound-one : Sound one
   unfolding changed one
-  sound-one = sound-afterwards (Get s p x) m first-range S first
+  sound-one = sound-afterwards (Get s p x) m first-range (get-within m (S .inside) s p x first) S first
 
   label-same : (r : ℕ) → object one r .label ≡ object m r .label
   unfolding one
@@ -51,7 +52,7 @@ module _ (m : Monitor) (S : Sound m) (s p : ℕ) (x : Mode) (t q : ℕ) (y : Mod
   unfolding changed
   beside =
       star-added m S t q y (second-range .0) (second-range .1) (labelled m t q y second) .0
-      (sound-afterwards (Get t q y) m second-range S second .secure .star)
+      (sound-afterwards (Get t q y) m second-range (get-within m (S .inside) t q y second) S second .secure .star)
 
   -- and beside the first, where both are of one subject
   after-first : ((s ≡ t) → Kept (entry x y) (object m p .label) (object m q .label)) → KeptByHeld one t q y

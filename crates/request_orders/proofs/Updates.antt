@@ -60,7 +60,7 @@ objects-comm : (q r : Request) (m : Monitor)
     → afterwards q (afterwards r m) ≡ afterwards r (afterwards q m)
 objects-comm q r m h =
     let p = update-comm (changed q) (changed r) noObject (m .objects) (target q) (target r) h in
-    λ i. record { subjects = m .subjects; objects = p i }
+    λ i. record { profile = m .profile; subjects = m .subjects; objects = p i }
 
 -- a give changes rights and a release accesses
 pub give-release-comm : (m : Monitor) (a s o : ℕ) (x : Mode) (t p : ℕ) (y : Mode)
