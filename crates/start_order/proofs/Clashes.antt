@@ -8,6 +8,7 @@ use mathlib.Core.Bool.{true, not, _&&_}
 use mathlib.Core.List.{List}
 use lib.Dec.{eqb}
 use borrow.Author.Tests.{eqb-true, eq-eqb, leb-false, lt-leb}
+use Rattle.model.specs.declared.Profile.{Profile}
 use Rattle.model.specs.declared.Monitor.{Monitor}
 use Rattle.model.specs.declared.Mode.{Mode}
 use Rattle.model.specs.declared.Request.the-variants.{Get}
@@ -37,25 +38,25 @@ use Rattle.start_order.proofs.Trying.{wanted-says}
 -- ---- one get
 
 -- what a get asks for
-pub wanted-get : (b : List ℕ) (s o : ℕ) (x : Mode) → decode b ≡ Says (Get s o x) → wanted b ≡ Access s o x
+pub wanted-get : (k : Profile) (b : List ℕ) (s o : ℕ) (x : Mode) → decode k b ≡ Says (Get s o x) → wanted k b ≡ Access s o x
 unfolding wanted
-wanted-get b s o x e = ap wantedBy e
+wanted-get k b s o x e = ap wantedBy e
 
 -- bytes that ask for an access say a get, and no others do
-access-in : (b : List ℕ) (w : Wanted) → wanted b ≡ w → isAccess w ≡ true → IsGet b
+access-in : (k : Profile) (b : List ℕ) (w : Wanted) → wanted k b ≡ w → isAccess w ≡ true → IsGet k b
 unfolding isAccess
-access-in b (Access s o x) e t = (s, o, x, wanted-says b s o x e)
-access-in b Nothing e t = clash (sym t)
+access-in k b (Access s o x) e t = (s, o, x, wanted-says k b s o x e)
+access-in k b Nothing e t = clash (sym t)
 
-pub access-get : (b : List ℕ) → (isAccess (wanted b) ≡ true) ↔ IsGet b
+pub access-get : (k : Profile) (b : List ℕ) → (isAccess (wanted k b) ≡ true) ↔ IsGet k b
 unfolding isAccess
-access-get b = (access-in b (wanted b) refl, λ g. ap isAccess (wanted-get b (g .0) (g .1) (g .2) (g .3)))
+access-get k b = (access-in k b (wanted k b) refl, λ g. ap isAccess (wanted-get k b (g .0) (g .1) (g .2) (g .3)))
 
 -- the test of a get that came alone is its reply, 0 or 1
-alone-reply : (m : Monitor) (b : List ℕ) (s o : ℕ) (x : Mode) → decode b ≡ Says (Get s o x) → (alone m (wanted b) ≡ true) ↔ (reply b m < 2)
+alone-reply : (m : Monitor) (b : List ℕ) (s o : ℕ) (x : Mode) → decode (m .profile) b ≡ Says (Get s o x) → (alone m (wanted (m .profile) b) ≡ true) ↔ (reply b m < 2)
 unfolding alone
 alone-reply m b s o x e =
-    let asked : alone m (wanted b) ≡ not (refuses (step (Get s o x) m .decision)) = ap (alone m) (wanted-get b s o x e) in
+    let asked : alone m (wanted (m .profile) b) ≡ not (refuses (step (Get s o x) m .decision)) = ap (alone m) (wanted-get (m .profile) b s o x e) in
     let said : reply b m ≡ number (step (Get s o x) m .decision) = ap (λ (r : Response). number (r .decision)) (respond-says b (Get s o x) m e) in (
       λ t. let h : number (step (Get s o x) m .decision) < 2 = leb-false 2 _ (not-on _ (sym asked ∙ t)) in omega arith,
       λ h. let k : number (step (Get s o x) m .decision) < 2 = omega (arith, h, said) in asked ∙ ap not (lt-leb 2 _ k),
@@ -67,9 +68,9 @@ alone-access m (Access s o x) t = refl
 alone-access m Nothing t = clash (sym t)
 
 -- "granted if it came alone": of bytes that say a get and are replied 0 or 1, and of no others
-pub alone-exactly : (m : Monitor) (b : List ℕ) → (alone m (wanted b) ≡ true) ↔ (IsGet b × (reply b m < 2))
+pub alone-exactly : (m : Monitor) (b : List ℕ) → (alone m (wanted (m .profile) b) ≡ true) ↔ (IsGet (m .profile) b × (reply b m < 2))
 alone-exactly m b = (
-  λ t. let g = access-get b .0 (alone-access m (wanted b) t) in (g, alone-reply m b (g .0) (g .1) (g .2) (g .3) .0 t),
+  λ t. let g = access-get (m .profile) b .0 (alone-access m (wanted (m .profile) b) t) in (g, alone-reply m b (g .0) (g .1) (g .2) (g .3) .0 t),
   λ h. alone-reply m b (h .0 .0) (h .0 .1) (h .0 .2) (h .0 .3) .1 (h .1),
 )
 
@@ -83,24 +84,24 @@ breaks-accesses m (Access s p x) Nothing e = clash (sym e)
 breaks-accesses m (Access s p x) (Access t q y) e = (refl, refl)
 
 -- the test of two accesses
-breaks-at : (m : Monitor) (b c : List ℕ) (s p : ℕ) (x : Mode) (t q : ℕ) (y : Mode) → decode b ≡ Says (Get s p x) → decode c ≡ Says (Get t q y)
-    → breaks m (wanted b) (wanted c) ≡ (eqb s t && not (kept (entry x y) (object m p .label) (object m q .label)))
+breaks-at : (m : Monitor) (b c : List ℕ) (s p : ℕ) (x : Mode) (t q : ℕ) (y : Mode) → decode (m .profile) b ≡ Says (Get s p x) → decode (m .profile) c ≡ Says (Get t q y)
+    → breaks m (wanted (m .profile) b) (wanted (m .profile) c) ≡ (eqb s t && not (kept (entry x y) (object m p .label) (object m q .label)))
 unfolding breaks
-breaks-at m b c s p x t q y d e = ap₂ (breaks m) (wanted-get b s p x d) (wanted-get c t q y e)
+breaks-at m b c s p x t q y d e = ap₂ (breaks m) (wanted-get (m .profile) b s p x d) (wanted-get (m .profile) c t q y e)
 
-module _ (m : Monitor) (R : Reached m) (b c : List ℕ) (s p : ℕ) (x : Mode) (t q : ℕ) (y : Mode) (d : decode b ≡ Says (Get s p x))
-    (e : decode c ≡ Says (Get t q y)) (g : reply b m < 2) (h : reply c m < 2) where
+module _ (m : Monitor) (R : Reached m) (b c : List ℕ) (s p : ℕ) (x : Mode) (t q : ℕ) (y : Mode) (d : decode (m .profile) b ≡ Says (Get s p x))
+    (e : decode (m .profile) c ≡ Says (Get t q y)) (g : reply b m < 2) (h : reply c m < 2) where
   -- "would together break the star property": the table of mode pairs says it
-  breaks-star : (breaks m (wanted b) (wanted c) ≡ true) ↔ (Star (withAccess (withAccess m s p x) t q y) → ⊥)
+  breaks-star : (breaks m (wanted (m .profile) b) (wanted (m .profile) c) ≡ true) ↔ (Star (withAccess (withAccess m s p x) t q y) → ⊥)
   breaks-star =
-      let table = together-by-table m (sound-reached m R) s p x t q y (decode-range b _ d) (decode-range c _ e) (says-granted b _ m d .0 g) (says-granted c _ m e .0 h) in
+      let table = together-by-table m (sound-reached m R) s p x t q y (decode-range (m .profile) b _ d) (decode-range (m .profile) c _ e) (says-granted b _ m d .0 g) (says-granted c _ m e .0 h) in
       let test = breaks-at m b c s p x t q y d e in
       let decides = kept-decides (entry x y) (object m p .label) (object m q .label) in (
         λ k T.
             let both = sym test ∙ k in
             let same = eqb-true s t (and-left (eqb s t) _ both) in
             apart (decides .1 (table .0 T same)) (not-on _ (and-right (eqb s t) _ both)),
-        λ n. split (breaks m (wanted b) (wanted c)) (λ k. k)
+        λ n. split (breaks m (wanted (m .profile) b) (wanted (m .profile) c)) (λ k. k)
             (λ k. absurd (n (table .1 (λ same. decides .0
             (split (kept (entry x y) (object m p .label) (object m q .label)) (λ w. w)
             (λ w. apart (test ∙ and-both (eq-eqb s t same) (ap not w)) k)))))),
@@ -111,9 +112,9 @@ pub clashes-exactly : (m : Monitor) → Reached m → (b c : List ℕ) → (clas
 unfolding clashes
 clashes-exactly m R b c = (
   λ k.
-      let later = and-right (alone m (wanted b)) _ k in
-      let first = alone-exactly m b .0 (and-left (alone m (wanted b)) _ k) in
-      let second = alone-exactly m c .0 (and-left (alone m (wanted c)) _ later) in
+      let later = and-right (alone m (wanted (m .profile) b)) _ k in
+      let first = alone-exactly m b .0 (and-left (alone m (wanted (m .profile) b)) _ k) in
+      let second = alone-exactly m c .0 (and-left (alone m (wanted (m .profile) c)) _ later) in
       let v = first .0 in
       let w = second .0 in
       record {
@@ -127,7 +128,7 @@ clashes-exactly m R b c = (
         second = w .3;
         first-alone = first .1;
         second-alone = second .1;
-        together = breaks-star m R b c _ _ _ _ _ _ (v .3) (w .3) (first .1) (second .1) .0 (and-right (alone m (wanted c)) _ later);
+        together = breaks-star m R b c _ _ _ _ _ _ (v .3) (w .3) (first .1) (second .1) .0 (and-right (alone m (wanted (m .profile) c)) _ later);
       },
   λ K. and-both (alone-exactly m b .1 ((K .s, K .p, K .x, K .first), K .first-alone))
       (and-both (alone-exactly m c .1 ((K .t, K .q, K .y, K .second), K .second-alone))

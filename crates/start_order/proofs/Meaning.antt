@@ -10,6 +10,7 @@ use mathlib.Core.List.{List, []}
 use lib.ListN.{length, getD}
 use lib.Dec.{ltb}
 use borrow.Author.Tests.{ltb-true, ltb-false, lt-ltb}
+use Rattle.model.specs.declared.Profile.{Profile}
 use Rattle.model.specs.declared.Monitor.{Monitor}
 use Rattle.model.specs.Properties.{Star}
 use Rattle.model.specs.Beginnings.{Reached}
@@ -29,29 +30,29 @@ use Rattle.start_order.proofs.Clashes.{access-get, clashes-exactly}
 
 -- ---- the first piece that is no get
 
-module _ (bs : List (List ℕ)) where
-  other-means : First (length bs) (isOther bs) (firstOther bs)
-  other-means = first-means (length bs) (isOther bs)
+module _ (p : Profile) (bs : List (List ℕ)) where
+  other-means : First (length bs) (isOther p bs) (firstOther p bs)
+  other-means = first-means (length bs) (isOther p bs)
 
-  get-before : (k : ℕ) → k < firstOther bs → IsGet (getD bs k [])
-  get-before k h = access-get (getD bs k []) .0 (not-off _ (other-means .none k h))
+  get-before : (k : ℕ) → k < firstOther p bs → IsGet p (getD bs k [])
+  get-before k h = access-get p (getD bs k []) .0 (not-off _ (other-means .none k h))
 
-  pub other-found : firstOther bs < length bs → FirstOther bs (firstOther bs)
+  pub other-found : firstOther p bs < length bs → FirstOther p bs (firstOther p bs)
   other-found h =
       record {
         within = h;
-        no-get = λ g. apart (access-get (getD bs (firstOther bs) []) .1 g) (not-on _ (other-means .passes h));
+        no-get = λ g. apart (access-get p (getD bs (firstOther p bs) []) .1 g) (not-on _ (other-means .passes h));
         gets-before = get-before;
       }
 
-  pub all-gets : length bs ≤ firstOther bs → Each IsGet bs
-  all-gets h = each-in [] IsGet bs (λ k w. get-before k (omega arith))
+  pub all-gets : length bs ≤ firstOther p bs → Each (IsGet p) bs
+  all-gets h = each-in [] (IsGet p) bs (λ k w. get-before k (omega arith))
 
 -- ---- the first two gets that clash
 
-module _ (m : Monitor) (R : Reached m) (bs : List (List ℕ)) (G : Each IsGet bs) where
-  gets-at : (i : ℕ) → i < length bs → IsGet (getD bs i [])
-  gets-at = each-at [] IsGet bs G
+module _ (m : Monitor) (R : Reached m) (bs : List (List ℕ)) (G : Each (IsGet (m .profile)) bs) where
+  gets-at : (i : ℕ) → i < length bs → IsGet (m .profile) (getD bs i [])
+  gets-at = each-at [] (IsGet (m .profile)) bs G
 
   with-means : First (length bs) (hasPartner m bs) (firstWith m bs)
   with-means = first-means (length bs) (hasPartner m bs)
@@ -106,20 +107,20 @@ answer-means m R bs =
     (λ e. ltb-true mostPieces (length bs) e)
     (λ e.
     let few : length bs ≤ 4096 = ltb-false mostPieces (length bs) e in
-    cond-all (Means m bs) (ltb (firstOther bs) (length bs)) (NoGet (firstOther bs)) _
-    (λ w. (few, other-found bs (ltb-true _ _ w)))
+    cond-all (Means m bs) (ltb (firstOther (m .profile) bs) (length bs)) (NoGet (firstOther (m .profile) bs)) _
+    (λ w. (few, other-found (m .profile) bs (ltb-true _ _ w)))
     (λ w.
-    let G = all-gets bs (ltb-false _ _ w) in
+    let G = all-gets (m .profile) bs (ltb-false _ _ w) in
     cond-all (Means m bs) (ltb (firstWith m bs) (length bs)) (Clashing (firstWith m bs) (partner m bs (firstWith m bs))) Agree
     (λ v. (few, G, first-found m R bs G (ltb-true _ _ v)))
     (λ v. (few, G, none-agree m R bs G (ltb-false _ _ v)))))
 
 -- no two answers mean what is so at once
-pub other-not-all : {P : Type 0} (bs : List (List ℕ)) (i : ℕ) → FirstOther bs i → Each IsGet bs → P
-other-not-all bs i F G = absurd (F .no-get (each-at [] IsGet bs G i (F .within)))
+pub other-not-all : {P : Type 0} (p : Profile) (bs : List (List ℕ)) (i : ℕ) → FirstOther p bs i → Each (IsGet p) bs → P
+other-not-all p bs i F G = absurd (F .no-get (each-at [] (IsGet p) bs G i (F .within)))
 
-pub others-same : (bs : List (List ℕ)) (i k : ℕ) → FirstOther bs i → FirstOther bs k → i ≡ k
-others-same bs i k F G =
+pub others-same : (p : Profile) (bs : List (List ℕ)) (i k : ℕ) → FirstOther p bs i → FirstOther p bs k → i ≡ k
+others-same p bs i k F G =
     ⊎-elim (λ (w : i ≤ k). ⊎-elim (λ (e : i ≡ k). e) (λ (v : i < k). absurd (F .no-get (G .gets-before i v))) (eq-or-lt-of-le w))
     (λ (w : k < i). absurd (G .no-get (F .gets-before k w))) (le-or-lt i k)
 
@@ -139,15 +140,15 @@ module _ (m : Monitor) (R : Reached m) (bs : List (List ℕ)) where
   means-one TooMany (Clashing k l) p q = absurd (omega (arith, p, q .0))
   means-one TooMany Agree p q = absurd (omega (arith, p, q .0))
   means-one (NoGet i) TooMany p q = absurd (omega (arith, p .0, q))
-  means-one (NoGet i) (NoGet k) p q = ap NoGet (others-same bs i k (p .1) (q .1))
-  means-one (NoGet i) (Clashing k l) p q = other-not-all bs i (p .1) (q .1)
-  means-one (NoGet i) Agree p q = other-not-all bs i (p .1) (q .1)
+  means-one (NoGet i) (NoGet k) p q = ap NoGet (others-same (m .profile) bs i k (p .1) (q .1))
+  means-one (NoGet i) (Clashing k l) p q = other-not-all (m .profile) bs i (p .1) (q .1)
+  means-one (NoGet i) Agree p q = other-not-all (m .profile) bs i (p .1) (q .1)
   means-one (Clashing i j) TooMany p q = absurd (omega (arith, p .0, q))
-  means-one (Clashing i j) (NoGet k) p q = other-not-all bs k (q .1) (p .1)
+  means-one (Clashing i j) (NoGet k) p q = other-not-all (m .profile) bs k (q .1) (p .1)
   means-one (Clashing i j) (Clashing k l) p q = let e = clashes-same m bs i j k l (p .2) (q .2) in ap₂ Clashing (e .0) (e .1)
   means-one (Clashing i j) Agree p q = absurd (clash-disagree m R bs (p .1) i j (p .2) (q .2))
   means-one Agree TooMany p q = absurd (omega (arith, p .0, q))
-  means-one Agree (NoGet k) p q = other-not-all bs k (q .1) (p .1)
+  means-one Agree (NoGet k) p q = other-not-all (m .profile) bs k (q .1) (p .1)
   means-one Agree (Clashing k l) p q = absurd (clash-disagree m R bs (q .1) k l (q .2) (p .2))
   means-one Agree Agree p q = refl
 

@@ -12,6 +12,7 @@ use lib.Dec.{ltb}
 use borrow.Author.Count.{below-more}
 use borrow.Author.Tests.{lt-ltb, le-ltb}
 use Rattle.bits.specs.Bits.{bit}
+use Rattle.model.specs.declared.Profile.{Profile}
 use Rattle.model.specs.declared.Monitor.{Monitor}
 use Rattle.model.specs.Program.{pieces}
 use Rattle.model.proofs.Tests.{split, cond-true, cond-false}
@@ -51,8 +52,8 @@ copied-all u copy i n C h = ext-getD [] copy u (C .size ∙ sym n) (λ k w. C .s
 -- ---- the tests that the three searches make
 
 -- no get stands at i
-abbrev pub isOther : List (List ℕ) → ℕ → Bool
-isOther bs i = not (isAccess (wanted (getD bs i [])))
+abbrev pub isOther : Profile → List (List ℕ) → ℕ → Bool
+isOther p bs i = not (isAccess (wanted p (getD bs i [])))
 
 -- the get at j stands behind i and clashes with the one at i
 abbrev pub isPartner : Monitor → List (List ℕ) → ℕ → ℕ → Bool
@@ -75,25 +76,25 @@ pub record Listing (requests list₀ : List ℕ) (u₀ : Rows) (count : ℕ) (u 
   pub so-far : Listed (stateIn u₀) (pieces requests) i list
 
 pub listed-more : (m : Monitor) (bs : List (List ℕ)) (i : ℕ) (list : List ℕ) (r : ℕ) → i < length list → Listed m bs i list
-    → r ≡ bit (alone m (wanted (getD bs i []))) → Listed m bs (i + 1) (set list i r)
-listed-more m bs i list r h L e = stored-more (λ k n. n ≡ bit (alone m (wanted (getD bs k [])))) list i r 0 h L e
+    → r ≡ bit (alone m (wanted (m .profile) (getD bs i []))) → Listed m bs (i + 1) (set list i r)
+listed-more m bs i list r h L e = stored-more (λ k n. n ≡ bit (alone m (wanted (m .profile) (getD bs k [])))) list i r 0 h L e
 
 module _ (m : Monitor) (bs : List (List ℕ)) (count : ℕ) (list : List ℕ) (T : Tried m bs count list) where
   -- what a byte of the list says
-  pub listed-on : (j : ℕ) → j < count → getD list j 0 ≡ 1 → alone m (wanted (getD bs j [])) ≡ true
-  listed-on j h e = split (alone m (wanted (getD bs j []))) (λ t. t) (λ t. absurd (omega (arith, e, T .listed j h, ap bit t)))
+  pub listed-on : (j : ℕ) → j < count → getD list j 0 ≡ 1 → alone m (wanted (m .profile) (getD bs j [])) ≡ true
+  listed-on j h e = split (alone m (wanted (m .profile) (getD bs j []))) (λ t. t) (λ t. absurd (omega (arith, e, T .listed j h, ap bit t)))
 
-  pub listed-off : (j : ℕ) → j < count → getD list j 0 ≢ 1 → alone m (wanted (getD bs j [])) ≡ false
-  listed-off j h e = split (alone m (wanted (getD bs j []))) (λ t. absurd (e (T .listed j h ∙ ap bit t))) (λ t. t)
+  pub listed-off : (j : ℕ) → j < count → getD list j 0 ≢ 1 → alone m (wanted (m .profile) (getD bs j [])) ≡ false
+  listed-off j h e = split (alone m (wanted (m .profile) (getD bs j []))) (λ t. absurd (e (T .listed j h ∙ ap bit t))) (λ t. t)
 
 -- ---- the partner of the get at i
 
 module _ (m : Monitor) (bs : List (List ℕ)) (i : ℕ) where
   -- a get that is refused alone has none
-  pub refused-none : alone m (wanted (getD bs i [])) ≡ false → (n : ℕ) → NoneBelow (isPartner m bs i) n
+  pub refused-none : alone m (wanted (m .profile) (getD bs i [])) ≡ false → (n : ℕ) → NoneBelow (isPartner m bs i) n
   unfolding clashes
   refused-none e n j h =
-      ap (λ (b : Bool). ltb i j && (b && (alone m (wanted (getD bs j [])) && breaks m (wanted (getD bs i [])) (wanted (getD bs j []))))) e ∙ off (ltb i j)
+      ap (λ (b : Bool). ltb i j && (b && (alone m (wanted (m .profile) (getD bs j [])) && breaks m (wanted (m .profile) (getD bs i [])) (wanted (m .profile) (getD bs j []))))) e ∙ off (ltb i j)
     where
       off : (b : Bool) → (b && false) ≡ false
       off true = refl
@@ -104,12 +105,12 @@ module _ (m : Monitor) (bs : List (List ℕ)) (i : ℕ) where
   none-before j h = ap (λ (b : Bool). b && clashes m (getD bs i []) (getD bs j [])) (le-ltb i j (omega arith))
 
   -- behind it the two are asked for
-  pub partner-at : alone m (wanted (getD bs i [])) ≡ true → (j : ℕ) → i < j
-      → isPartner m bs i j ≡ (alone m (wanted (getD bs j [])) && breaks m (wanted (getD bs i [])) (wanted (getD bs j [])))
+  pub partner-at : alone m (wanted (m .profile) (getD bs i [])) ≡ true → (j : ℕ) → i < j
+      → isPartner m bs i j ≡ (alone m (wanted (m .profile) (getD bs j [])) && breaks m (wanted (m .profile) (getD bs i [])) (wanted (m .profile) (getD bs j [])))
   unfolding clashes
   partner-at e j h =
       ap (λ (b : Bool). b && clashes m (getD bs i []) (getD bs j [])) (lt-ltb i j h)
-      ∙ ap (λ (b : Bool). b && (alone m (wanted (getD bs j [])) && breaks m (wanted (getD bs i [])) (wanted (getD bs j [])))) e
+      ∙ ap (λ (b : Bool). b && (alone m (wanted (m .profile) (getD bs j [])) && breaks m (wanted (m .profile) (getD bs i [])) (wanted (m .profile) (getD bs j [])))) e
 
 -- ---- the first get that has a partner
 
@@ -143,16 +144,16 @@ module _ (m : Monitor) (bs : List (List ℕ)) (count : ℕ) (size : count ≡ le
   answer-many h = sym (cond-true (ltb mostPieces (length bs)) _ _ (lt-ltb mostPieces (length bs) (omega (arith, size))))
 
   -- not too many: what else is found
-  answer-few : count ≤ mostPieces → startOrder bs m ≡ cond (ltb (firstOther bs) (length bs)) (NoGet (firstOther bs)) (firstClash m bs)
+  answer-few : count ≤ mostPieces → startOrder bs m ≡ cond (ltb (firstOther (m .profile) bs) (length bs)) (NoGet (firstOther (m .profile) bs)) (firstClash m bs)
   unfolding startOrder
   answer-few h = cond-false (ltb mostPieces (length bs)) _ _ (le-ltb mostPieces (length bs) (omega (arith, size)))
 
-  pub answer-other : count ≤ mostPieces → (k : ℕ) → k ≡ firstOther bs → k < count → NoGet k ≡ startOrder bs m
+  pub answer-other : count ≤ mostPieces → (k : ℕ) → k ≡ firstOther (m .profile) bs → k < count → NoGet k ≡ startOrder bs m
   answer-other h k e w =
-      let within : firstOther bs < length bs = omega (arith, sym e, size) in
-      ap NoGet e ∙ sym (answer-few h ∙ cond-true (ltb (firstOther bs) (length bs)) (NoGet (firstOther bs)) (firstClash m bs) (lt-ltb _ _ within))
+      let within : firstOther (m .profile) bs < length bs = omega (arith, sym e, size) in
+      ap NoGet e ∙ sym (answer-few h ∙ cond-true (ltb (firstOther (m .profile) bs) (length bs)) (NoGet (firstOther (m .profile) bs)) (firstClash m bs) (lt-ltb _ _ within))
 
-  pub answer-gets : count ≤ mostPieces → (k : ℕ) → k ≡ firstOther bs → count ≤ k → firstClash m bs ≡ startOrder bs m
+  pub answer-gets : count ≤ mostPieces → (k : ℕ) → k ≡ firstOther (m .profile) bs → count ≤ k → firstClash m bs ≡ startOrder bs m
   answer-gets h k e w =
-      let end : length bs ≤ firstOther bs = omega (arith, sym e, size) in
-      sym (answer-few h ∙ cond-false (ltb (firstOther bs) (length bs)) (NoGet (firstOther bs)) (firstClash m bs) (le-ltb _ _ end))
+      let end : length bs ≤ firstOther (m .profile) bs = omega (arith, sym e, size) in
+      sym (answer-few h ∙ cond-false (ltb (firstOther (m .profile) bs) (length bs)) (NoGet (firstOther (m .profile) bs)) (firstClash m bs) (le-ltb _ _ end))

@@ -6,6 +6,7 @@ use mathlib.Core.Bool.{Bool, true, false, cond, not, _&&_}
 use mathlib.Core.List.{List, []}
 use lib.ListN.{length, getD}
 use lib.Dec.{eqb, ltb}
+use Rattle.model.specs.declared.Profile.{Profile}
 use Rattle.model.specs.declared.Monitor.{Monitor}
 use Rattle.model.specs.declared.Request.{Request}
 use Rattle.model.specs.declared.Request.the-variants.{Get, Release, Give, Rescind, Create, Delete, ChangeLevel}
@@ -38,8 +39,9 @@ abbrev pub wantedBy : Decoded → Wanted
 wantedBy Malformed = Nothing
 wantedBy (Says q) = wantedOf q
 
-unfoldable pub wanted : List ℕ → Wanted
-wanted b = wantedBy (decode b)
+-- as bytes say it to a monitor of a profile
+unfoldable pub wanted : Profile → List ℕ → Wanted
+wanted p b = wantedBy (decode p b)
 
 unfoldable pub isAccess : Wanted → Bool
 isAccess (Access s o x) = true
@@ -65,7 +67,7 @@ breaks m (Access s p x) (Access t q y) = eqb s t && not (kept (entry x y) (objec
 
 -- "two gets .., each granted if it came alone, would together break the star property"
 unfoldable pub clashes : Monitor → List ℕ → List ℕ → Bool
-clashes m b c = alone m (wanted b) && (alone m (wanted c) && breaks m (wanted b) (wanted c))
+clashes m b c = alone m (wanted (m .profile) b) && (alone m (wanted (m .profile) c) && breaks m (wanted (m .profile) b) (wanted (m .profile) c))
 
 -- ---- a list
 
@@ -74,8 +76,8 @@ abbrev pub mostPieces : ℕ
 mostPieces = 4096
 
 -- the place of the first piece that is no get, or the length
-abbrev pub firstOther : List (List ℕ) → ℕ
-firstOther bs = firstBelow (length bs) (λ i. not (isAccess (wanted (getD bs i []))))
+abbrev pub firstOther : Profile → List (List ℕ) → ℕ
+firstOther p bs = firstBelow (length bs) (λ i. not (isAccess (wanted p (getD bs i []))))
 
 -- the place of the first get behind i that clashes with the one at i, or the length
 abbrev pub partner : Monitor → List (List ℕ) → ℕ → ℕ
@@ -93,4 +95,4 @@ firstClash m bs =
 unfoldable pub startOrder : List (List ℕ) → Monitor → StartOrder
 startOrder bs m =
     cond (ltb mostPieces (length bs)) TooMany
-    (cond (ltb (firstOther bs) (length bs)) (NoGet (firstOther bs)) (firstClash m bs))
+    (cond (ltb (firstOther (m .profile) bs) (length bs)) (NoGet (firstOther (m .profile) bs)) (firstClash m bs))

@@ -5,6 +5,7 @@ use mathlib.Core.Path.{_≡_}
 use mathlib.Core.Logic.{_⊎_}
 use mathlib.Core.List.{List, []}
 use lib.ListN.{length, getD}
+use Rattle.model.specs.declared.Profile.{Profile}
 use Rattle.model.specs.declared.Monitor.{Monitor}
 use Rattle.model.specs.Properties.{Star}
 use Rattle.orders.specs.Orders.{Each}
@@ -13,11 +14,11 @@ use Rattle.request_orders.specs.StartOrder.{IsGet, Clash}
 use Rattle.start_order.specs.declared.StartOrder.{StartOrder}
 use Rattle.start_order.specs.declared.StartOrder.the-variants.{Agree, Clash as Clashing, NoGet, TooMany}
 
--- the piece at i is the first that is no get
-pub record FirstOther (bs : List (List ℕ)) (i : ℕ) : Type 0 where
+-- the piece at i is the first that is no get, to a monitor of the profile
+pub record FirstOther (p : Profile) (bs : List (List ℕ)) (i : ℕ) : Type 0 where
   pub within : i < length bs
-  pub no-get : IsGet (getD bs i []) → ⊥
-  pub gets-before : (k : ℕ) → k < i → IsGet (getD bs k [])
+  pub no-get : IsGet p (getD bs i []) → ⊥
+  pub gets-before : (k : ℕ) → k < i → IsGet p (getD bs k [])
 
 -- the gets at i and j clash, and no two with a lesser first place, nor with the same and a lesser second
 pub record FirstClash (m : Monitor) (bs : List (List ℕ)) (i j : ℕ) : Type 0 where
@@ -28,9 +29,9 @@ pub record FirstClash (m : Monitor) (bs : List (List ℕ)) (i j : ℕ) : Type 0 
 
 abbrev pub Means : Monitor → List (List ℕ) → StartOrder → Type 0
 Means m bs TooMany = 4096 < length bs
-Means m bs (NoGet i) = (length bs ≤ 4096) × FirstOther bs i
-Means m bs (Clashing i j) = (length bs ≤ 4096) × Each IsGet bs × FirstClash m bs i j
-Means m bs Agree = (length bs ≤ 4096) × Each IsGet bs × OrdersAgree bs m
+Means m bs (NoGet i) = (length bs ≤ 4096) × FirstOther (m .profile) bs i
+Means m bs (Clashing i j) = (length bs ≤ 4096) × Each (IsGet (m .profile)) bs × FirstClash m bs i j
+Means m bs Agree = (length bs ≤ 4096) × Each (IsGet (m .profile)) bs × OrdersAgree bs m
 
 -- the places that an answer names are below 4,096, and the first of two is the lower one
 abbrev pub PlacesFit : StartOrder → Type 0

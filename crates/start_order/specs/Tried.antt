@@ -10,7 +10,7 @@ use Rattle.start_order.specs.Answers.{wanted, alone}
 
 -- of the first k pieces each has a 1 in the list where it is granted alone, and else a 0
 abbrev pub Listed : Monitor → List (List ℕ) → ℕ → List ℕ → Type 0
-Listed m bs k list = (i : ℕ) → i < k → getD list i 0 ≡ bit (alone m (wanted (getD bs i [])))
+Listed m bs k list = (i : ℕ) → i < k → getD list i 0 ≡ bit (alone m (wanted (m .profile) (getD bs i [])))
 
 -- all pieces are listed
 pub record Tried (m : Monitor) (bs : List (List ℕ)) (count : ℕ) (list : List ℕ) : Type 0 where

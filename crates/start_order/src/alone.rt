@@ -14,6 +14,7 @@ use asking::ask;
 use unit::ROWS;
 use unit::flag;
 use unit::held_by;
+use unit::profile_of;
 use unit::set_held;
 
 // The rows once more, for gets that are tried.
@@ -32,10 +33,11 @@ pub fn copy_rows(unit: &[[u8; 16]], copy: &mut [[u8; 16]])
 // 1 where the piece is a get that is granted on the unit as it is, else 0. It is carried out, and then the actor's set is what it was before.
 fn is_alone(unit: &mut [[u8; 16]], piece: &[u8]) -> u8
     requires { do ⌜ (← ⟦unit.len()⟧) ≡ rowCount ⌝ }
-    ensures answered { λ r. ⌜ r ≡ bit (alone (stateIn (now (unit .entry))) (wanted (now (piece .entry)))) ⌝ }
+    ensures answered { λ r. ⌜ r ≡ bit (alone (stateIn (now (unit .entry))) (wanted (stateIn (now (unit .entry)) .profile) (now (piece .entry)))) ⌝ }
     ensures left { λ r. ⌜ now (unit .exit) ≡ now (unit .entry) ⌝ }
 {
-    let get = access_in(piece);
+    let profile = profile_of(unit);
+    let get = access_in(profile, piece);
     match get {
         Wanted::Nothing => 0,
         Wanted::Access(s, o, x) => {

@@ -13,6 +13,7 @@ use crate::search::first_clash;
 use crate::search::first_other;
 use turns::piece_count;
 use unit::ROWS;
+use unit::profile_of;
 
 // As many pieces as are looked at.
 pub const MOST: usize = 4096;
@@ -34,7 +35,8 @@ pub fn start_order(unit: &[[u8; 16]], requests: &[u8]) -> StartOrder
     if MOST < count {
         return StartOrder::TooMany;
     }
-    let other = first_other(requests, count);
+    let profile = profile_of(unit);
+    let other = first_other(profile, requests, count);
     if other < count {
         return StartOrder::NoGet(other);
     }

@@ -13,15 +13,17 @@ use crate::wanted::Wanted;
 use crate::wanted::breaks;
 use crate::wanted::is_access;
 use crate::wanted::wanted_at;
+use model::Profile;
+use unit::profile_of;
 
 // The place of the first piece that is no well-formed get, or the count where there is none.
-pub fn first_other(requests: &[u8], count: usize) -> usize
+pub fn first_other(p: Profile, requests: &[u8], count: usize) -> usize
     requires { ⌜ count ≡ pieceCount (length (now requests)) ⌝ }
-    ensures { λ r. ⌜ r ≡ firstOther (pieces (now (requests .entry))) ⌝ }
+    ensures { λ r. ⌜ r ≡ firstOther p (pieces (now (requests .entry))) ⌝ }
 {
     let mut i = 0usize;
     while i < count {
-        if !is_access(wanted_at(requests, i)) {
+        if !is_access(wanted_at(p, requests, i)) {
             return i;
         }
         i += 1;
@@ -41,12 +43,13 @@ fn clashes_at(
     requires { do ⌜ (← ⟦unit.len()⟧) ≡ rowCount ⌝ }
     requires { ⌜ Tried (stateIn (now unit)) (pieces (now requests)) count (now list) ⌝ }
     requires { ⌜ Fits first × (j < count) ⌝ }
-    ensures { λ r. ⌜ r ≡ (alone (stateIn (now (unit .entry))) (wanted (getD (pieces (now (requests .entry))) j [])) && breaks (stateIn (now (unit .entry))) first (wanted (getD (pieces (now (requests .entry))) j []))) ⌝ }
+    ensures { λ r. ⌜ r ≡ (alone (stateIn (now (unit .entry))) (wanted (stateIn (now (unit .entry)) .profile) (getD (pieces (now (requests .entry))) j [])) && breaks (stateIn (now (unit .entry))) first (wanted (stateIn (now (unit .entry)) .profile) (getD (pieces (now (requests .entry))) j []))) ⌝ }
 {
     if list[j] != 1 {
         return false;
     }
-    breaks(unit, first, wanted_at(requests, j))
+    let profile = profile_of(unit);
+    breaks(unit, first, wanted_at(profile, requests, j))
 }
 
 // The place of the first get behind i that clashes with the one at i, or the count where there is none.
@@ -59,7 +62,8 @@ fn partner(unit: &[[u8; 16]], requests: &[u8], count: usize, list: &[u8], i: usi
     if list[i] != 1 {
         return count;
     }
-    let first = wanted_at(requests, i);
+    let profile = profile_of(unit);
+    let first = wanted_at(profile, requests, i);
     let mut j = i + 1;
     while j < count {
         if clashes_at(unit, requests, count, list, first, j) {

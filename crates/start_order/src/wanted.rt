@@ -15,6 +15,7 @@ use decoding::well_formed;
 use mode_pairs::labels_keep;
 use model::Fields;
 use model::Mode;
+use model::Profile;
 use unit::label_of;
 
 // The access that a get asks for, by subject, object and mode; nothing where the bytes say no get.
@@ -33,34 +34,34 @@ pub fn piece(requests: &[u8], i: usize) -> &[u8]
     &requests[at..end]
 }
 
-fn access_of(f: Fields) -> Wanted
-    ensures { λ r. ⌜ r ≡ wantedBy (decodeFields f) ⌝ }
+fn access_of(p: Profile, f: Fields) -> Wanted
+    ensures { λ r. ⌜ r ≡ wantedBy (decodeFields p f) ⌝ }
 {
     let x = mode_of(f.mode);
-    if well_formed(f) & (f.kind == 1) {
+    if well_formed(p, f) & (f.kind == 1) {
         Wanted::Access(f.actor, f.object, x)
     } else {
         Wanted::Nothing
     }
 }
 
-// What a piece asks for. The fields are looked at here and not by `decoding::decode`, which is made for its one caller, `ask`: called from
+// What a piece asks for, of a monitor of a profile. The fields are looked at here and not by `decoding::decode`, which is made for its one caller, `ask`: called from
 // here too, it is compiled apart from that, and every request takes longer.
-pub fn access_in(b: &[u8]) -> Wanted
-    ensures { λ r. ⌜ r ≡ wanted (now (b .entry)) ⌝ }
+pub fn access_in(p: Profile, b: &[u8]) -> Wanted
+    ensures { λ r. ⌜ r ≡ wanted p (now (b .entry)) ⌝ }
 {
     if b.len() != 6 {
         return Wanted::Nothing;
     }
-    access_of(fields_of(read_word(b)))
+    access_of(p, fields_of(read_word(b)))
 }
 
 // What the piece at place i asks for.
-pub fn wanted_at(requests: &[u8], i: usize) -> Wanted
+pub fn wanted_at(p: Profile, requests: &[u8], i: usize) -> Wanted
     requires { ⌜ i < pieceCount (length (now requests)) ⌝ }
-    ensures { λ r. ⌜ r ≡ wanted (getD (pieces (now (requests .entry))) i []) ⌝ }
+    ensures { λ r. ⌜ r ≡ wanted p (getD (pieces (now (requests .entry))) i []) ⌝ }
 {
-    access_in(piece(requests, i))
+    access_in(p, piece(requests, i))
 }
 
 pub fn is_access(w: Wanted) -> bool

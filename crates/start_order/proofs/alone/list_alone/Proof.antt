@@ -52,7 +52,7 @@ loop-again c =
       rows = tried .ensures .1 ∙ loop .inv .rows;
       size = length-set (loop .list) (loop .i) (tried .result) ∙ loop .inv .size;
       so-far = listed-more (stateIn (start .args .unit .now)) (pieces (start .args .requests .now)) (loop .i) (loop .list) _ (omega (arith, tested, loop .inv .size, start .pre .1 .1)) (loop .inv .so-far)
-          (tried .ensures .0 ∙ ap₂ (λ (u : Rows) (b : List ℕ). bit (alone (stateIn u) (wanted b))) (loop .inv .rows) asked);
+          (tried .ensures .0 ∙ ap₂ (λ (u : Rows) (b : List ℕ). bit (alone (stateIn u) (wanted (stateIn u .profile) b))) (loop .inv .rows) asked);
     }
 
 same-length : tie.Need-same-length Inv-loop μ-loop

@@ -13,10 +13,10 @@ use Rattle.start_order.proofs.search.first_other.Statement.{statement}
 use Rattle.start_order.proofs.search.first_other.Tie as tie
 
 abbrev Inv-loop : tie.InvT-loop
-Inv-loop requests count i₀ i = (i ≤ count) × NoneBelow (isOther (pieces requests)) i
+Inv-loop p requests count i₀ i = (i ≤ count) × NoneBelow (isOther p (pieces requests)) i
 
 abbrev μ-loop : tie.MeasureT-loop
-μ-loop requests count i₀ i = count - i
+μ-loop p requests count i₀ i = count - i
 
 loop-holds : tie.Need-loop-holds Inv-loop μ-loop
 loop-holds c = (omega arith, λ k h. absurd (omega arith))
@@ -31,7 +31,7 @@ returns : tie.Need-returns Inv-loop μ-loop
 returns c =
     let start = c .before .before .before .before .before .before in
     let loop = c .before .before .before .before .loop in
-    found-first _ _ (loop .i) (isOther (pieces (start .args .requests .now))) (counted (start .args .requests .now) _ (start .pre)) (loop .inv .1)
+    found-first _ _ (loop .i) (isOther (start .args .p) (pieces (start .args .requests .now))) (counted (start .args .requests .now) _ (start .pre)) (loop .inv .1)
     (ap not (sym (c .before .is-access .ensures ∙ ap isAccess (c .before .before .wanted-at .ensures))) ∙ c .if1 .taken) (c .before .before .before .loop-test .taken)
 
 add-i : tie.Need-add-i Inv-loop μ-loop
@@ -45,14 +45,14 @@ loop-again c =
     let start = c .before .before .before .before .before .before in
     let loop = c .before .before .before .before .loop in (
       omega (arith, c .before .before .before .loop-test .taken),
-      none-more (isOther (pieces (start .args .requests .now))) (loop .i) (loop .inv .1)
+      none-more (isOther (start .args .p) (pieces (start .args .requests .now))) (loop .i) (loop .inv .1)
           (ap not (sym (c .before .is-access .ensures ∙ ap isAccess (c .before .before .wanted-at .ensures))) ∙ c .if1 .left),
     )
 
 returns-2 : tie.Need-returns-2 Inv-loop μ-loop
 returns-2 c =
     let start = c .before .before .before in
-    ended-first _ _ (c .before .loop .i) (isOther (pieces (start .args .requests .now))) (counted (start .args .requests .now) _ (start .pre)) (c .before .loop .inv .1) (c .loop-test .left)
+    ended-first _ _ (c .before .loop .i) (isOther (start .args .p) (pieces (start .args .requests .now))) (counted (start .args .requests .now) _ (start .pre)) (c .before .loop .inv .1) (c .loop-test .left)
 
 pub first-other-spec : {M : Type 1} → statement M
 first-other-spec =

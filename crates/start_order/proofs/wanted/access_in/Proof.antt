@@ -29,7 +29,7 @@ unfolding wanted decode
 returns-2 c =
     rw (eq-eqb _ _ (c .before .before .before .if1 .left))
     (c .access-of .ensures
-    ∙ ap (λ (f : Fields). wantedBy (decodeFields f)) (c .before .fields-of .ensures ∙ ap fieldsOfWord (c .before .before .read-word .ensures .0) ∙ fields-word _))
+    ∙ ap (λ (f : Fields). wantedBy (decodeFields (c .before .before .before .before .before .args .p) f)) (c .before .fields-of .ensures ∙ ap fieldsOfWord (c .before .before .read-word .ensures .0) ∙ fields-word _))
 
 pub access-in-spec : {M : Type 1} → statement M
 access-in-spec =

@@ -17,14 +17,16 @@ well-formed-requires c κs = search needs
 
 returns : tie.Need-returns
 returns c =
+    let p = c .before .before .before .before .args .p in
     let f = c .before .before .before .before .args .f in
     ap (Access (f .actor) (f .object)) (c .before .before .before .mode-of .ensures)
-    ∙ fields-get f (ap (λ (b : Bool). b && eqb (f .kind) 1) (sym (c .before .before .well-formed .ensures)) ∙ c .if1 .taken)
+    ∙ fields-get p f (ap (λ (b : Bool). b && eqb (f .kind) 1) (sym (c .before .before .well-formed .ensures)) ∙ c .if1 .taken)
 
 returns-2 : tie.Need-returns-2
 returns-2 c =
+    let p = c .before .before .before .before .args .p in
     let f = c .before .before .before .before .args .f in
-    fields-other f (ap (λ (b : Bool). b && eqb (f .kind) 1) (sym (c .before .before .well-formed .ensures)) ∙ c .if1 .left)
+    fields-other p f (ap (λ (b : Bool). b && eqb (f .kind) 1) (sym (c .before .before .well-formed .ensures)) ∙ c .if1 .left)
 
 pub access-of-spec : {M : Type 1} → statement M
 access-of-spec = tie.close (tie.spec mode-of-requires well-formed-requires returns returns-2)

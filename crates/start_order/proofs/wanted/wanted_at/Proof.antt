@@ -13,7 +13,7 @@ access-in-requires : tie.Need-access-in-requires
 access-in-requires c κs = search needs
 
 returns : tie.Need-returns
-returns c = c .access-in .ensures ∙ ap wanted (c .before .piece .ensures)
+returns c = c .access-in .ensures ∙ ap (wanted (c .before .before .before .args .p)) (c .before .piece .ensures)
 
 pub wanted-at-spec : {M : Type 1} → statement M
 wanted-at-spec = tie.close (tie.spec piece-requires access-in-requires returns)
