@@ -14,7 +14,7 @@ use Rattle.model.specs.declared.Mode.the-variants.{Read}
 use Rattle.model.specs.declared.Monitor.{Monitor}
 use Rattle.model.specs.Levels.{Dominates}
 use Rattle.model.specs.Modes.{observes}
-use Rattle.model.specs.State.{clearance, object}
+use Rattle.model.specs.State.{widest, clearance, object}
 use Rattle.model.specs.Properties.{Holds}
 use Rattle.model.specs.Runs.{reply, after}
 use Rattle.model.specs.Beginnings.{Beginning, table, begun, Accepted, left}
@@ -56,27 +56,27 @@ module _ (b : Beginning) (bs : List (List ℕ)) (o i j : ℕ) (h : i ≤ j)
       (subst (λ (m : Monitor). Holds m s o x) (after-says b (take j bs)) held) reads)
 
 -- the hypotheses are met by the run without lowering: object 0 is live after 2 to 13 requests, and its label rises from (3, 0001) to (3, 0003)
-lives-there : (k : ℕ) → 2 ≤ k → k ≤ 13 → object (stateIn (unitAfter (table tableW) (take k bytes))) 0 .live ≡ true
-lives-there k p q = ap (λ (m : Monitor). object m 0 .live) (after-says (table tableW) (take k bytes)) ∙ lives-met k p q
+lives-there : (k : ℕ) → 2 ≤ k → k ≤ 13 → object (stateIn (unitAfter (table widest tableW) (take k bytes))) 0 .live ≡ true
+lives-there k p q = ap (λ (m : Monitor). object m 0 .live) (after-says (table widest tableW) (take k bytes)) ∙ lives-met k p q
 
-labelled-there : object (stateIn (unitAfter (table tableW) (take 2 bytes))) 0 .label ≢ Absent
-labelled-there e = labelled-met (sym (ap (λ (m : Monitor). object m 0 .label) (after-says (table tableW) (take 2 bytes))) ∙ e)
+labelled-there : object (stateIn (unitAfter (table widest tableW) (take 2 bytes))) 0 .label ≢ Absent
+labelled-there e = labelled-met (sym (ap (λ (m : Monitor). object m 0 .label) (after-says (table widest tableW) (take 2 bytes))) ∙ e)
 
-pub raised-there : Dominates (object (stateIn (unitAfter (table tableW) (take 13 bytes))) 0 .label) (object (stateIn (unitAfter (table tableW) (take 2 bytes))) 0 .label)
-raised-there = unit-label-never-falls (table tableW) bytes 0 2 13 (omega arith) lives-there labelled-there
+pub raised-there : Dominates (object (stateIn (unitAfter (table widest tableW) (take 13 bytes))) 0 .label) (object (stateIn (unitAfter (table widest tableW) (take 2 bytes))) 0 .label)
+raised-there = unit-label-never-falls (table widest tableW) bytes 0 2 13 (omega arith) lives-there labelled-there
 
-pub read-there : Dominates (clearance (begun (table tableW) .monitor) 1) (object (stateIn (unitAfter (table tableW) (take 2 bytes))) 0 .label)
+pub read-there : Dominates (clearance (begun (table widest tableW) .monitor) 1) (object (stateIn (unitAfter (table widest tableW) (take 2 bytes))) 0 .label)
 read-there =
-    unit-never-published (table tableW) bytes 0 2 13 (omega arith) lives-there labelled-there table-met 1 Read
-    (subst (λ (m : Monitor). Holds m 1 0 Read) (sym (after-says (table tableW) (take 13 bytes))) (raised-met .2)) refl
+    unit-never-published (table widest tableW) bytes 0 2 13 (omega arith) lives-there labelled-there table-met 1 Read
+    (subst (λ (m : Monitor). Holds m 1 0 Read) (sym (after-says (table widest tableW) (take 13 bytes))) (raised-met .2)) refl
 
 -- the owner's first label and the same label again, the second and the third request of that run
 pub first-there : reply (getD bytes 1 []) (stateAfter 1) ≡ 0
 first-there =
-    first-label-replies-0 (stateAfter 1) (reached-left (table tableW) table-met (take 1 bytes)) (getD bytes 1 []) 0 (level 3 0x0001)
+    first-label-replies-0 (stateAfter 1) (reached-left (table widest tableW) table-met (take 1 bytes)) (getD bytes 1 []) 0 (level 3 0x0001)
     (owner-asks-met .0) (owner-asks-met .2) (owner-asks-met .3)
 
 pub same-there : reply (getD bytes 2 []) (stateAfter 2) ≡ 1
 same-there =
-    same-label-replies-1 (stateAfter 2) (reached-left (table tableW) table-met (take 2 bytes)) (getD bytes 2 []) 0 (level 3 0x0001)
+    same-label-replies-1 (stateAfter 2) (reached-left (table widest tableW) table-met (take 2 bytes)) (getD bytes 2 []) 0 (level 3 0x0001)
     (owner-asks-met .1) (lives-met 2 (omega arith) (omega arith)) (raised-met .0)

@@ -3,6 +3,7 @@ pub mod Boundary
 pub mod Numbers
 pub mod Calls
 pub mod UnitRuns
+pub mod SiteUnits
 pub mod Pages
 pub mod Comparing
 pub mod Counts

@@ -10,7 +10,7 @@ use Rattle.model.specs.declared.Mode.{Mode}
 use Rattle.model.specs.declared.Mode.the-variants.{Read}
 use Rattle.model.specs.declared.Monitor.{Monitor}
 use Rattle.model.specs.Modes.{has}
-use Rattle.model.specs.State.{subjectCount, object, enrolled}
+use Rattle.model.specs.State.{widest, subjectCount, object, enrolled}
 use Rattle.model.specs.Decisions.{number}
 use Rattle.model.specs.Beginnings.{Beginning, table, Accepted, left}
 use Rattle.model.proofs.Modes.{has-none}
@@ -54,7 +54,7 @@ pub shown-met : accessShown (page (object (stateAt 5) 0)) 1 Read ≡ true
 shown-met = access-shown (object (stateAt 5) 0) 1 (omega arith) Read ∙ shown .held-there
 
 pub permitted-there : rightShown (page (object (stateAt 5) 0)) 1 Read ≡ true
-permitted-there = shown-permitted (table tableW) (take 5 markedBytes) table-met 0 1 (omega arith) Read shown-met
+permitted-there = shown-permitted (table widest tableW) (take 5 markedBytes) table-met 0 1 (omega arith) Read shown-met
 
 pub absent-line-there : lineChar (page (object (stateAt 5) 0)) 15 3 ≡ dash
-absent-line-there = absent-line (table tableW) (take 5 markedBytes) table-met 0 15 (omega arith) (shown .absent-there) Read .0
+absent-line-there = absent-line (table widest tableW) (take 5 markedBytes) table-met 0 15 (omega arith) (shown .absent-there) Read .0

@@ -15,9 +15,10 @@ use Rattle.model.specs.declared.Decoded.the-variants.{Says}
 use Rattle.model.specs.Tests.{implies, unless}
 use Rattle.model.specs.Levels.{compare, levelDominates, dominates, sameLabel}
 use Rattle.model.specs.Modes.{has, add, remove}
-use Rattle.model.specs.State.{object, rightsOf}
+use Rattle.model.specs.State.{widest, object, rightsOf}
 use Rattle.model.specs.Properties.{Holds}
-use Rattle.model.specs.Requests.{fields, modeAllowed, unusedZero, wellFormed, request, decodeFields, decode}
+use Rattle.model.specs.Profiles.{profileFits, labelInside, absentBeyond, levelsInside}
+use Rattle.model.specs.Requests.{fields, modeAllowed, unusedZero, fieldsFormed, within, wellFormed, request, decodeFields, decode}
 use Rattle.model.specs.Rules.{simpleAll, starPair, starFrom, starFor, starAll, notLowered, changed, already, checks, answer, step}
 use Rattle.model.specs.Runs.{respond, after, replies}
 use Rattle.model.specs.Reading.{labelFrom, labelForm, tableFrom, tableForm, tableChecks, begin, readTable}
@@ -75,17 +76,17 @@ pub computed : (replies listed there ≡ 0 ∷ 6 ∷ 1 ∷ [])
     × (right Write (after (give-w ∷ rescind-w ∷ []) there) ≡ false)
     × (right Write (after (rescind-w ∷ give-w ∷ []) there) ≡ true)
     × Holds (after (read-1 ∷ []) there) 1 1 Read
-unfolding there give-w rescind-w give-e give-e-itself give-a-on release-r replies tableW tableFrom tableForm labelForm labelFrom tableChecks begin readTable allZero cut made read-1 bytesToBits toBits odd fromBits field decode decodeFields fields wellFormed modeAllowed unusedZero request respond step after checks already changed starAll starFor starFrom starPair implies unless answer simpleAll notLowered has add remove sameLabel dominates levelDominates compare
+unfolding there give-w rescind-w give-e give-e-itself give-a-on release-r replies tableW tableFrom tableForm labelForm labelFrom tableChecks profileFits absentBeyond levelsInside labelInside begin readTable allZero cut made read-1 bytesToBits toBits odd fromBits field decode decodeFields fields wellFormed fieldsFormed within modeAllowed unusedZero request respond step after checks already changed starAll starFor starFrom starPair implies unless answer simpleAll notLowered has add remove sameLabel dominates levelDominates compare
 computed = (refl, refl, refl, refl, refl, refl, refl, refl, refl)
 
 -- what the bytes say
-says : (decode give-w ≡ Says (Give 1 2 0 Write)) × (decode give-e ≡ Says (Give 1 2 0 Execute)) × (decode rescind-w ≡ Says (Rescind 1 2 0 Write))
-    × (decode release-r ≡ Says (Release 1 1 Read)) × (decode read-1 ≡ Says (Get 1 1 Read))
-unfolding give-w give-e rescind-w release-r read-1 bytesToBits toBits odd fromBits field decode decodeFields fields wellFormed modeAllowed unusedZero request
+says : (decode widest give-w ≡ Says (Give 1 2 0 Write)) × (decode widest give-e ≡ Says (Give 1 2 0 Execute)) × (decode widest rescind-w ≡ Says (Rescind 1 2 0 Write))
+    × (decode widest release-r ≡ Says (Release 1 1 Read)) × (decode widest read-1 ≡ Says (Get 1 1 Read))
+unfolding give-w give-e rescind-w release-r read-1 bytesToBits toBits odd fromBits field decode decodeFields fields wellFormed fieldsFormed within modeAllowed unusedZero request
 says = (refl, refl, refl, refl, refl)
 
 -- on a state that a run reaches
-pub gives-met : Reached there × Each IsGive listed
+pub gives-met : Reached there × Each (IsGive widest) listed
 gives-met = (reached-there, ((2, 0, Write, (1, says .0)), ((2, 0, Execute, (1, says .1)), ((2, 0, Write, (1, says .0)), tt))))
 
 -- both copies are granted and the other is not
@@ -96,11 +97,11 @@ gives-granted = (omega (arith, at 0), λ h. omega (arith, at 1, h), omega (arith
     at i = ap (λ (l : List ℕ). getD l i 2) (computed .0)
 
 -- a list of releases, of an access that is held
-pub releases-met : Reached (after (read-1 ∷ []) there) × Holds (after (read-1 ∷ []) there) 1 1 Read × Each IsRelease (release-r ∷ release-r ∷ [])
+pub releases-met : Reached (after (read-1 ∷ []) there) × Holds (after (read-1 ∷ []) there) 1 1 Read × Each (IsRelease widest) (release-r ∷ release-r ∷ [])
 releases-met = (reached-after there reached-there (read-1 ∷ []), computed .8, ((1, 1, Read, says .3), ((1, 1, Read, says .3), tt)))
 
 -- a rescind and a get stand in no such list
-pub kinds-apart : (NothingElse rescind-w → ⊥) × (NothingElse read-1 → ⊥)
+pub kinds-apart : (NothingElse widest rescind-w → ⊥) × (NothingElse widest read-1 → ⊥)
 kinds-apart = (λ w. clash (sym (two-kinds _ (w _ (says .2)))), λ w. clash (sym (two-kinds _ (w _ (says .4)))))
 
 -- with a rescind among them the order matters

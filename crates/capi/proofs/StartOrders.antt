@@ -7,12 +7,14 @@ use mathlib.Core.Path.{_≡_, refl, sym, ap, ap₂, _∙_}
 use mathlib.Core.Logic.{_↔_}
 use mathlib.Core.List.{List, [], _∷_}
 use Rattle.bits.specs.Bits.{odd, toBits, fromBits, bytesToBits, field, cut, allZero}
+use Rattle.model.specs.State.{widest}
 use Rattle.model.specs.declared.Monitor.{Monitor}
 use Rattle.model.specs.Tests.{implies, unless}
 use Rattle.model.specs.Levels.{compare, levelDominates, dominates, sameLabel}
 use Rattle.model.specs.Modes.{has, add, remove}
 use Rattle.model.specs.ModePairs.{kept}
-use Rattle.model.specs.Requests.{fields, modeAllowed, unusedZero, wellFormed, request, decodeFields, decode}
+use Rattle.model.specs.Profiles.{profileFits, labelInside, absentBeyond, levelsInside}
+use Rattle.model.specs.Requests.{fields, modeAllowed, unusedZero, fieldsFormed, within, wellFormed, request, decodeFields, decode}
 use Rattle.model.specs.Rules.{simpleAll, starPair, starFrom, starFor, starAll, notLowered, changed, already, checks, answer, step}
 use Rattle.model.specs.Runs.{respond, after}
 use Rattle.model.specs.Reading.{labelFrom, labelForm, tableFrom, tableForm, tableChecks, begin, readTable}
@@ -96,14 +98,14 @@ unit-orders b e qs requests r =
 
 -- from table W, subject 1 makes and labels two objects
 unfoldable pub there : Monitor
-there = left (table tableW) made
+there = left (table widest tableW) made
 
 pub reached-there : Reached there
 unfolding there
-reached-there = reached-left (table tableW) table-met made
+reached-there = reached-left (table widest tableW) table-met made
 
 answers-there : (startOrder (read-1 ∷ read-1 ∷ append-0 ∷ []) there ≡ Clash 0 2) × (startOrder (read-1 ∷ read-1 ∷ []) there ≡ Agree)
-unfolding there tableW tableFrom tableForm labelForm labelFrom tableChecks begin readTable allZero cut made read-1 append-0 firstBelow wanted isAccess alone breaks clashes firstClash startOrder kept bytesToBits toBits odd fromBits field decode decodeFields fields wellFormed modeAllowed unusedZero request respond step after checks already changed starAll starFor starFrom starPair implies unless answer simpleAll notLowered has add remove sameLabel dominates levelDominates compare
+unfolding there tableW tableFrom tableForm labelForm labelFrom tableChecks profileFits absentBeyond levelsInside labelInside begin readTable allZero cut made read-1 append-0 firstBelow wanted isAccess alone breaks clashes firstClash startOrder kept bytesToBits toBits odd fromBits field decode decodeFields fields wellFormed fieldsFormed within modeAllowed unusedZero request respond step after checks already changed starAll starFor starFrom starPair implies unless answer simpleAll notLowered has add remove sameLabel dominates levelDominates compare
 answers-there = (refl, refl)
 
 -- the order of these three gets matters: those at 0 and 2 clash, and not all orders leave equal states

@@ -47,7 +47,7 @@ module _ (b : Beginning) (e : Accepted b) (qs : List (List ℕ)) where
       }
 
   -- gives, releases and malformed bytes
-  module _ (bs : List (List ℕ)) (p : Each NothingElse bs) where
+  module _ (bs : List (List ℕ)) (p : Each (NothingElse (left b qs .profile)) bs) where
     pub unit-rights : UnitOrders (unitAfter b qs) bs
     unit-rights = in-any-order bs (rights-any-order (left b qs) (reached-left b e qs) bs p)
 

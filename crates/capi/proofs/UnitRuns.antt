@@ -5,6 +5,7 @@ use mathlib.Core.Path.{_≡_, sym, ap, ap₂, _∙_, subst}
 use mathlib.Core.Logic.{_↔_, _≢_}
 use mathlib.Core.List.{List, [], map}
 use lib.ListN.{length, take}
+use Rattle.model.specs.declared.Profile.{Profile}
 use Rattle.model.specs.declared.Monitor.{Monitor}
 use Rattle.model.specs.declared.Request.{Request}
 use Rattle.model.specs.declared.Decision.the-variants.{Granted}
@@ -19,7 +20,8 @@ use Rattle.model.specs.Reading.{readImage}
 use Rattle.model.specs.Writing.{writing, written}
 use Rattle.model.specs.Beginnings.{Beginning, begun, Accepted, left, AllBytes}
 use Rattle.telling.specs.Distinguish.{distinguish}
-use Rattle.images.proofs.Reached.{reached-left, sound-left, fills}
+use Rattle.images.specs.Tables.{profileOf}
+use Rattle.images.proofs.Reached.{reached-left, sound-left, left-profile, fills}
 use Rattle.effects.proofs.Demand2.{always-secure}
 use Rattle.equal_images.proofs.Demand3.{distinguishes, distinguishes-not, demand-3}
 use Rattle.images.proofs.RoundTrips.{read-written}
@@ -63,23 +65,23 @@ module _ (b : Beginning) where
     pub unit-secure : Accepted b → WellFormed (stateIn (unitAfter b bs)) × Secure (stateIn (unitAfter b bs))
     unit-secure e = subst (λ (m : Monitor). WellFormed m × Secure m) (sym after-says) (always-secure (left b bs) (reached-left b e bs))
 
-    -- what was saved is accepted, and opened it is that state
+    -- what was saved is accepted under the profile of the unit, and opened it is that state
     pub saved-opens : Accepted b → (buffer : List ℕ) → number (writing buffer) ≡ 0
-        → readImage (take imageSize (saved (unitAfter b bs) buffer)) ≡ record { decision = Granted; monitor = stateIn (unitAfter b bs) }
+        → readImage (profileOf b) (take imageSize (saved (unitAfter b bs) buffer)) ≡ record { decision = Granted; monitor = stateIn (unitAfter b bs) }
     saved-opens e buffer w =
-        ap (λ (l : List ℕ). readImage (take imageSize l)) (unit-saved buffer)
+        ap₂ (λ (p : Profile) (l : List ℕ). readImage p (take imageSize l)) (sym (left-profile b e bs)) (unit-saved buffer)
         ∙ read-written (left b bs) (reached-left b e bs) buffer w
         ∙ ap (λ (m : Monitor). record { decision = Granted; monitor = m }) (sym after-says)
 
--- ---- two units
+-- ---- two units of one profile
 
-module _ (b c : Beginning) (e : Accepted b) (f : Accepted c) (qs rs : List (List ℕ)) (buffer other : List ℕ) (v : number (writing buffer) ≡ 0) (w : number (writing other) ≡ 0) where
+module _ (b c : Beginning) (e : Accepted b) (f : Accepted c) (one : profileOf b ≡ profileOf c) (qs rs : List (List ℕ)) (buffer other : List ℕ) (v : number (writing buffer) ≡ 0) (w : number (writing other) ≡ 0) where
   -- demand 3: the images saved are equal in every byte exactly when every further list draws the same replies from both units
   pub unit-demand-3 :
       (take imageSize (saved (unitAfter b qs) buffer) ≡ take imageSize (saved (unitAfter c rs) other))
       ↔ ((further : List (List ℕ)) → AllBytes further → repliesOf further (unitAfter b qs) ≡ repliesOf further (unitAfter c rs))
   unit-demand-3 =
-      let D = demand-3 b c e f qs rs buffer other v w in (
+      let D = demand-3 b c e f one qs rs buffer other v w in (
         λ p further g.
             further-replies b qs further
             ∙ D .0 (ap (take imageSize) (sym (unit-saved b qs buffer)) ∙ p ∙ ap (take imageSize) (unit-saved c rs other)) further g
@@ -92,7 +94,7 @@ module _ (b c : Beginning) (e : Accepted b) (f : Accepted c) (qs rs : List (List
 
   -- the requests that `circmon_distinguish` gives for the two images saved
   told : List Request
-  told = distinguish (readImage (take imageSize (saved (unitAfter b qs) buffer)) .monitor) (readImage (take imageSize (saved (unitAfter c rs) other)) .monitor)
+  told = distinguish (readImage (profileOf b) (take imageSize (saved (unitAfter b qs) buffer)) .monitor) (readImage (profileOf c) (take imageSize (saved (unitAfter c rs) other)) .monitor)
 
   told-of : told ≡ distinguish (left b qs) (left c rs)
   unfolding told
@@ -101,22 +103,22 @@ module _ (b c : Beginning) (e : Accepted b) (f : Accepted c) (qs rs : List (List
 
   -- none where these are equal
   pub same-units-told : take imageSize (saved (unitAfter b qs) buffer) ≡ take imageSize (saved (unitAfter c rs) other)
-      → distinguish (readImage (take imageSize (saved (unitAfter b qs) buffer)) .monitor) (readImage (take imageSize (saved (unitAfter c rs) other)) .monitor) ≡ []
+      → distinguish (readImage (profileOf b) (take imageSize (saved (unitAfter b qs) buffer)) .monitor) (readImage (profileOf c) (take imageSize (saved (unitAfter c rs) other)) .monitor) ≡ []
   unfolding told
   same-units-told p =
       told-of ∙ distinguishes-not (left b qs) (left c rs) (sound-left b e qs) (sound-left c f rs)
-      (sym (ap (λ (r : Response). r .monitor) (saved-opens b qs e buffer v) ∙ after-says b qs) ∙ ap (λ l. readImage l .monitor) p ∙ ap (λ (r : Response). r .monitor) (saved-opens c rs f other w) ∙ after-says c rs)
+      (sym (ap (λ (r : Response). r .monitor) (saved-opens b qs e buffer v) ∙ after-says b qs) ∙ ap₂ (λ (k : Profile) (l : List ℕ). readImage k l .monitor) one p ∙ ap (λ (r : Response). r .monitor) (saved-opens c rs f other w) ∙ after-says c rs)
 
   -- at most four where they differ, and the two units reply differently to them
   pub different-units-told : (take imageSize (saved (unitAfter b qs) buffer) ≢ take imageSize (saved (unitAfter c rs) other))
-      → (length (distinguish (readImage (take imageSize (saved (unitAfter b qs) buffer)) .monitor) (readImage (take imageSize (saved (unitAfter c rs) other)) .monitor)) ≤ 4)
-      × (repliesOf (map encode (distinguish (readImage (take imageSize (saved (unitAfter b qs) buffer)) .monitor) (readImage (take imageSize (saved (unitAfter c rs) other)) .monitor))) (unitAfter b qs)
-      ≢ repliesOf (map encode (distinguish (readImage (take imageSize (saved (unitAfter b qs) buffer)) .monitor) (readImage (take imageSize (saved (unitAfter c rs) other)) .monitor))) (unitAfter c rs))
+      → (length (distinguish (readImage (profileOf b) (take imageSize (saved (unitAfter b qs) buffer)) .monitor) (readImage (profileOf c) (take imageSize (saved (unitAfter c rs) other)) .monitor)) ≤ 4)
+      × (repliesOf (map encode (distinguish (readImage (profileOf b) (take imageSize (saved (unitAfter b qs) buffer)) .monitor) (readImage (profileOf c) (take imageSize (saved (unitAfter c rs) other)) .monitor))) (unitAfter b qs)
+      ≢ repliesOf (map encode (distinguish (readImage (profileOf b) (take imageSize (saved (unitAfter b qs) buffer)) .monitor) (readImage (profileOf c) (take imageSize (saved (unitAfter c rs) other)) .monitor))) (unitAfter c rs))
   unfolding told
   different-units-told h =
       let m = left b qs in
       let n = left c rs in
       let apart : m ≢ n = λ p. h (ap (take imageSize) (unit-saved b qs buffer) ∙ fills m buffer v ∙ ap imageOf p ∙ sym (fills n other w) ∙ sym (ap (take imageSize) (unit-saved c rs other))) in
-      let d = distinguishes m n (sound-left b e qs) (sound-left c f rs) apart in
+      let d = distinguishes m n (sound-left b e qs) (sound-left c f rs) (left-profile b e qs ∙ one ∙ sym (left-profile c f rs)) apart in
       subst (λ (l : List Request). (length l ≤ 4) × (repliesOf (map encode l) (unitAfter b qs) ≢ repliesOf (map encode l) (unitAfter c rs))) (sym told-of)
       (d .1, λ p. d .2 (sym (further-replies b qs _) ∙ p ∙ further-replies c rs _))

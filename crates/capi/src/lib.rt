@@ -1,22 +1,27 @@
-// The monitor for C and Rust, on byte slices: each passes as a pointer and a length. include/circmon.h says what each does.
+// The monitor for C and Rust, on byte slices: each passes as a pointer and a length. include/circmon.h says what each does. The functions here are on
+// images alone, under the widest profile.
 mod clash;
 mod levels;
 mod loads;
+mod sites;
 mod units;
 
 ghost use mathlib.Core.Path.{_≡_};
 ghost use lib.ListN.{length};
+ghost use Rattle.model.specs.State.{widest};
 ghost use Rattle.model.specs.Decisions.{number};
 ghost use Rattle.model.specs.Reading.{readImage};
 ghost use Rattle.replay.specs.Replay.{replayAnswer, replayed};
-ghost use Rattle.capi.specs.Boundary.{beginNumber, beginBytes, requestNumber, requestBytes, distinguishNumber, distinguishBytes};
+ghost use Rattle.images_apart.specs.Apart.{distinguishNumber, distinguishBytes};
+ghost use Rattle.capi.specs.Boundary.{beginNumber, beginBytes, requestNumber, requestBytes};
 use asking::ask;
 use beginning::check_table;
 use beginning::write_begun;
-use distinguish::distinguish;
-use image::open;
+use image::open_widest;
+use images_apart::tell;
 use labels::number;
 use labels::refuses;
+use model::widest;
 use replay::replay;
 use unit::ROWS;
 use writing::save;
@@ -37,10 +42,10 @@ pub extern "C" fn circmon_begin(table: &[u8], image: &mut [u8]) -> u8
 // The number of reading an image.
 #[no_mangle]
 pub extern "C" fn circmon_read(image: &[u8]) -> u8
-    ensures { λ r. ⌜ r ≡ number (readImage (now (image .entry)) .decision) ⌝ }
+    ensures { λ r. ⌜ r ≡ number (readImage widest (now (image .entry)) .decision) ⌝ }
 {
     let mut unit = [[0u8; 16]; ROWS];
-    let opened = open(&mut unit, image);
+    let opened = open_widest(&mut unit, image);
     number(opened)
 }
 
@@ -50,7 +55,7 @@ pub extern "C" fn circmon_request(image: &mut [u8], bytes: &[u8]) -> u8
     ensures { λ r. ⌜ (r ≡ requestNumber (now (image .entry)) (now (bytes .entry))) × (now (image .exit) ≡ requestBytes (now (image .entry)) (now (bytes .entry))) ⌝ }
 {
     let mut unit = [[0u8; 16]; ROWS];
-    let opened = open(&mut unit, image);
+    let opened = open_widest(&mut unit, image);
     if refuses(opened) {
         return 128 + number(opened);
     }
@@ -71,17 +76,7 @@ pub extern "C" fn circmon_replay(table: &[u8], requests: &[u8], replies: &mut [u
 // The requests on which the states of two images reply differently, into the buffer.
 #[no_mangle]
 pub extern "C" fn circmon_distinguish(a: &[u8], b: &[u8], requests: &mut [u8]) -> u8
-    ensures { λ r. ⌜ (r ≡ distinguishNumber (now (a .entry)) (now (b .entry)) (now (requests .entry))) × (now (requests .exit) ≡ distinguishBytes (now (a .entry)) (now (b .entry)) (now (requests .entry))) ⌝ }
+    ensures { λ r. ⌜ (r ≡ distinguishNumber widest (now (a .entry)) (now (b .entry)) (now (requests .entry))) × (now (requests .exit) ≡ distinguishBytes widest (now (a .entry)) (now (b .entry)) (now (requests .entry))) ⌝ }
 {
-    let mut first = [[0u8; 16]; ROWS];
-    let one = open(&mut first, a);
-    if refuses(one) {
-        return 128 + number(one);
-    }
-    let mut second = [[0u8; 16]; ROWS];
-    let two = open(&mut second, b);
-    if refuses(two) {
-        return 192 + number(two);
-    }
-    distinguish(&first, &second, requests)
+    tell(widest(), a, b, requests)
 }

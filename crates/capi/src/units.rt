@@ -1,5 +1,7 @@
-// A unit in memory that C or Rust owns: opened or started, asked, saved. It is 208 rows of sixteen bytes and passes as one pointer.
+// A unit in memory that C or Rust owns: opened or started under the widest profile, asked, saved. It is 209 rows of sixteen bytes and passes as one
+// pointer. What is asked of it, saved and shown is under the profile that it has.
 ghost use mathlib.Core.Path.{_≡_};
+ghost use Rattle.model.specs.State.{widest};
 ghost use Rattle.model.specs.Decisions.{number};
 ghost use Rattle.model.specs.Runs.{reply};
 ghost use Rattle.model.specs.Reading.{readTable, readImage};
@@ -9,8 +11,8 @@ ghost use Rattle.unit.specs.Stored.{unitOf};
 ghost use Rattle.asking.specs.Asked.{asked};
 ghost use Rattle.page.specs.Page.{paging, paged};
 use asking::ask;
-use image::open;
-use image::start;
+use image::open_widest;
+use image::start_widest;
 use labels::number;
 use unit::ROWS;
 use writing::save;
@@ -18,18 +20,18 @@ use writing::save;
 // Begins from an image; a refused one leaves the empty monitor in the unit.
 #[no_mangle]
 pub extern "C" fn circmon_open(unit: &mut [[u8; 16]; ROWS], image: &[u8]) -> u8
-    ensures { λ r. ⌜ (r ≡ number (readImage (now (image .entry)) .decision)) × (now (unit .exit) ≡ unitOf (readImage (now (image .entry)) .monitor)) ⌝ }
+    ensures { λ r. ⌜ (r ≡ number (readImage widest (now (image .entry)) .decision)) × (now (unit .exit) ≡ unitOf (readImage widest (now (image .entry)) .monitor)) ⌝ }
 {
-    let opened = open(unit, image);
+    let opened = open_widest(unit, image);
     number(opened)
 }
 
 // Begins from a table; a refused one leaves the empty monitor in the unit.
 #[no_mangle]
 pub extern "C" fn circmon_start(unit: &mut [[u8; 16]; ROWS], table: &[u8]) -> u8
-    ensures { λ r. ⌜ (r ≡ number (readTable (now (table .entry)) .decision)) × (now (unit .exit) ≡ unitOf (readTable (now (table .entry)) .monitor)) ⌝ }
+    ensures { λ r. ⌜ (r ≡ number (readTable widest (now (table .entry)) .decision)) × (now (unit .exit) ≡ unitOf (readTable widest (now (table .entry)) .monitor)) ⌝ }
 {
-    let started = start(unit, table);
+    let started = start_widest(unit, table);
     number(started)
 }
 

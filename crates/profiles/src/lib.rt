@@ -4,15 +4,28 @@ ghost use Rattle.model.specs.State.{subjectCount, objectCount};
 ghost use Rattle.model.specs.Profiles.{profileFits, labelInside};
 ghost use Rattle.unit.specs.Rows.{rowCount, stateIn};
 ghost use Rattle.profiles.specs.Kept.{subjectsKept, objectsKept, kept};
+ghost use Rattle.profiles.specs.Site.{site};
 use labels::at_least;
 use labels::is_present;
 use model::Label;
+use model::Level;
 use model::Monitor;
 use model::Profile;
 use unit::clearance_of;
 use unit::is_live;
 use unit::label_of;
 use unit::profile_of;
+
+// A profile by its four numbers.
+pub fn site(subjects: u8, objects: u8, class: u8, needs: u16) -> Profile
+    ensures { λ r. ⌜ r ≡ site subjects objects class needs ⌝ }
+{
+    Profile {
+        subjects,
+        objects,
+        highest: Level { class, needs },
+    }
+}
 
 // The ranges: subjects in use 1 to 16, objects in use 1 to 64, highest class 0 to 15.
 pub fn fits(p: Profile) -> bool

@@ -6,17 +6,17 @@ use borrow.Author.Needs.{needs}
 use Rattle.capi.proofs.circmon_read.Statement.{statement}
 use Rattle.capi.proofs.circmon_read.Tie as tie
 
-slice-aggregate-open : tie.Need-slice-aggregate-open
-slice-aggregate-open c = search needs
+slice-aggregate-open-widest : tie.Need-slice-aggregate-open-widest
+slice-aggregate-open-widest c = search needs
 
-open-requires : tie.Need-open-requires
-open-requires c κs = search needs
+open-widest-requires : tie.Need-open-widest-requires
+open-widest-requires c κs = search needs
 
 number-requires : tie.Need-number-requires
 number-requires c κs = search needs
 
 returns : tie.Need-returns
-returns c = c .number .ensures ∙ ap number (c .before .before .«open» .ensures .0)
+returns c = c .number .ensures ∙ ap number (c .before .before .open-widest .ensures .0)
 
 pub circmon-read-spec : {M : Type 1} → statement M
-circmon-read-spec = tie.close (tie.spec slice-aggregate-open open-requires number-requires returns)
+circmon-read-spec = tie.close (tie.spec slice-aggregate-open-widest open-widest-requires number-requires returns)

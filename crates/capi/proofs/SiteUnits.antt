@@ -1,0 +1,63 @@
+-- Beginnings and two images under a profile (change request §8): the numbers of `circmon_distinguish_in`, and two units of one profile told apart.
+-- Assumes nothing.
+use Prim.Native.Nat.{ℕ, _≤_}
+use mathlib.Core.Path.{_≡_, refl, sym, ap, ap₂, _∙_, subst}
+use mathlib.Core.Logic.{_≢_}
+use mathlib.Core.Bool.{true, false}
+use mathlib.Core.List.{List, [], map}
+use lib.ListN.{length}
+use Rattle.bits.specs.Bits.{Bytes, cut}
+use Rattle.model.specs.declared.Profile.{Profile}
+use Rattle.model.specs.declared.Monitor.{Monitor}
+use Rattle.model.specs.Profiles.{ProfileFits, profileFits}
+use Rattle.model.specs.Requests.{encode}
+use Rattle.model.specs.Runs.{replies}
+use Rattle.model.specs.Reading.{readImage}
+use Rattle.model.specs.Beginnings.{image, Accepted}
+use Rattle.model.proofs.Tests.{split, cond-true, cond-false}
+use Rattle.model.proofs.Profiles.{profile-decides}
+use Rattle.telling.specs.Distinguish.{distinguish}
+use Rattle.unit.specs.Rows.{Rows}
+use Rattle.asking.specs.Asked.{repliesOf}
+use Rattle.images_apart.specs.Apart.{distinguishNumber, distinguishBytes}
+use Rattle.capi.specs.SiteAnswers.{apartNumber, apartBytes}
+use Rattle.capi.specs.UnitRuns.{begunUnit}
+use Rattle.capi.proofs.UnitRuns.{unit-replies}
+use Rattle.capi.proofs.Calls.{distinguish-replies}
+
+-- "16, a profile outside these ranges, before anything else is read": whatever the images are, and every byte left
+pub apart-16 : (p : Profile) (a b buffer : List ℕ) → (ProfileFits p → ⊥) → (apartNumber p a b buffer ≡ 16) × (apartBytes p a b buffer ≡ buffer)
+unfolding apartNumber apartBytes
+apart-16 p a b buffer h =
+    let off : profileFits p ≡ false = split (profileFits p) (λ e. absurd (h (profile-decides p .0 e))) (λ e. e) in
+    (cond-false (profileFits p) _ _ off, cond-false (profileFits p) _ _ off)
+
+-- else what is told under it
+pub apart-told : (p : Profile) (a b buffer : List ℕ) → ProfileFits p
+    → (apartNumber p a b buffer ≡ distinguishNumber p a b buffer) × (apartBytes p a b buffer ≡ distinguishBytes p a b buffer)
+unfolding apartNumber apartBytes
+apart-told p a b buffer h =
+    let on = profile-decides p .1 h in
+    (cond-true (profileFits p) _ _ on, cond-true (profileFits p) _ _ on)
+
+-- of two units that were opened with 0 under one profile: no request where their images are equal; where they differ 1 to 4, to which the two
+-- units reply differently
+pub sites-told : (p : Profile) (a b buffer : List ℕ) → ProfileFits p → Bytes a → Bytes b → Accepted (image p a) → Accepted (image p b) → 24 ≤ length buffer
+    → let n = apartNumber p a b buffer in
+    let qs = cut n 6 (apartBytes p a b buffer) in
+    (a ≡ b → n ≡ 0) × (a ≢ b → (1 ≤ n) × (n ≤ 4) × (repliesOf qs (begunUnit (image p a)) ≢ repliesOf qs (begunUnit (image p b))))
+sites-told p a b buffer fits ha hb A B room =
+    let told = apart-told p a b buffer fits in
+    let d = distinguish-replies p a b buffer ha hb A B room in
+    let qs = cut (distinguishNumber p a b buffer) 6 (distinguishBytes p a b buffer) in
+    let same : cut (apartNumber p a b buffer) 6 (apartBytes p a b buffer) ≡ qs = ap₂ (λ (n : ℕ) (l : List ℕ). cut n 6 l) (told .0) (told .1) in (
+      λ e. told .0 ∙ d .0 e,
+      λ h.
+          let t = d .1 h in (
+            subst (λ (k : ℕ). 1 ≤ k) (sym (told .0)) (t .0),
+            subst (λ (k : ℕ). k ≤ 4) (sym (told .0)) (t .1),
+            λ e. t .2 (sym (unit-replies (image p a) qs)
+                ∙ sym (ap (λ (l : List (List ℕ)). repliesOf l (begunUnit (image p a))) same) ∙ e
+                ∙ ap (λ (l : List (List ℕ)). repliesOf l (begunUnit (image p b))) same ∙ unit-replies (image p b) qs),
+          ),
+    )

@@ -1,0 +1,2 @@
+-- What is told of two images.
+pub mod Apart
