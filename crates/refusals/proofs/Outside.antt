@@ -1,24 +1,28 @@
--- 16 (change request §8): its two rows in one, since they have one number.
+-- 16 (change request §8): its two rows in one, since they have one number; and what 12 is beyond a profile.
 -- Assumes nothing.
-use Prim.Native.Nat.{ℕ}
-use mathlib.Core.Path.{_≡_, refl, sym}
+use Prim.Native.Nat.{ℕ, _≤_}
+use mathlib.Core.Path.{_≡_, refl, sym, _∙_}
 use mathlib.Core.Logic.{_⊎_, _↔_, _≢_, inl, inr, ⊎-elim}
 use mathlib.Core.Bool.{true, not}
 use mathlib.Core.List.{List}
-use lib.ListN.{length}
+use lib.ListN.{length, take}
 use lib.Dec.{eqb}
 use borrow.Author.Tests.{eq-eqb, eqb-true}
 use Rattle.model.specs.declared.Profile.{Profile}
 use Rattle.model.specs.declared.Decision.{Decision}
-use Rattle.model.specs.declared.Decision.the-variants.{OutsideProfile}
+use Rattle.model.specs.declared.Decision.the-variants.{AbsentSubject, OutsideProfile}
 use Rattle.model.specs.Tests.{allOf}
+use Rattle.model.specs.Levels.{present}
+use Rattle.model.specs.State.{clearanceAt, object, rightsOf, heldBy}
 use Rattle.model.specs.Decisions.{number}
 use Rattle.model.specs.Layout.{tableSize, imageSize}
-use Rattle.model.specs.Reading.{tableFrom, readTable, readImage}
+use Rattle.model.specs.Reading.{tableFrom, monitorFrom, readTable, readImage}
 use Rattle.model.proofs.Tests.{split, apart, distinct, and-left, and-right, not-on}
+use Rattle.model.proofs.Levels.{absent}
 use Rattle.refusals.specs.First.{Causes, none, row, FirstIn, orderOf}
-use Rattle.refusals.specs.Causes.{ProfileOutside, StrayInTable, StrayInImage, ClearanceOutside, OutsideInImage, imageCauses}
+use Rattle.refusals.specs.Causes.{NotIn, ProfileOutside, StrayInTable, StrayInImage, ClearanceOutside, OutsideInImage, imageCauses}
 use Rattle.refusals.proofs.First.{over}
+use Rattle.refusals.proofs.StrayBits.{subject-first}
 use Rattle.refusals.proofs.FirstRefusal.{table-first-cause, image-first-cause}
 
 -- "before anything else is read": whatever the bytes are
@@ -68,3 +72,22 @@ image-16-exactly p b = (
   λ w. image-first-cause p b OutsideProfile refl .1
       (⊎-elim (λ a. inl (refl, a)) (λ c. inr (c .0, inr (λ h. h (c .1), inr (c .2, inl (refl, c .3))))) w),
 )
+
+-- ---- an owner, a right or an access of a subject beyond the profile, in the record of an object inside it
+
+-- a subject beyond the profile is absent, where no bit is in its record
+beyond-absent : (p : Profile) (b : List ℕ) → (StrayInImage p b → ⊥) → (s : ℕ) → p .subjects ≤ s → NotIn (monitorFrom p b) s
+unfolding monitorFrom
+beyond-absent p b n s h =
+    let t = take tableSize b in
+    absent (clearanceAt (tableFrom t) s) (split (present (clearanceAt (tableFrom t) s)) (λ e. absurd (n (inl (inr (s, h, (0, sym (subject-first t s) ∙ e)))))) (λ e. e))
+
+-- so it gets 12, and not 11: "an absent subject owns, has a right or holds"
+pub beyond-acts-12 : (p : Profile) (b : List ℕ) → (ProfileOutside p → ⊥) → length b ≡ imageSize → (StrayInImage p b → ⊥) → (OutsideInImage p b → ⊥)
+    → (s o : ℕ) → p .subjects ≤ s
+    → (((object (monitorFrom p b) o .live ≡ true) × (object (monitorFrom p b) o .owner ≡ s))
+    ⊎ ((rightsOf (object (monitorFrom p b) o) s ≢ 0) ⊎ (heldBy (object (monitorFrom p b) o) s ≢ 0)))
+    → number (readImage p b .decision) ≡ 12
+beyond-acts-12 p b fits long bits levels s o h acts =
+    image-first-cause p b AbsentSubject refl .1
+    (inr (fits, inr (λ w. w long, inr (bits, inr (levels, inl (refl, (s, o, (beyond-absent p b bits s h, acts))))))))

@@ -121,7 +121,7 @@ live-cond : (b : Bool) (r : List Bool) → (cond b (liveFrom r) noObject) .live 
 live-cond true r = refl
 live-cond false r = refl
 
-subject-first : (b : List ℕ) (s : ℕ) → present (clearanceAt (tableFrom b) s) ≡ first (getD (tableRecords b) s [])
+pub subject-first : (b : List ℕ) (s : ℕ) → present (clearanceAt (tableFrom b) s) ≡ first (getD (tableRecords b) s [])
 unfolding tableFrom labelFrom
 subject-first b s = mapped subjectFrom (λ (x : Subject). present (x .clearance)) first [] nobody refl (λ r. present-cond (first r) _) (tableRecords b) s
 

@@ -6,8 +6,8 @@ use native.Mathlib.Omega.{arith}
 use mathlib.Core.Path.{_≡_, refl, ap, subst}
 use mathlib.Core.Logic.{_≢_, inl, inr}
 use mathlib.Core.Bool.{false}
-use mathlib.Core.List.{List, [], _∷_, map}
-use lib.ListN.{take}
+use mathlib.Core.List.{List, [], _∷_, _++_, map}
+use lib.ListN.{take, replicate}
 use Rattle.bits.specs.Bits.{odd, toBits, fromBits, bytesToBits, bitsToBytes, field, cut, allZero}
 use Rattle.model.specs.declared.Profile.{Profile}
 use Rattle.model.specs.declared.Monitor.{Monitor}
@@ -24,7 +24,7 @@ use Rattle.model.specs.Requests.{fields, modeAllowed, unusedZero, fieldsFormed,
 use Rattle.model.specs.Rules.{simpleAll, starPair, starFrom, starFor, starAll, notLowered, changed, already, checks, answer, step}
 use Rattle.model.specs.Runs.{respond, reply, after, replies}
 use Rattle.model.specs.Layout.{imageOf}
-use Rattle.model.specs.Reading.{labelFrom, labelForm, tableFrom, tableForm, onlyEnrolled, withinMatrix, heldLabelled, tableChecks, begin, readTable, readImage}
+use Rattle.model.specs.Reading.{labelFrom, labelForm, tableFrom, tableForm, onlyEnrolled, withinMatrix, heldLabelled, tableChecks, begin, readTable, readImage, imageChecks, monitorFrom, imageForm, objectsFrom, objectsForm, objectFrom, objectForm}
 use Rattle.model.specs.Beginnings.{table, Accepted, left, Reached}
 use Rattle.images.specs.Tables.{TableInside}
 use Rattle.images.proofs.Images.{table-passed}
@@ -160,6 +160,15 @@ images-by-profile =
       ap number (image-checks-under imaged S widest _ refl),
       ap number (image-checks-under labelled L site _ refl),
     )
+
+-- subject 0 alone is enrolled and in use; the record of object 0, which it owns, has r for subject 1: 12, and not 11
+-- 1 0000, no label, 1110 0000, 1000 0000, then zeros
+pub rightBeyond : List ℕ
+rightBeyond = 0x80 ∷ (replicate 41 0 ++ (0x80 ∷ 0x00 ∷ 0x00 ∷ 0x38 ∷ 0x20 ∷ replicate 1227 0))
+
+pub right-beyond-gets-12 : number (readImage (profile 1 1 0 0x0000) rightBeyond .decision) ≡ 12
+unfolding rightBeyond readImage begin imageChecks monitorFrom imageForm tableFrom tableForm objectsFrom objectsForm objectFrom objectForm labelForm labelFrom profileFits absentBeyond levelsInside labelInside onlyEnrolled allZero bytesToBits toBits odd cut fromBits implies unless
+right-beyond-gets-12 = refl
 
 -- a profile outside its ranges
 pub profile-outside-met : ProfileOutside (profile 0 2 3 0x0003) × ProfileOutside (profile 3 2 16 0x0003)
