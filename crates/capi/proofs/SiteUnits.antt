@@ -1,23 +1,17 @@
 -- Beginnings and two images under a profile (change request §8): the numbers of `circmon_distinguish_in`, and two units of one profile told apart.
 -- Assumes nothing.
 use Prim.Native.Nat.{ℕ, _≤_}
-use mathlib.Core.Path.{_≡_, refl, sym, ap, ap₂, _∙_, subst}
+use mathlib.Core.Path.{_≡_, sym, ap, ap₂, _∙_, subst}
 use mathlib.Core.Logic.{_≢_}
-use mathlib.Core.Bool.{true, false}
-use mathlib.Core.List.{List, [], map}
+use mathlib.Core.Bool.{false}
+use mathlib.Core.List.{List}
 use lib.ListN.{length}
 use Rattle.bits.specs.Bits.{Bytes, cut}
 use Rattle.model.specs.declared.Profile.{Profile}
-use Rattle.model.specs.declared.Monitor.{Monitor}
 use Rattle.model.specs.Profiles.{ProfileFits, profileFits}
-use Rattle.model.specs.Requests.{encode}
-use Rattle.model.specs.Runs.{replies}
-use Rattle.model.specs.Reading.{readImage}
 use Rattle.model.specs.Beginnings.{image, Accepted}
 use Rattle.model.proofs.Tests.{split, cond-true, cond-false}
 use Rattle.model.proofs.Profiles.{profile-decides}
-use Rattle.telling.specs.Distinguish.{distinguish}
-use Rattle.unit.specs.Rows.{Rows}
 use Rattle.asking.specs.Asked.{repliesOf}
 use Rattle.images_apart.specs.Apart.{distinguishNumber, distinguishBytes}
 use Rattle.capi.specs.SiteAnswers.{apartNumber, apartBytes}

@@ -19,7 +19,7 @@ use Rattle.model.specs.State.{emptyMonitor, fresh}
 use Rattle.model.specs.Profiles.{profileFits}
 use Rattle.model.specs.Decisions.{refuses}
 use Rattle.model.specs.Reading.{tableFrom, tableForm, objectsFrom, objectsForm, monitorFrom, imageForm, stateChecks, tableChecks, imageChecks, begin}
-use Rattle.model.proofs.Tests.{split, pass, stop, cond-true, cond-false}
+use Rattle.model.proofs.Tests.{pass, stop, cond-true}
 use Rattle.unit.specs.Rows.{Rows, stateIn}
 use Rattle.unit.specs.Stored.{unitOf, ObjectsStored, SameClearances}
 use Rattle.unit.proofs.Units.{stored-over}

@@ -1,12 +1,12 @@
 -- Site profiles (change request §8): the tests decide what they are tests of; a state that passes them keeps to its profile; the widest
 -- profile has everything in it.
 -- Assumes nothing.
-use Prim.Native.Nat.{ℕ, zero, suc, _%_, _/_, _<_, _≤_}
+use Prim.Native.Nat.{ℕ, _<_, _≤_}
 use native.Mathlib.Omega.{arith}
 use mathlib.Core.Path.{_≡_, refl, sym, ap, subst}
 use mathlib.Core.Logic.{_↔_, ⊎-elim}
-use mathlib.Core.Bool.{Bool, true, false, not, _&&_, _||_}
-use lib.ListN.{length, getD}
+use mathlib.Core.Bool.{true, not, _&&_}
+use lib.ListN.{length}
 use lib.Dec.{leb, ltb}
 use borrow.Author.Tests.{lt-ltb, ltb-true, le-leb, leb-true}
 use Rattle.model.specs.declared.Level.{Level}
@@ -19,8 +19,8 @@ use Rattle.model.specs.declared.Monitor.{Monitor}
 use Rattle.model.specs.Tests.{allBelow}
 use Rattle.bits.specs.Bits.{odd}
 use Rattle.model.specs.Levels.{need, subset, present}
-use Rattle.model.specs.State.{subjectCount, objectCount, widest, nobody, noObject, clearance, enrolled, object, LevelFits, LabelFits}
-use Rattle.model.specs.Profiles.{ProfileFits, profileFits, LevelInside, levelInside, LabelInside, labelInside, subjectInside, objectInside, absentBeyond, clearanceInside, objectLabelInside, levelsInside, Inside}
+use Rattle.model.specs.State.{subjectCount, objectCount, widest, nobody, noObject, clearance, enrolled, object}
+use Rattle.model.specs.Profiles.{ProfileFits, profileFits, levelInside, LabelInside, labelInside, subjectInside, objectInside, absentBeyond, clearanceInside, objectLabelInside, levelsInside, Inside}
 use Rattle.model.proofs.Tests.{split, apart, and-left, and-right, and-both, or-cases, or-left, or-right, not-on, below-out, below-in, beyond, le-or-lt}
 use Rattle.model.proofs.Levels.{need-subset, at-least-decides}
 

@@ -8,7 +8,7 @@ use mathlib.Core.Bool.{Bool, true, false, cond, _&&_, _||_}
 use mathlib.Core.List.{List}
 use lib.ListN.{length}
 use lib.Dec.{eqb, ltb, leb}
-use borrow.Author.Tests.{eq-eqb, eqb-true, le-leb, leb-true}
+use borrow.Author.Tests.{eq-eqb, eqb-true, le-leb, leb-true, leb-false, ltb-false}
 use Rattle.model.specs.declared.Profile.{Profile}
 use Rattle.model.specs.declared.Fields.{Fields}
 use Rattle.model.specs.declared.Request.{Request}
@@ -19,7 +19,7 @@ use Rattle.model.proofs.Tests.{split, apart, clash, and-left, and-right, and-fa
 use Rattle.model.proofs.Within.{within-fields, formed-of, within-of}
 use Rattle.model.proofs.Requests.{in-kinds, actor-in, other-in, object-in, last-two, decode-says, says-decode}
 use Rattle.refusals.specs.Causes.{NeedOutside, ModeNotAllowed, UnusedSet, MalformedBytes, not-six-bytes, kind-below, kind-above, actor-above, other-above, object-above, mode-not-allowed, unused-set, actor-outside, other-outside, object-outside, class-outside, need-outside}
-use Rattle.refusals.proofs.ProfileCauses.{leb-false, ltb-false, level-outside, level-not-outside}
+use Rattle.refusals.proofs.ProfileCauses.{level-outside, level-not-outside}
 
 -- ---- a test of a number that fails
 

@@ -5,8 +5,8 @@ use native.Mathlib.Omega.{arith}
 use mathlib.Core.Path.{_≡_, refl, ap, subst}
 use mathlib.Core.Logic.{_⊎_, inl, inr, ⊎-elim}
 use mathlib.Core.Bool.{true, false, _&&_}
-use lib.Dec.{leb, ltb}
-use borrow.Author.Tests.{le-leb, lt-ltb}
+use lib.Dec.{leb}
+use borrow.Author.Tests.{leb-false, ltb-false}
 use Rattle.model.specs.declared.Level.{Level}
 use Rattle.model.specs.declared.Label.{Label}
 use Rattle.model.specs.declared.Label.the-variants.{Absent, Present}
@@ -23,14 +23,6 @@ use Rattle.model.proofs.Levels.{need-subset}
 use Rattle.model.proofs.Profiles.{profile-decides, label-inside-decides}
 use Rattle.images.proofs.Shapes.{Shape}
 use Rattle.refusals.specs.Causes.{ProfileOutside, NeedOutside, LevelOutside, ClearanceOutside, LabelOutside}
-
--- ---- tests of numbers that fail
-
-pub leb-false : (a b : ℕ) → leb a b ≡ false → b < a
-leb-false a b e = ⊎-elim (λ (h : a ≤ b). apart (le-leb a b h) e) (λ (h : b < a). h) (le-or-lt a b)
-
-pub ltb-false : (a b : ℕ) → ltb a b ≡ false → b ≤ a
-ltb-false a b e = ⊎-elim (λ (h : b ≤ a). h) (λ (h : a < b). apart (lt-ltb a b h) e) (le-or-lt b a)
 
 -- ---- a profile outside its ranges
 

@@ -8,7 +8,7 @@ use mathlib.Core.Bool.{Bool, true, false, cond, not, _&&_, _||_}
 use mathlib.Core.List.{List, [], _∷_, map}
 use lib.ListN.{length, getD, take, drop}
 use lib.Dec.{ltb}
-use borrow.Author.Tests.{ltb-true}
+use borrow.Author.Tests.{ltb-true, ltb-false}
 use Rattle.bits.specs.Bits.{bytesToBits, first, allZero}
 use Rattle.bits.specs.Records.{length-cut}
 use Rattle.model.specs.declared.Level.{Level}
@@ -24,7 +24,6 @@ use Rattle.model.specs.Layout.{labelWidth, labelOffset, objectWidth, tableSize}
 use Rattle.model.specs.Reading.{labelFrom, labelForm, subjectFrom, objectFrom, liveFrom, objectForm, tableRecords, objectRecords, tableFrom, tableForm, objectsFrom, objectsForm, imageForm, monitorFrom}
 use Rattle.model.proofs.Tests.{split, apart, clash, and-left, and-right, and-false, or-cases, or-right, or-false, not-on, not-off, cond-true, cond-false, all-out, all-false, below-in, below-out, below-false, beyond, replicate-at, le-or-lt}
 use Rattle.refusals.specs.Causes.{Stray, StrayLabel, BitBeyond, StrayInTable, StrayInObjects, StrayInImage}
-use Rattle.refusals.proofs.ProfileCauses.{ltb-false}
 
 -- ---- bits of what is absent
 

@@ -2,7 +2,6 @@
 -- Assumes nothing.
 use mathlib.Core.Bool.{_&&_}
 use Rattle.model.specs.Profiles.{absentBeyond, levelsInside}
-use Rattle.profiles.specs.declared.Kept.{Kept}
 use borrow.Author.Needs.{needs}
 use Rattle.profiles.proofs.keeps.Statement.{statement}
 use Rattle.profiles.proofs.keeps.Tie as tie
