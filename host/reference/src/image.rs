@@ -3,6 +3,7 @@
 use crate::bits::{BitReader, BitWriter};
 use crate::level::Level;
 use crate::monitor::Monitor;
+use crate::profile::Profile;
 use crate::record::{Object, OBJECTS, SUBJECTS};
 use crate::{reply, star};
 
@@ -19,39 +20,68 @@ pub const TABLE_BYTES: usize = SUBJECTS * LABEL_BITS / 8;
 pub const IMAGE_BYTES: usize = TABLE_BYTES + OBJECTS * OBJECT_BITS / 8;
 
 impl Monitor {
-    /// A monitor begun from a table: checks 10, 11.
+    /// A monitor begun from a table under the widest profile.
     pub fn from_table(table: &[u8]) -> Result<Monitor, u8> {
+        Monitor::from_table_in(Profile::WIDEST, table)
+    }
+
+    /// A monitor begun from a table: check 16 of the profile, then 10, 11, and 16 of the clearances.
+    pub fn from_table_in(profile: Profile, table: &[u8]) -> Result<Monitor, u8> {
+        if !profile.is_in_range() {
+            return Err(reply::PROFILE);
+        }
         if table.len() != TABLE_BYTES {
             return Err(reply::LENGTH);
         }
         let mut bits = BitReader::new(table);
         let mut form = true;
-        let subjects = read_subjects(&mut bits, &mut form);
-        if form {
-            Ok(Monitor::begin(subjects))
-        } else {
-            Err(reply::STRAY_BITS)
+        let monitor = Monitor::begin_in(profile, read_subjects(&mut bits, profile, &mut form));
+        if !form {
+            return Err(reply::STRAY_BITS);
         }
+        if monitor.has_level_outside() {
+            return Err(reply::PROFILE);
+        }
+        Ok(monitor)
     }
 
-    /// A monitor begun from an image: checks 10, 11, 12, 6, 7, 8, 9, each over the whole image before the next.
+    /// A monitor begun from an image under the widest profile.
     pub fn from_image(image: &[u8]) -> Result<Monitor, u8> {
+        Monitor::from_image_in(Profile::WIDEST, image)
+    }
+
+    /// A monitor begun from an image: check 16 of the profile, then 10, 11, 16 of clearances and labels, 12, 6, 7, 8, 9, each
+    /// over the whole image before the next.
+    pub fn from_image_in(profile: Profile, image: &[u8]) -> Result<Monitor, u8> {
+        if !profile.is_in_range() {
+            return Err(reply::PROFILE);
+        }
         if image.len() != IMAGE_BYTES {
             return Err(reply::LENGTH);
         }
         let mut bits = BitReader::new(image);
         let mut form = true;
-        let mut monitor = Monitor::begin(read_subjects(&mut bits, &mut form));
-        for object in &mut monitor.objects {
+        let mut monitor = Monitor::begin_in(profile, read_subjects(&mut bits, profile, &mut form));
+        for (slot, object) in monitor.objects.iter_mut().enumerate() {
             *object = read_object(&mut bits, &mut form);
+            form &= object.is_none() || profile.has_object(slot);
         }
         if !form {
             return Err(reply::STRAY_BITS);
+        }
+        if monitor.has_level_outside() {
+            return Err(reply::PROFILE);
         }
         match monitor.fault() {
             None => Ok(monitor),
             Some(number) => Err(number),
         }
+    }
+
+    /// Whether a clearance or a label is outside the profile.
+    fn has_level_outside(&self) -> bool {
+        let labels = self.objects.iter().flatten().filter_map(|object| object.label.as_ref());
+        self.subjects.iter().flatten().chain(labels).any(|level| !self.profile.has_level(level))
     }
 
     /// The first of checks 12, 6, 7, 8, 9 that the state fails.
@@ -108,10 +138,12 @@ impl Monitor {
     }
 }
 
-fn read_subjects(bits: &mut BitReader, form: &mut bool) -> [Option<Level>; SUBJECTS] {
+/// "a record beyond the profile is absent, and a bit in it gets 11": that it says it is enrolled is such a bit too.
+fn read_subjects(bits: &mut BitReader, profile: Profile, form: &mut bool) -> [Option<Level>; SUBJECTS] {
     let mut subjects = [None; SUBJECTS];
-    for subject in &mut subjects {
+    for (number, subject) in subjects.iter_mut().enumerate() {
         *subject = read_label(bits, form);
+        *form &= subject.is_none() || profile.has_subject(number);
     }
     subjects
 }

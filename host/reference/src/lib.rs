@@ -9,6 +9,7 @@ mod marked;
 mod mode;
 mod monitor;
 mod page;
+mod profile;
 mod program;
 mod record;
 mod request;
@@ -22,6 +23,7 @@ pub use marked::{marked_run, table_w};
 pub use mode::Mode;
 pub use monitor::Monitor;
 pub use page::PAGE_BYTES;
+pub use profile::Profile;
 pub use program::{program, MOST_REQUESTS};
 pub use record::{Object, OBJECTS, SUBJECTS};
 pub use request::{Kind, Request, REQUEST_BYTES};
@@ -48,7 +50,11 @@ pub mod reply {
     pub const LOWERED: u8 = 14;
     /// a load from the seed 0
     pub const SEED_0: u8 = 15;
+    /// a profile outside its ranges, or a clearance or label outside the profile
+    pub const PROFILE: u8 = 16;
 }
 
+#[cfg(test)]
+mod profile_tests;
 #[cfg(test)]
 mod tests;

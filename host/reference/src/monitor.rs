@@ -2,6 +2,7 @@
 
 use crate::level::Level;
 use crate::mode::Mode;
+use crate::profile::Profile;
 use crate::record::{Object, OBJECTS, SUBJECTS};
 use crate::reply;
 use crate::request::{Kind, Request};
@@ -11,34 +12,48 @@ use crate::star::{self, Star};
 pub struct Monitor {
     pub subjects: [Option<Level>; SUBJECTS],
     pub objects: [Option<Object>; OBJECTS],
+    /// what of these is in use
+    pub profile: Profile,
     /// which algorithm the star check uses; the answers are the same
     pub star: Star,
 }
 
-/// Two monitors are the same state where subjects and objects are; how star is computed does not count.
+/// Two monitors are the same state where subjects, objects and profile are; how star is computed does not count.
 impl PartialEq for Monitor {
     fn eq(&self, other: &Monitor) -> bool {
-        self.subjects == other.subjects && self.objects == other.objects
+        self.subjects == other.subjects && self.objects == other.objects && self.profile == other.profile
     }
 }
 
 impl Monitor {
+    /// Under the widest profile, with no live object.
     pub fn begin(subjects: [Option<Level>; SUBJECTS]) -> Monitor {
-        Monitor { subjects, objects: std::array::from_fn(|_| None), star: Star::Plain }
+        Monitor::begin_in(Profile::WIDEST, subjects)
     }
 
+    pub fn begin_in(profile: Profile, subjects: [Option<Level>; SUBJECTS]) -> Monitor {
+        Monitor { subjects, objects: std::array::from_fn(|_| None), profile, star: Star::Plain }
+    }
+
+    /// The monitor that a refusal returns: nobody is enrolled, and the profile is the widest.
     pub fn empty() -> Monitor {
         Monitor::begin([None; SUBJECTS])
     }
 
+    /// What a byte string says under the profile; nothing where it is malformed.
+    pub fn decode(&self, bytes: &[u8]) -> Option<Request> {
+        Request::decode(bytes).filter(|request| self.profile.has_request(request))
+    }
+
     /// Carries out a byte string and returns its reply.
     pub fn request(&mut self, bytes: &[u8]) -> u8 {
-        match Request::decode(bytes) {
+        match self.decode(bytes) {
             None => reply::MALFORMED,
             Some(request) => self.step(request),
         }
     }
 
+    /// Carries out a request that is inside the profile.
     pub fn step(&mut self, request: Request) -> u8 {
         let Request { actor, object, kind } = request;
         if self.subjects[actor].is_none() {

@@ -68,7 +68,7 @@ pub struct Request {
 }
 
 impl Request {
-    /// What six bytes say; nothing where check 2 refuses them.
+    /// What six bytes say under the widest profile; nothing where check 2 refuses them.
     pub fn decode(bytes: &[u8]) -> Option<Request> {
         if bytes.len() != REQUEST_BYTES {
             return None;

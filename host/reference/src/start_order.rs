@@ -83,7 +83,7 @@ impl Monitor {
         }
         let mut gets = Vec::new();
         for (at, piece) in pieces.into_iter().enumerate() {
-            match Get::decode(piece) {
+            match Get::decode(piece).filter(|get| self.profile.has_request(&get.request())) {
                 Some(get) => gets.push(get),
                 None => return StartOrder::NoGet { at },
             }
