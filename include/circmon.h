@@ -12,7 +12,8 @@
  * access is held without the right; 7 no label, of an image: r, w or a is held on an object without one; 8 the simple
  * property would break, of an image: is broken; 9 the star property would break, of an image: is broken; 10 another length;
  * 11 a stray bit in what is absent; 12 an absent subject owns, has a right or holds; 13 the buffer is too short; 14 the new
- * label does not dominate the one that the object has; 15 the seed of a load is 0.
+ * label does not dominate the one that the object has; 15 the seed of a load is 0; 16 a profile outside its ranges, or a
+ * clearance or label outside the profile.
  * circmon_compare has four numbers of its own, and circmon_clash has four codes of its own. docs/FORMATS.md has the bytes.
  *
  * A function that returns a number with a count beside it returns both in 64 bits: the number in the low byte and the count,
@@ -30,7 +31,7 @@ extern "C" {
 #define CIRCMON_IMAGE_BYTES 1274
 #define CIRCMON_REQUEST_BYTES 6
 #define CIRCMON_DISTINGUISH_BYTES 24
-#define CIRCMON_UNIT_BYTES 3328
+#define CIRCMON_UNIT_BYTES 3344
 #define CIRCMON_PAGE_BYTES 258
 
 /* The two parts of a number with a count beside it. */
@@ -49,16 +50,27 @@ extern "C" {
 /* The length of a buffer, in bytes. It has 64 bits on every machine, so that this header need not change with one. */
 typedef uint64_t circmon_size;
 
+/* ---- The profile of a site: how much of the tables is in use
+ *
+ * A profile is four numbers: subjects, 1 to 16, and objects, 1 to 64, that are in use, from 0 on; highest_class, 0 to 15; and
+ * needs, a set in which need k weighs 2^k, every one of which will do. A subject, object, class or need outside it in a request
+ * is malformed and gets 2. Tables and images keep their size and do not say their profile: whoever reads one says under which.
+ * A bit in the record of a subject or of an object beyond the profile gets 11, and a clearance or label outside it 16. The
+ * widest profile is 16 subjects, 64 objects, class 15 and needs 0xFFFF: under it nothing is outside.
+ * A unit has the profile under which it was begun, and every function on it follows that. Functions on images alone run
+ * under the widest, all but circmon_distinguish_in. */
+
 /* ---- A unit: one monitor that stays in memory which the caller owns */
 
-/* 208 rows of sixteen bytes: rows 0 to 63 the rights of the objects, 64 to 127 the accesses held, 128 to 191 the rest of
- * each object's record, 192 to 207 the clearances of the subjects; docs/FORMATS.md says what each byte is. There is no
- * pointer and no padding in it, and its alignment is 1: it may be copied as it stands, also between machines.
+/* 209 rows of sixteen bytes: rows 0 to 63 the rights of the objects, 64 to 127 the accesses held, 128 to 191 the rest of
+ * each object's record, 192 to 207 the clearances of the subjects, 208 the profile; docs/FORMATS.md says what each byte is.
+ * There is no pointer and no padding in it, and its alignment is 1: it may be copied as it stands, also between machines.
  * Every content of these bytes is a state, and what the functions below do with it is defined and proved: no content makes
- * them do anything undefined, read or write elsewhere, or not end. That a unit is secure is proved where it was opened or
- * started with 0 and then only asked; so keep it where nobody else writes. */
+ * them do anything undefined, read or write elsewhere, or not end. Where all bytes are 0, no subject is in use, and every
+ * request gets 2. That a unit is secure is proved where it was opened or started with 0 and then only asked; so keep it where
+ * nobody else writes. */
 typedef struct {
-    uint8_t row[208][16];
+    uint8_t row[209][16];
 } circmon_unit;
 
 #ifdef __cplusplus
@@ -67,29 +79,46 @@ static_assert(sizeof(circmon_unit) == CIRCMON_UNIT_BYTES, "a unit has no padding
 _Static_assert(sizeof(circmon_unit) == CIRCMON_UNIT_BYTES, "a unit has no padding");
 #endif
 
-/* Begins from an image.
+/* Begins from an image under the widest profile.
  * Returns 0, and the unit is the monitor of the image; or the first refusal of 10, 11, 12, 6, 7, 8, 9, and the unit is the
  * empty monitor, nobody enrolled. Every byte of the unit is written; what was in it before does not matter. */
 uint8_t circmon_open(circmon_unit *unit, const uint8_t *image, circmon_size image_len);
 
-/* Begins from an enrolment table, with no live object.
+/* Begins from an enrolment table, with no live object, under the widest profile.
  * Returns 0, and the unit is the monitor of the table; or 10 or 11, and the unit is the empty monitor, nobody enrolled.
  * Every byte of the unit is written; what was in it before does not matter. */
 uint8_t circmon_start(circmon_unit *unit, const uint8_t *table, circmon_size table_len);
 
-/* Carries out a request: bytes of any length and content; what is no request gets 2.
+/* Begins from an image under a profile.
+ * Returns 16 where the profile is outside its ranges, before the image is looked at; else 0, and the unit is the monitor of the
+ * image with this profile; or the first refusal of 10, 11, 16, 12, 6, 7, 8, 9. Of this order 16 is a clearance or label outside
+ * the profile. Where it is not 0, the unit is the empty monitor, nobody enrolled, which has the widest profile.
+ * Every byte of the unit is written; what was in it before does not matter. */
+uint8_t circmon_open_in(circmon_unit *unit, uint8_t subjects, uint8_t objects, uint8_t highest_class, uint16_t needs,
+                        const uint8_t *image, circmon_size image_len);
+
+/* Begins from an enrolment table, with no live object, under a profile.
+ * Returns 16 where the profile is outside its ranges, before the table is looked at; else 0, and the unit is the monitor of the
+ * table with this profile; or the first refusal of 10, 11, and 16, a clearance outside the profile. Where it is not 0, the unit
+ * is the empty monitor, nobody enrolled, which has the widest profile.
+ * Every byte of the unit is written; what was in it before does not matter. */
+uint8_t circmon_start_in(circmon_unit *unit, uint8_t subjects, uint8_t objects, uint8_t highest_class, uint16_t needs,
+                         const uint8_t *table, circmon_size table_len);
+
+/* Carries out a request: bytes of any length and content; what is no request, or is outside the profile of the unit, gets 2.
  * Returns the reply. Below 2 it is granted: 0 and the state changed, 1 and it was so already. 2 to 9 or 14 is the first check
  * that refuses, and every byte of the unit is left. */
 uint8_t circmon_ask(circmon_unit *unit, const uint8_t *request, circmon_size request_len);
 
 /* Writes the image of the state into the first 1,274 bytes of the buffer and leaves any later byte.
- * Returns 0; or 13 where the buffer has under 1,274 bytes, and leaves every byte of it. The unit is only read. */
+ * Returns 0; or 13 where the buffer has under 1,274 bytes, and leaves every byte of it. The unit is only read. The image does
+ * not say the profile: it is opened again under the profile of this unit. */
 uint8_t circmon_save(const circmon_unit *unit, uint8_t *image, circmon_size image_len);
 
 /* Writes the access page of an object into the first 258 bytes of the buffer and leaves any later byte: a line for each
  * subject with its rights and the accesses that it holds, and a last line with the numbers of holders; text, with a newline
  * behind each line and no 0 behind the last.
- * Returns 2 where the object is above 63; then 4 where it is not live; then 13 where the buffer has under 258 bytes; else 0.
+ * Returns 2 where the object is above 63; then 4 where it is not live, as none beyond the profile is; then 13 where the buffer has under 258 bytes; else 0.
  * A refusal leaves every byte of the buffer. The unit is only read. */
 uint8_t circmon_page(const circmon_unit *unit, uint8_t object, uint8_t *page, circmon_size page_len);
 
@@ -99,7 +128,8 @@ uint8_t circmon_page(const circmon_unit *unit, uint8_t object, uint8_t *page, ci
  * states, carried out on this unit? The same get may stand in it twice. Replies may differ between orders and do not count.
  * Returns a code in the low byte, with the places of pieces above it, which count from 0:
  * 3 CIRCMON_ORDERS_TOO_MANY: there are more than 4,096 pieces; no piece is looked at.
- * 2 CIRCMON_ORDERS_NO_GET: the piece at place FIRST is no well-formed get, and every one before it is.
+ * 2 CIRCMON_ORDERS_NO_GET: the piece at place FIRST is no well-formed get, as one outside the profile of the unit is not, and
+ *   every one before it is.
  * 1 CIRCMON_ORDERS_CLASH: the gets at the places FIRST and SECOND are each granted if it came alone, and would together break
  *   the star property: no order grants both, and not all orders leave equal states. FIRST is the lower place, the least that
  *   there is, and SECOND the least for it.
@@ -109,7 +139,7 @@ uint8_t circmon_page(const circmon_unit *unit, uint8_t object, uint8_t *page, ci
  * is proved of every unit. The unit is only read. */
 uint64_t circmon_clash(const circmon_unit *unit, const uint8_t *requests, circmon_size requests_len);
 
-/* ---- Calls without a unit: on tables, images and lists of requests */
+/* ---- Calls without a unit: on tables, images and lists of requests, under the widest profile but for circmon_distinguish_in */
 
 /* Begins a monitor from an enrolment table and writes its image.
  * Returns 10 or 11 where the table is refused; then 13 where the buffer has under 1,274 bytes; else 0.
@@ -139,6 +169,13 @@ uint8_t circmon_replay(const uint8_t *table, circmon_size table_len, const uint8
 uint8_t circmon_distinguish(const uint8_t *a, circmon_size a_len, const uint8_t *b, circmon_size b_len,
                             uint8_t *requests, circmon_size requests_len);
 
+/* The same under a profile: both images are read under it, and the requests that tell them apart are inside it.
+ * Returns 16 where the profile is outside its ranges, before an image is looked at, and leaves every byte of requests; else as
+ * circmon_distinguish. The refusals n of an image are then those of circmon_open_in. */
+uint8_t circmon_distinguish_in(uint8_t subjects, uint8_t objects, uint8_t highest_class, uint16_t needs,
+                               const uint8_t *a, circmon_size a_len, const uint8_t *b, circmon_size b_len,
+                               uint8_t *requests, circmon_size requests_len);
+
 /* ---- Levels: the clearance of a subject and the label of an object */
 
 /* Compares level a with level b, each as its class and its set of needs, in which need k weighs 2^k. One level dominates
@@ -151,7 +188,8 @@ uint8_t circmon_compare(uint8_t class_a, uint16_t needs_a, uint8_t class_b, uint
 /* ---- Test loads: the same requests in every laboratory */
 
 /* Writes requests of six bytes from a seed, as many whole ones as fit. The same seed gives the same requests on every machine;
- * docs/FORMATS.md says how they are drawn. Each of them is well formed: no state replies 2 to it.
+ * docs/FORMATS.md says how they are drawn. Each of them is well formed for a monitor of the widest profile: none of these
+ * replies 2 to it. One of a narrower profile replies 2 where a field is outside.
  * Returns a number with a count beside it: 0 and how many requests there are, which is requests_len / 6, and any later byte is
  * left; or 15 and 0 where the seed is 0, and every byte is left. */
 uint64_t circmon_load(uint32_t seed, uint8_t *requests, circmon_size requests_len);

@@ -6,12 +6,14 @@
 
 mod counted;
 mod level;
+mod profile;
 mod raw;
 mod start_order;
 mod unit;
 
 pub use counted::Counted;
 pub use level::{compare, Comparison, Level};
+pub use profile::Profile;
 pub use start_order::{StartOrder, MOST_GETS};
 pub use unit::{Rows, Unit, ROWS, ROW_BYTES, UNIT_BYTES};
 
@@ -39,28 +41,28 @@ fn size(slice: &[u8]) -> u64 {
     slice.len() as u64
 }
 
-/// The image of a monitor begun from the table, into the first 1,274 bytes of the buffer: 0, or 10, 11 or 13 and every
+/// The image of a monitor begun from the table under the widest profile, into the first 1,274 bytes of the buffer: 0, or 10, 11 or 13 and every
 /// byte left.
 pub fn begin(table: &[u8], image: &mut [u8]) -> u8 {
     // Safety: each pointer comes with the length of its slice, and no slice overlaps the one that is written.
     unsafe { raw::circmon_begin(table.as_ptr(), size(table), image.as_mut_ptr(), size(image)) }
 }
 
-/// The number of reading the image: 0 where it is accepted.
+/// The number of reading the image under the widest profile: 0 where it is accepted.
 pub fn read(image: &[u8]) -> u8 {
     // Safety: the pointer comes with the length of its slice.
     unsafe { raw::circmon_read(image.as_ptr(), size(image)) }
 }
 
-/// Carries out the request on the state in the buffer, which is exactly an image, and writes the state after it in
-/// place: the reply, or 128 + n and every byte left where the image is refused with n.
+/// Carries out the request on the state in the buffer, which is exactly an image, under the widest profile, and writes the state
+/// after it in place: the reply, or 128 + n and every byte left where the image is refused with n.
 pub fn request(image: &mut [u8], request: &[u8]) -> u8 {
     // Safety: each pointer comes with the length of its slice, and no slice overlaps the one that is written.
     unsafe { raw::circmon_request(image.as_mut_ptr(), size(image), request.as_ptr(), size(request)) }
 }
 
-/// One reply byte for each piece of six bytes, a short last one counted, from a monitor begun from the table: 0; or 10,
-/// 11, or 13 where there is no room for a reply to each piece, and every byte left.
+/// One reply byte for each piece of six bytes, a short last one counted, from a monitor begun from the table under the widest
+/// profile: 0; or 10, 11, or 13 where there is no room for a reply to each piece, and every byte left.
 pub fn replay(table: &[u8], requests: &[u8], replies: &mut [u8]) -> u8 {
     // Safety: each pointer comes with the length of its slice, and no slice overlaps the one that is written.
     unsafe {
@@ -75,7 +77,7 @@ pub fn replay(table: &[u8], requests: &[u8], replies: &mut [u8]) -> u8 {
     }
 }
 
-/// The requests on which the states of two images reply differently, whole, in the first bytes of the buffer: their
+/// The requests on which the states of two images reply differently under the widest profile, whole, in the first bytes of the buffer: their
 /// number, 0 where the images are equal and 1 to 4 where they differ, and any later byte left. Or 128 + n where the image a
 /// is refused with n, then 192 + n where the image b is, then 13 where the buffer has under 24 bytes, and every byte left.
 pub fn distinguish(a: &[u8], b: &[u8], requests: &mut [u8]) -> u8 {
@@ -83,7 +85,26 @@ pub fn distinguish(a: &[u8], b: &[u8], requests: &mut [u8]) -> u8 {
     unsafe { raw::circmon_distinguish(a.as_ptr(), size(a), b.as_ptr(), size(b), requests.as_mut_ptr(), size(requests)) }
 }
 
-/// Requests from the seed, each of six bytes and well formed, as many whole ones as the buffer takes: 0 with their count, and
+/// The same under a profile: the images are read under it, and requests inside it tell them apart.
+pub fn distinguish_in(profile: Profile, a: &[u8], b: &[u8], requests: &mut [u8]) -> u8 {
+    // Safety: each pointer comes with the length of its slice, and no slice overlaps the one that is written.
+    unsafe {
+        raw::circmon_distinguish_in(
+            profile.subjects(),
+            profile.objects(),
+            profile.highest_class(),
+            profile.needs(),
+            a.as_ptr(),
+            size(a),
+            b.as_ptr(),
+            size(b),
+            requests.as_mut_ptr(),
+            size(requests),
+        )
+    }
+}
+
+/// Requests from the seed, each of six bytes and well formed under the widest profile, as many whole ones as the buffer takes: 0 with their count, and
 /// the bytes behind the last one left. Or 15 with the count 0 where the seed is 0, and every byte left.
 pub fn load(seed: u32, requests: &mut [u8]) -> Counted {
     // Safety: the pointer comes with the length of its slice.

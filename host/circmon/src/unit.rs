@@ -1,17 +1,17 @@
 //! A unit: the monitor that stays in memory.
 
-use crate::{raw, size, StartOrder, IMAGE_BYTES, OBJECTS, SUBJECTS};
+use crate::{raw, size, Profile, StartOrder, IMAGE_BYTES, OBJECTS, SUBJECTS};
 
 /// Bytes of a row: one for each subject.
 pub const ROW_BYTES: usize = SUBJECTS;
-/// Three rows for each object, one for each subject.
-pub const ROWS: usize = 3 * OBJECTS + SUBJECTS;
+/// Three rows for each object, one for each subject, and that of the profile.
+pub const ROWS: usize = 3 * OBJECTS + SUBJECTS + 1;
 pub const UNIT_BYTES: usize = ROWS * ROW_BYTES;
 
 /// What a unit is made of; docs/FORMATS.md says what each byte is. Every content is a state.
 pub type Rows = [[u8; ROW_BYTES]; ROWS];
 
-/// One monitor in memory. Units that were begun and then only asked are equal exactly where their images are.
+/// One monitor in memory. Units of one profile that were begun and then only asked are equal exactly where their images are.
 #[repr(transparent)]
 #[derive(Clone, PartialEq, Eq, Debug)]
 pub struct Unit {
@@ -19,19 +19,29 @@ pub struct Unit {
 }
 
 impl Unit {
-    /// Begun from an enrolment table, or refused with a number.
+    /// Begun from an enrolment table under the widest profile, or refused with a number.
     pub fn from_table(table: &[u8]) -> Result<Unit, u8> {
-        let mut unit = Unit::from_rows([[0; ROW_BYTES]; ROWS]);
-        match unit.start(table) {
-            0 => Ok(unit),
-            number => Err(number),
-        }
+        Unit::begun(|unit| unit.start(table))
     }
 
-    /// Begun from an image, or refused with a number.
+    /// Begun from an enrolment table under a profile, or refused with a number.
+    pub fn from_table_in(profile: Profile, table: &[u8]) -> Result<Unit, u8> {
+        Unit::begun(|unit| unit.start_in(profile, table))
+    }
+
+    /// Begun from an image under the widest profile, or refused with a number.
     pub fn from_image(image: &[u8]) -> Result<Unit, u8> {
+        Unit::begun(|unit| unit.open(image))
+    }
+
+    /// Begun from an image under a profile, or refused with a number.
+    pub fn from_image_in(profile: Profile, image: &[u8]) -> Result<Unit, u8> {
+        Unit::begun(|unit| unit.open_in(profile, image))
+    }
+
+    fn begun(begin: impl FnOnce(&mut Unit) -> u8) -> Result<Unit, u8> {
         let mut unit = Unit::from_rows([[0; ROW_BYTES]; ROWS]);
-        match unit.open(image) {
+        match begin(&mut unit) {
             0 => Ok(unit),
             number => Err(number),
         }
@@ -46,16 +56,58 @@ impl Unit {
         &self.rows
     }
 
-    /// Begins from an enrolment table: 0; or 10 or 11, and this is the empty monitor.
+    /// The profile that the last row says. Nothing where its numbers are outside their ranges, which a unit that was begun never
+    /// has.
+    pub fn profile(&self) -> Option<Profile> {
+        let [subjects, objects, _, highest_class, high, low, ..] = self.rows[ROWS - 1];
+        Profile::new(subjects, objects, highest_class, u16::from_be_bytes([high, low]))
+    }
+
+    /// Begins from an enrolment table under the widest profile: 0; or 10 or 11, and this is the empty monitor.
     pub fn start(&mut self, table: &[u8]) -> u8 {
         // Safety: the unit is whole and apart from the slice, whose pointer comes with its length.
         unsafe { raw::circmon_start(&mut self.rows, table.as_ptr(), size(table)) }
     }
 
-    /// Begins from an image: 0; or the first refusal of 10, 11, 12, 6, 7, 8, 9, and this is the empty monitor.
+    /// Begins from an enrolment table under a profile: 0; or the first refusal of 10, 11, 16, and this is the empty monitor, which
+    /// has the widest one.
+    pub fn start_in(&mut self, profile: Profile, table: &[u8]) -> u8 {
+        // Safety: the unit is whole and apart from the slice, whose pointer comes with its length.
+        unsafe {
+            raw::circmon_start_in(
+                &mut self.rows,
+                profile.subjects(),
+                profile.objects(),
+                profile.highest_class(),
+                profile.needs(),
+                table.as_ptr(),
+                size(table),
+            )
+        }
+    }
+
+    /// Begins from an image under the widest profile: 0; or the first refusal of 10, 11, 12, 6, 7, 8, 9, and this is the empty
+    /// monitor.
     pub fn open(&mut self, image: &[u8]) -> u8 {
         // Safety: the unit is whole and apart from the slice, whose pointer comes with its length.
         unsafe { raw::circmon_open(&mut self.rows, image.as_ptr(), size(image)) }
+    }
+
+    /// Begins from an image under a profile: 0; or the first refusal of 10, 11, 16, 12, 6, 7, 8, 9, and this is the empty monitor,
+    /// which has the widest one.
+    pub fn open_in(&mut self, profile: Profile, image: &[u8]) -> u8 {
+        // Safety: the unit is whole and apart from the slice, whose pointer comes with its length.
+        unsafe {
+            raw::circmon_open_in(
+                &mut self.rows,
+                profile.subjects(),
+                profile.objects(),
+                profile.highest_class(),
+                profile.needs(),
+                image.as_ptr(),
+                size(image),
+            )
+        }
     }
 
     /// The reply to a byte string of any length and content, below 2 where it is granted; this is the state after it.
