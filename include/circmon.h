@@ -118,8 +118,8 @@ uint8_t circmon_save(const circmon_unit *unit, uint8_t *image, circmon_size imag
 /* Writes the access page of an object into the first 258 bytes of the buffer and leaves any later byte: a line for each
  * subject with its rights and the accesses that it holds, and a last line with the numbers of holders; text, with a newline
  * behind each line and no 0 behind the last.
- * Returns 2 where the object is above 63; then 4 where it is not live, as none beyond the profile is; then 13 where the buffer has under 258 bytes; else 0.
- * A refusal leaves every byte of the buffer. The unit is only read. */
+ * Returns 2 where the object is above 63; then 4 where it is not live, and no object beyond the profile is; then 13 where the
+ * buffer has under 258 bytes; else 0. A refusal leaves every byte of the buffer. The unit is only read. */
 uint8_t circmon_page(const circmon_unit *unit, uint8_t object, uint8_t *page, circmon_size page_len);
 
 /* ---- Start order: whether it matters in which order tasks take their accesses */

@@ -3,9 +3,11 @@
 use crate::kinds::{Row, Takes};
 use crate::level::Level;
 use crate::mode::Mode;
+use crate::phrases::{level, mode, numbered, object, profile, with_execute};
+use crate::profile::Stated;
 use crate::request::{Kind, Parts, Request};
 use crate::script::{number, Line, ScriptError, MARK};
-use crate::view::{View, OBJECTS, SUBJECTS};
+use crate::view::{View, SUBJECTS};
 use circmon::{REQUEST_BYTES, TABLE_BYTES};
 
 /// The bytes of a script, and where in it they stand.
@@ -14,6 +16,8 @@ pub struct Assembled {
     pub bytes: Vec<u8>,
     /// the line of each request
     pub lines: Vec<usize>,
+    /// the profile, which has no bytes
+    pub profile: Option<Stated>,
     /// the line that gives the table by its bytes
     pub table_line: Option<usize>,
     /// the first line that enrols a subject
@@ -23,6 +27,7 @@ pub struct Assembled {
 /// What the lines up to here have said.
 #[derive(Default)]
 struct Assembly {
+    profile: Option<Stated>,
     subjects: [Option<Level>; SUBJECTS],
     subject_line: Option<usize>,
     /// the table by its bytes
@@ -63,9 +68,10 @@ pub fn assembled(script: &str) -> Result<Assembled, Vec<ScriptError>> {
 
 impl Assembly {
     fn whole(self) -> Assembled {
-        let mut bytes = self.table.unwrap_or_else(|| View::table(&self.subjects).to_vec());
-        bytes.extend(self.requests);
-        Assembled { bytes, lines: self.lines, table_line: self.table_line, subject_line: self.subject_line }
+        let Assembly { subjects, table, requests, lines, profile, table_line, subject_line, .. } = self;
+        let mut bytes = table.unwrap_or_else(|| View::table(&subjects).to_vec());
+        bytes.extend(requests);
+        Assembled { bytes, lines, profile, table_line, subject_line }
     }
 
     fn add(&mut self, line: &Line, bytes: &[u8]) {
@@ -75,6 +81,7 @@ impl Assembly {
 
     fn line(&mut self, line: &mut Line) -> Result<(), ScriptError> {
         match line.peek().map(|word| word.text) {
+            Some("profile") => self.profile(line),
             Some("subject") => self.subject(line),
             Some("table-bytes") => self.table_bytes(line),
             Some("bytes") => self.raw(line),
@@ -86,6 +93,18 @@ impl Assembly {
                 Ok(())
             }
         }
+    }
+
+    fn profile(&mut self, line: &mut Line) -> Result<(), ScriptError> {
+        if self.profile.is_some() {
+            return Err(line.error("the profile stands once".to_string()));
+        }
+        if self.subject_line.is_some() || self.table.is_some() || self.any_request {
+            return Err(line.error("the profile stands before the subjects and the requests".to_string()));
+        }
+        line.keyword("profile")?;
+        self.profile = Some(Stated { line: line.number, profile: profile(line)? });
+        Ok(())
     }
 
     fn subject(&mut self, line: &mut Line) -> Result<(), ScriptError> {
@@ -169,7 +188,7 @@ const VERBS: &str = "a request (create, get, release, give, rescind, delete or l
 
 /// `s1 get r o0` and the others: the parts that the kind uses, each in its place.
 fn request(line: &mut Line) -> Result<Request, ScriptError> {
-    let first = "a subject (s0 to s15), 'subject', 'bytes' or 'table-bytes'";
+    let first = "a subject (s0 to s15), 'profile', 'subject', 'bytes' or 'table-bytes'";
     let actor = line.take(first, |word| numbered(word, 's', SUBJECTS))?;
     let row = line.take(VERBS, Row::of_name)?;
     let mut parts = Parts::NONE;
@@ -190,80 +209,6 @@ fn request(line: &mut Line) -> Result<Request, ScriptError> {
     match Kind::new(row.number, parts) {
         Some(kind) => Ok(Request { actor, object, kind }),
         None => Err(line.error_at_start(format!("no request of the kind {}; please report it", row.name))),
-    }
-}
-
-/// What a word is that `numbered` takes with the letter o.
-pub const OBJECT: &str = "an object (o0 to o63)";
-
-/// The number behind the letter, below the count.
-pub fn numbered(word: &str, letter: char, count: usize) -> Option<usize> {
-    number(word.strip_prefix(letter)?, count - 1)
-}
-
-fn mode(line: &mut Line) -> Result<Mode, ScriptError> {
-    line.take("a mode (r, w, a or e)", Mode::from_letter)
-}
-
-fn object(line: &mut Line) -> Result<usize, ScriptError> {
-    line.take(OBJECT, |word| numbered(word, 'o', OBJECTS))
-}
-
-fn with_execute(line: &mut Line) -> Result<bool, ScriptError> {
-    if line.peek().is_none() {
-        return Ok(false);
-    }
-    line.take("'with e' or the end of the line", |word| (word == "with").then_some(()))?;
-    line.keyword("e")?;
-    Ok(true)
-}
-
-/// `class 3 needs {0,1}` or `class 0 needs {}`, up to the end of the line.
-fn level(line: &mut Line) -> Result<Level, ScriptError> {
-    line.keyword("class")?;
-    let class = line.take("a class (0 to 15)", |word| number(word, 15))? as u8;
-    line.keyword("needs")?;
-    let needs = needs(line)?;
-    line.finish()?;
-    Ok(Level { class, needs })
-}
-
-/// A set of needs in braces, with a comma between two.
-fn needs(line: &mut Line) -> Result<u16, ScriptError> {
-    if let Some(set) = without_braces(line) {
-        return Err(line.error(format!("needs are a set in braces: write 'needs {set}'")));
-    }
-    let sign = |sign: &'static str| move |word: &str| (word == sign).then_some(());
-    line.take("a set of needs, as {0,1} or {}", sign("{"))?;
-    let mut needs = 0;
-    if line.peek().is_some_and(|word| word.text == "}") {
-        line.keyword("}")?;
-        return Ok(needs);
-    }
-    loop {
-        let twice = line.error("this need stands twice".to_string());
-        let need = line.take("a need (0 to 15)", |word| number(word, 15))?;
-        if needs >> need & 1 == 1 {
-            return Err(twice);
-        }
-        needs |= 1 << need;
-        let more =
-            line.take("',' or '}'", |word| [(",", true), ("}", false)].iter().find(|it| it.0 == word).map(|it| it.1))?;
-        if !more {
-            return Ok(needs);
-        }
-    }
-}
-
-/// The set that `needs none` and `needs 0 1`, without braces, are meant to say.
-fn without_braces(line: &Line) -> Option<String> {
-    let words: Vec<&str> = line.rest().iter().map(|word| word.text).filter(|&word| word != ",").collect();
-    match words.as_slice() {
-        ["none"] => Some("{}".to_string()),
-        [_, ..] if words.iter().all(|word| number(word, usize::MAX).is_some()) => {
-            Some(format!("{{{}}}", words.join(",")))
-        }
-        _ => None,
     }
 }
 

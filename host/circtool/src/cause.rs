@@ -76,7 +76,7 @@ impl Cause {
 
 /// What the rules say of a byte string in a secure state.
 pub fn judge(view: &View, bytes: &[u8]) -> Verdict {
-    let request = match Request::decode(bytes) {
+    let request = match Request::decode_in(view.profile, bytes) {
         Ok(request) => request,
         Err(reasons) => return Verdict::Refused(Cause::Malformed(reasons)),
     };

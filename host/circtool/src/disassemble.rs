@@ -2,6 +2,7 @@
 
 use crate::fault;
 use crate::level::level_words;
+use crate::profile::Profile;
 use crate::request::{reasons_words, Request};
 use crate::view::View;
 use crate::words::{hex, refusal_words};
@@ -33,7 +34,7 @@ pub fn request_lines(requests: &[u8]) -> String {
 fn table_lines(table: &[u8]) -> String {
     if let Err(number) = Unit::from_table(table) {
         let bytes = if table.is_empty() { "none".to_string() } else { hex(table) };
-        let place = fault::of_table(table).first().map(|fault| format!(": {fault}")).unwrap_or_default();
+        let place = fault::of_table(Profile::WIDEST, table).first().map(|fault| format!(": {fault}")).unwrap_or_default();
         return format!("# table refused with {}{place}\ntable-bytes {bytes}\n", refusal_words(number));
     }
     let lines: String = View::new(table)

@@ -2,7 +2,7 @@
 
 use crate::cause::{judge, Verdict};
 use crate::paint::Paint;
-use crate::show::subject_lines;
+use crate::show::{profile_lines, subject_lines};
 use crate::view::View;
 use crate::words::{bytes_words, count, reply_words, wrapped};
 use circmon::{Unit, REQUEST_BYTES};
@@ -19,7 +19,7 @@ pub struct Step {
 
 /// Carries out the request on the unit; the reply is the unit's, the reason is found in the state before it.
 pub fn step(unit: &mut Unit, bytes: &[u8]) -> Step {
-    let before = View::new(&unit.image());
+    let before = View::of(unit);
     let reply = unit.ask(bytes);
     let reason = match judge(&before, bytes) {
         _ if reply <= 1 => None,
@@ -35,14 +35,15 @@ pub fn steps(unit: &mut Unit, requests: &[u8]) -> Vec<Step> {
     requests.chunks(REQUEST_BYTES).map(|piece| step(unit, piece)).collect()
 }
 
-/// The whole text: the subjects, a row for each step with its reason below, and a count. Where the requests come from a
+/// The whole text: the profile where it is not the widest, the subjects, a row for each step with its reason below, and a count. Where the requests come from a
 /// script, the line of each stands beside the step; else there are no lines.
 pub fn explain(unit: &mut Unit, requests: &[u8], lines: &[usize], paint: Paint) -> String {
-    let subjects = subject_lines(&View::new(&unit.image()));
+    let before = View::of(unit);
     let steps = steps(unit, requests);
     let width = steps.iter().map(|step| step.request.chars().count()).max().unwrap_or(0).max("request".len());
     let line_heading = if lines.is_empty() { "" } else { "  line" };
-    let mut text = format!("{}\n{subjects}\n", paint.heading("subjects"));
+    let mut text = profile_lines(before.profile, paint);
+    text.push_str(&format!("{}\n{}\n", paint.heading("subjects"), subject_lines(&before)));
     text.push_str(&paint.heading(&format!("step{line_heading}  {:<width$}  reply", "request")));
     text.push('\n');
     for (at, step) in steps.iter().enumerate() {

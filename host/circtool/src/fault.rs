@@ -4,7 +4,9 @@
 use crate::bits::bit;
 use crate::layout::{bit_name, object_at, place, record_of, subject_at, Record};
 use crate::layout::{LABEL_AT, LABEL_BITS, OBJECT_BITS, SUBJECT_BITS};
+use crate::level::{level_words, Level};
 use crate::mode::Modes;
+use crate::profile::{self, Profile};
 use crate::properties::{self, Holding, Pair};
 use crate::view::{View, OBJECTS, SUBJECTS};
 use circmon::{IMAGE_BYTES, TABLE_BYTES};
@@ -14,6 +16,8 @@ use std::fmt;
 pub enum Fault {
     Length { found: usize, expected: usize },
     Stray { absent: Absent, bits: Vec<usize> },
+    /// the clearance or the label in this record
+    Outside { record: Record, level: Level, profile: Profile },
     NotEnrolled { subject: usize, object: usize, owns: bool, rights: Modes, held: Modes },
     Discretionary(Holding),
     Label(Holding),
@@ -27,24 +31,32 @@ pub enum Absent {
     Subject(usize),
     Object(usize),
     LabelOf(usize),
+    SubjectBeyond(usize, Profile),
+    ObjectBeyond(usize, Profile),
 }
 
-/// Checks 10 and 11 of a table.
-pub fn of_table(bytes: &[u8]) -> Vec<Fault> {
+/// Checks 10, 11 and 16 of a table.
+pub fn of_table(profile: Profile, bytes: &[u8]) -> Vec<Fault> {
     if bytes.len() != TABLE_BYTES {
         return vec![Fault::Length { found: bytes.len(), expected: TABLE_BYTES }];
     }
-    (0..SUBJECTS).filter_map(|subject| stray_in_subject(bytes, subject)).collect()
+    let stray: Vec<Fault> = (0..SUBJECTS).filter_map(|subject| stray_in_subject(profile, bytes, subject)).collect();
+    if stray.is_empty() {
+        outside(&View::new(bytes).under(profile))
+    } else {
+        stray
+    }
 }
 
-/// Checks 10, 11, 12, 6, 7, 8, 9 of an image, each over the whole image before the next.
-pub fn of_image(bytes: &[u8]) -> Vec<Fault> {
+/// Checks 10, 11, 16, 12, 6, 7, 8, 9 of an image, each over the whole image before the next.
+pub fn of_image(profile: Profile, bytes: &[u8]) -> Vec<Fault> {
     if bytes.len() != IMAGE_BYTES {
         return vec![Fault::Length { found: bytes.len(), expected: IMAGE_BYTES }];
     }
-    let view = View::new(bytes);
-    let checks: [&dyn Fn() -> Vec<Fault>; 6] = [
-        &|| stray(bytes),
+    let view = View::new(bytes).under(profile);
+    let checks: [&dyn Fn() -> Vec<Fault>; 7] = [
+        &|| stray(profile, bytes),
+        &|| outside(&view),
         &|| not_enrolled(&view),
         &|| properties::discretionary(&view).into_iter().map(Fault::Discretionary).collect(),
         &|| properties::label(&view).into_iter().map(Fault::Label).collect(),
@@ -54,31 +66,52 @@ pub fn of_image(bytes: &[u8]) -> Vec<Fault> {
     checks.iter().map(|check| check()).find(|faults| !faults.is_empty()).unwrap_or_default()
 }
 
-fn stray(bytes: &[u8]) -> Vec<Fault> {
-    let subjects = (0..SUBJECTS).filter_map(|subject| stray_in_subject(bytes, subject));
-    let objects = (0..OBJECTS).filter_map(|object| stray_in_object(bytes, object));
+fn stray(profile: Profile, bytes: &[u8]) -> Vec<Fault> {
+    let subjects = (0..SUBJECTS).filter_map(|subject| stray_in_subject(profile, bytes, subject));
+    let objects = (0..OBJECTS).filter_map(|object| stray_in_object(profile, bytes, object));
     subjects.chain(objects).collect()
 }
 
-/// The bits set in a record behind its first bit, where that one is 0.
+/// The bits set in a record, where there are any.
+fn bits_set(bytes: &[u8], at: usize, width: usize) -> Option<Vec<usize>> {
+    let bits: Vec<usize> = (at..at + width).filter(|&place| bit(bytes, place)).collect();
+    (!bits.is_empty()).then_some(bits)
+}
+
+/// The bits set in a record whose first bit is 0, where there are any.
 fn stray_bits(bytes: &[u8], at: usize, width: usize) -> Option<Vec<usize>> {
-    let bits: Vec<usize> = (at + 1..at + width).filter(|&place| bit(bytes, place)).collect();
-    (!bit(bytes, at) && !bits.is_empty()).then_some(bits)
+    bits_set(bytes, at, width).filter(|bits| bits[0] != at)
 }
 
-fn stray_in_subject(bytes: &[u8], subject: usize) -> Option<Fault> {
-    let bits = stray_bits(bytes, subject_at(subject), SUBJECT_BITS)?;
-    Some(Fault::Stray { absent: Absent::Subject(subject), bits })
+fn stray_in_subject(profile: Profile, bytes: &[u8], subject: usize) -> Option<Fault> {
+    let at = subject_at(subject);
+    let (absent, bits) = if profile::has_subject(profile, subject) {
+        (Absent::Subject(subject), stray_bits(bytes, at, SUBJECT_BITS)?)
+    } else {
+        (Absent::SubjectBeyond(subject, profile), bits_set(bytes, at, SUBJECT_BITS)?)
+    };
+    Some(Fault::Stray { absent, bits })
 }
 
-fn stray_in_object(bytes: &[u8], object: usize) -> Option<Fault> {
+fn stray_in_object(profile: Profile, bytes: &[u8], object: usize) -> Option<Fault> {
     let at = object_at(object);
-    let (absent, bits) = if bit(bytes, at) {
+    let (absent, bits) = if !profile::has_object(profile, object) {
+        (Absent::ObjectBeyond(object, profile), bits_set(bytes, at, OBJECT_BITS)?)
+    } else if bit(bytes, at) {
         (Absent::LabelOf(object), stray_bits(bytes, at + LABEL_AT, LABEL_BITS)?)
     } else {
         (Absent::Object(object), stray_bits(bytes, at, OBJECT_BITS)?)
     };
     Some(Fault::Stray { absent, bits })
+}
+
+/// The clearances and the labels outside the profile.
+fn outside(view: &View) -> Vec<Fault> {
+    let profile = view.profile;
+    let clearances = view.enrolled().map(|(subject, level)| (Record::Subject(subject), level));
+    let labels = view.live().filter_map(|(object, it)| Some((Record::Object(object), it.label?)));
+    let outside = clearances.chain(labels).filter(|(_, level)| !profile::has_level(profile, *level));
+    outside.map(|(record, level)| Fault::Outside { record, level, profile }).collect()
 }
 
 fn not_enrolled(view: &View) -> Vec<Fault> {
@@ -99,6 +132,7 @@ impl Fault {
         match self {
             Fault::Length { .. } => 10,
             Fault::Stray { .. } => 11,
+            Fault::Outside { .. } => 16,
             Fault::NotEnrolled { .. } => 12,
             Fault::Discretionary(_) => 6,
             Fault::Label(_) => 7,
@@ -113,6 +147,7 @@ impl Fault {
         match self {
             Fault::Length { .. } => Vec::new(),
             Fault::Stray { bits, .. } => vec![record_of(bits[0])],
+            Fault::Outside { record, .. } => vec![*record],
             Fault::NotEnrolled { subject, object, .. } => vec![Record::Subject(*subject), Record::Object(*object)],
             Fault::Discretionary(it) | Fault::Label(it) | Fault::Simple(it) => of(it),
             Fault::Star(pair) => [of(&pair.read), of(&pair.written)].concat(),
@@ -126,6 +161,13 @@ impl fmt::Display for Fault {
             Fault::Length { found: 1, expected } => write!(out, "1 byte, not {expected}"),
             Fault::Length { found, expected } => write!(out, "{found} bytes, not {expected}"),
             Fault::Stray { absent, bits } => write!(out, "{absent}, and {}", stray_words(bits)),
+            Fault::Outside { record, level, profile } => {
+                let whose = match record {
+                    Record::Subject(subject) => format!("the clearance of s{subject}"),
+                    Record::Object(object) => format!("the label of o{object}"),
+                };
+                write!(out, "{whose} ({}) {}", level_words(*level), profile::outside(*profile, *level))
+            }
             Fault::NotEnrolled { subject, object, owns, rights, held } => {
                 let has = [
                     owns.then(|| "is the owner".to_string()),
@@ -156,6 +198,10 @@ impl fmt::Display for Absent {
             Absent::Subject(subject) => write!(out, "subject record {subject} is absent"),
             Absent::Object(object) => write!(out, "object record {object} is not live"),
             Absent::LabelOf(object) => write!(out, "object record {object} has no label"),
+            Absent::SubjectBeyond(subject, it) => {
+                write!(out, "subject record {subject} {}", profile::beyond_subjects(*it))
+            }
+            Absent::ObjectBeyond(object, it) => write!(out, "object record {object} {}", profile::beyond_objects(*it)),
         }
     }
 }

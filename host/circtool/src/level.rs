@@ -16,7 +16,7 @@ pub fn shortfall(level: Level, other: Level, name: &str) -> Option<String> {
 }
 
 /// What a level lacks of another: the class, needs, or both.
-fn missing(level: Level, other: Level) -> String {
+pub fn missing(level: Level, other: Level) -> String {
     let needs = other.needs & !level.needs;
     let parts = [
         (level.class < other.class).then(|| format!("the class ({} is under {})", level.class, other.class)),

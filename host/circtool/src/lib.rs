@@ -24,6 +24,8 @@ pub mod orders;
 pub mod outcome;
 pub mod page;
 pub mod paint;
+mod phrases;
+pub mod profile;
 pub mod properties;
 pub mod refusal;
 pub mod request;

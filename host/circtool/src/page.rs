@@ -1,9 +1,10 @@
 //! The access pages of objects, each as the library writes it.
 
 use crate::arguments::Arguments;
-use crate::assemble::{numbered, OBJECT};
 use crate::input::Input;
 use crate::paint::Paint;
+use crate::phrases::{numbered, OBJECT};
+use crate::profile::{beyond_objects, has_object, Profile};
 use crate::refusal;
 use crate::request::Malformed;
 use crate::script::quoted;
@@ -46,8 +47,9 @@ fn named(word: &str) -> Result<usize, String> {
 
 /// The pages, each under a line with the object's owner and label. An error says why the image is refused, or of which objects
 /// there is no page.
-pub fn pages(input: &Input, asked: &Asked, paint: Paint) -> Result<Vec<u8>, String> {
-    let unit = Unit::from_image(&input.bytes).map_err(|number| refusal::of_image(&input.name, &input.bytes, number))?;
+pub fn pages(profile: Profile, input: &Input, asked: &Asked, paint: Paint) -> Result<Vec<u8>, String> {
+    let unit = Unit::from_image_in(profile, &input.bytes)
+        .map_err(|number| refusal::of_image(profile, &input.name, &input.bytes, number))?;
     let view = View::new(&input.bytes);
     let objects = match asked {
         Asked::Named(objects) => objects.clone(),
@@ -58,13 +60,21 @@ pub fn pages(input: &Input, asked: &Asked, paint: Paint) -> Result<Vec<u8>, Stri
         let mut page = [0; PAGE_BYTES];
         match unit.page(object as u8, &mut page) {
             0 => pages.push([heading(&view, object, paint).as_bytes(), &page].concat()),
-            number => refused.push_str(&format!("{}: page of o{object}: {}\n", input.name, reply_words(number))),
+            number => {
+                let why = if has_object(profile, object) { String::new() } else { beyond(profile, object) };
+                refused.push_str(&format!("{}: page of o{object}: {}{why}\n", input.name, reply_words(number)));
+            }
         }
     }
     if !refused.is_empty() {
         return Err(refused);
     }
     Ok(if pages.is_empty() { b"no object is live\n".to_vec() } else { pages.join(&b'\n') })
+}
+
+/// Why an object beyond the profile is not live.
+fn beyond(profile: Profile, object: usize) -> String {
+    format!("; object o{object} {}", beyond_objects(profile))
 }
 
 fn heading(view: &View, object: usize, paint: Paint) -> String {

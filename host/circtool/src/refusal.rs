@@ -1,17 +1,18 @@
 //! What is said of a refused table or image: the number in words, and where the check found its cause.
 
 use crate::fault::{self, Fault};
+use crate::profile::Profile;
 use crate::words::refusal_words;
 
 /// As many places as a message names.
 const MOST_PLACES: usize = 5;
 
-pub fn of_table(name: &str, bytes: &[u8], number: u8) -> String {
-    message(name, "table", number, &fault::of_table(bytes))
+pub fn of_table(profile: Profile, name: &str, bytes: &[u8], number: u8) -> String {
+    message(name, "table", number, &fault::of_table(profile, bytes))
 }
 
-pub fn of_image(name: &str, bytes: &[u8], number: u8) -> String {
-    message(name, "image", number, &fault::of_image(bytes))
+pub fn of_image(profile: Profile, name: &str, bytes: &[u8], number: u8) -> String {
+    message(name, "image", number, &fault::of_image(profile, bytes))
 }
 
 /// The number is the library's; a place found by another check must not pass for its cause.

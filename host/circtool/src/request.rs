@@ -4,6 +4,7 @@ use crate::bits::{field, put};
 use crate::kinds::{Row, KINDS, WITH_MODE};
 use crate::level::{level_words, Level};
 use crate::mode::Mode;
+use crate::profile::{self, Profile};
 use crate::view::{OBJECTS, SUBJECTS};
 use circmon::REQUEST_BYTES;
 use std::fmt;
@@ -80,6 +81,10 @@ pub enum Malformed {
     /// a mode that the kind of this name does not allow
     Mode(u32, &'static str),
     Unused(&'static str, u32),
+    ActorBeyond(u32, Profile),
+    OtherBeyond(u32, Profile),
+    ObjectBeyond(u32, Profile),
+    LevelOutside(Level, Profile),
 }
 
 /// The fields as numbers, in their order.
@@ -145,20 +150,45 @@ impl Fields {
         reasons
     }
 
+    /// Every reason that the profile gives, of fields that the widest one allows and the kind uses.
+    fn outside(&self, profile: Profile) -> Vec<Malformed> {
+        let row = Row::of_number(self.kind);
+        let subject = |number: u32| (number as usize) < SUBJECTS && !profile::has_subject(profile, number as usize);
+        let object = |number: u32| (number as usize) < OBJECTS && !profile::has_object(profile, number as usize);
+        let other = row.is_some_and(|row| row.other) && subject(self.other);
+        let level = row.is_some_and(|row| row.class || row.needs) && !profile::has_level(profile, self.level());
+        let reasons = [
+            subject(self.actor).then_some(Malformed::ActorBeyond(self.actor, profile)),
+            other.then_some(Malformed::OtherBeyond(self.other, profile)),
+            object(self.object).then_some(Malformed::ObjectBeyond(self.object, profile)),
+            level.then_some(Malformed::LevelOutside(self.level(), profile)),
+        ];
+        reasons.into_iter().flatten().collect()
+    }
+
+    fn level(&self) -> Level {
+        Level { class: self.class as u8, needs: self.needs as u16 }
+    }
+
     fn kind(&self) -> Option<Kind> {
-        let level = Level { class: self.class as u8, needs: self.needs as u16 };
-        Kind::new(self.kind, Parts { other: self.other as usize, mode: Mode::from_number(self.mode), level })
+        let parts = Parts { other: self.other as usize, mode: Mode::from_number(self.mode), level: self.level() };
+        Kind::new(self.kind, parts)
     }
 }
 
 impl Request {
-    /// The request that the bytes say, or every reason why they say none.
+    /// The request that the bytes say under the widest profile, or every reason why they say none.
     pub fn decode(bytes: &[u8]) -> Result<Request, Vec<Malformed>> {
+        Request::decode_in(Profile::WIDEST, bytes)
+    }
+
+    /// The same under a profile.
+    pub fn decode_in(profile: Profile, bytes: &[u8]) -> Result<Request, Vec<Malformed>> {
         if bytes.len() != REQUEST_BYTES {
             return Err(vec![Malformed::Length(bytes.len())]);
         }
         let fields = Fields::of(bytes);
-        let reasons = fields.reasons();
+        let reasons = [fields.reasons(), fields.outside(profile)].concat();
         match fields.kind() {
             Some(kind) if reasons.is_empty() => {
                 Ok(Request { actor: fields.actor as usize, object: fields.object as usize, kind })
@@ -205,6 +235,14 @@ impl Request {
     }
 }
 
+impl Malformed {
+    /// Whether the widest profile would not exclude it.
+    pub fn is_by_profile(&self) -> bool {
+        use Malformed::{ActorBeyond, LevelOutside, ObjectBeyond, OtherBeyond};
+        matches!(self, ActorBeyond(..) | OtherBeyond(..) | ObjectBeyond(..) | LevelOutside(..))
+    }
+}
+
 impl fmt::Display for Malformed {
     fn fmt(&self, out: &mut fmt::Formatter) -> fmt::Result {
         match self {
@@ -216,6 +254,12 @@ impl fmt::Display for Malformed {
             Malformed::Object(object) => write!(out, "object {object} is above 63"),
             Malformed::Mode(mode, kind) => write!(out, "mode {mode} is not allowed in {kind}"),
             Malformed::Unused(name, number) => write!(out, "the unused field {name} is {number}, not 0"),
+            Malformed::ActorBeyond(actor, it) => write!(out, "subject s{actor} {}", profile::beyond_subjects(*it)),
+            Malformed::OtherBeyond(other, it) => write!(out, "other subject s{other} {}", profile::beyond_subjects(*it)),
+            Malformed::ObjectBeyond(object, it) => write!(out, "object o{object} {}", profile::beyond_objects(*it)),
+            Malformed::LevelOutside(level, it) => {
+                write!(out, "{} {}", level_words(*level), profile::outside(*it, *level))
+            }
         }
     }
 }

@@ -2,17 +2,27 @@
 
 use crate::level::{level_words, NO_LABEL};
 use crate::paint::Paint;
+use crate::profile::{profile_words, Profile};
 use crate::view::{Object, View, SUBJECTS};
 use crate::words::count;
 
-/// The whole text: counts, subjects with clearances, live objects with owner, label and rows.
+/// The whole text: counts, the profile where it is not the widest, subjects with clearances, live objects with owner, label and rows.
 pub fn show(view: &View, paint: Paint) -> String {
-    let mut text = counts(view);
-    text.push_str(&format!("\n{}\n{}", paint.heading("subjects"), subject_lines(view)));
+    let mut text = format!("{}\n{}", counts(view), profile_lines(view.profile, paint));
+    text.push_str(&format!("{}\n{}", paint.heading("subjects"), subject_lines(view)));
     text.push_str(&format!("\n{}\n", paint.heading("objects")));
     let objects: String = view.live().map(|(number, object)| object_lines(number, object, paint)).collect();
     text.push_str(if objects.is_empty() { "  none is live\n" } else { &objects });
     text
+}
+
+/// A profile that is not the widest, with an empty line behind it.
+pub fn profile_lines(profile: Profile, paint: Paint) -> String {
+    if profile == Profile::WIDEST {
+        String::new()
+    } else {
+        format!("{}\n  {}\n\n", paint.heading("profile"), profile_words(profile))
+    }
 }
 
 /// The enrolled subjects with their clearances.

@@ -5,7 +5,8 @@ use crate::bits::{bit, field, put};
 use crate::layout::{object_at, sets_at, subject_at, Place, CLASS, HELD, LABEL_AT, NEEDS, OWNER, RIGHTS};
 use crate::level::Level;
 use crate::mode::Modes;
-use circmon::TABLE_BYTES;
+use crate::profile::Profile;
+use circmon::{Unit, TABLE_BYTES};
 
 pub use circmon::{OBJECTS, SUBJECTS};
 
@@ -31,15 +32,29 @@ pub struct View {
     pub subjects: [Option<Level>; SUBJECTS],
     /// each object, where it is live
     pub objects: [Option<Object>; OBJECTS],
+    /// what of these is in use; bytes do not say it
+    pub profile: Profile,
 }
 
 impl View {
-    /// The fields of an image. Bytes that are not there count as 0: a table alone reads as a state with no live object.
+    /// The fields of an image, under the widest profile. Bytes that are not there count as 0: a table alone reads as a state with
+    /// no live object.
     pub fn new(bytes: &[u8]) -> View {
         View {
             subjects: std::array::from_fn(|subject| level_at(bytes, subject_at(subject))),
             objects: std::array::from_fn(|object| object_in(bytes, object_at(object))),
+            profile: Profile::WIDEST,
         }
+    }
+
+    /// The same fields under a profile.
+    pub fn under(self, profile: Profile) -> View {
+        View { profile, ..self }
+    }
+
+    /// The state of a unit that was begun, which has its profile in it.
+    pub fn of(unit: &Unit) -> View {
+        View::new(&unit.image()).under(unit.profile().expect("a unit that was begun"))
     }
 
     /// The table with these subjects.

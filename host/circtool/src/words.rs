@@ -10,8 +10,10 @@ pub fn bytes_words(bytes: &[u8]) -> String {
     }
 }
 
+/// Why bytes are malformed. What the profile alone excludes is a request elsewhere.
 pub fn malformed_words(reasons: &[Malformed]) -> String {
-    format!("the bytes are no request: {}", reasons_words(reasons))
+    let start = if reasons.iter().all(Malformed::is_by_profile) { "" } else { "the bytes are no request: " };
+    format!("{start}{}", reasons_words(reasons))
 }
 
 /// Bytes as pairs of hexadecimal digits: `50 80 00`.
@@ -23,7 +25,7 @@ pub fn hex(bytes: &[u8]) -> String {
 /// where it is none.
 type Row = (u8, &'static str, &'static str, &'static str);
 
-const NUMBERS: [Row; 16] = [
+const NUMBERS: [Row; 17] = [
     (0, "granted, the state changed", "", ""),
     (1, "granted, it was so already", "", ""),
     (2, "refused: malformed", "", ""),
@@ -40,6 +42,7 @@ const NUMBERS: [Row; 16] = [
     (13, "", "the buffer is too short", ""),
     (14, "refused: the new label does not dominate the old", "", ""),
     (15, "", "", "the seed is 0"),
+    (16, "", "a clearance or label is outside the profile", ""),
 ];
 
 /// The words of a number in one column of the table.
@@ -103,7 +106,7 @@ mod tests {
             (0..=255).filter(|&number| !words(number).contains("a number that")).collect()
         };
         assert_eq!(numbers(reply_words), (0..=9).chain([14]).collect::<Vec<u8>>());
-        assert_eq!(numbers(refusal_words), (6..=13).collect::<Vec<u8>>());
+        assert_eq!(numbers(refusal_words), (6..=13).chain([16]).collect::<Vec<u8>>());
         assert_eq!(numbers(load_words), [15]);
     }
 }
