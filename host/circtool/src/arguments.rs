@@ -17,8 +17,8 @@ fn parted(word: &OsStr) -> (String, Option<&OsStr>) {
 /// What a subcommand takes.
 pub struct Takes {
     pub flags: &'static [&'static str],
-    /// options with a file behind them
-    pub with_file: &'static [&'static str],
+    /// options with a value behind them, and what the value is
+    pub with_value: &'static [(&'static str, &'static str)],
     pub least_files: usize,
     pub most_files: usize,
 }
@@ -26,7 +26,7 @@ pub struct Takes {
 #[derive(Default, Debug)]
 pub struct Arguments {
     flags: Vec<String>,
-    files_of_options: Vec<(String, OsString)>,
+    values: Vec<(String, OsString)>,
     pub files: Vec<OsString>,
 }
 
@@ -60,15 +60,15 @@ impl Arguments {
             self.flags.push(option.clone());
             return if value.is_none() { Ok(()) } else { Err(format!("{option} takes no value")) };
         }
-        if !takes.with_file.contains(&option.as_str()) {
+        let Some((_, what)) = takes.with_value.iter().find(|(name, _)| *name == option) else {
             return Err(format!("unknown option '{option}'"));
-        }
-        if self.file_of(&option).is_some() {
+        };
+        if self.value_of(&option).is_some() {
             return Err(format!("{option} is given twice"));
         }
-        let file = value.or_else(|| words.next().map(OsString::as_os_str)).filter(|file| !file.is_empty());
-        let file = file.ok_or(format!("expected a file behind {option}"))?;
-        self.files_of_options.push((option, file.to_os_string()));
+        let value = value.or_else(|| words.next().map(OsString::as_os_str)).filter(|value| !value.is_empty());
+        let value = value.ok_or(format!("expected {what} behind {option}"))?;
+        self.values.push((option, value.to_os_string()));
         Ok(())
     }
 
@@ -87,8 +87,8 @@ impl Arguments {
         self.flags.iter().any(|it| it == flag)
     }
 
-    pub fn file_of(&self, option: &str) -> Option<&OsStr> {
-        self.files_of_options.iter().find(|(name, _)| name == option).map(|(_, file)| file.as_os_str())
+    pub fn value_of(&self, option: &str) -> Option<&OsStr> {
+        self.values.iter().find(|(name, _)| name == option).map(|(_, value)| value.as_os_str())
     }
 
     pub fn file(&self) -> Option<&OsStr> {

@@ -2,6 +2,7 @@
 
 use crate::input::{assembled, form, is_text, Form, Input};
 use crate::outcome::{refused, trouble, Step};
+use crate::profile::{one_of, Profile};
 use crate::refusal;
 use circmon::{Unit, IMAGE_BYTES, TABLE_BYTES};
 
@@ -13,31 +14,33 @@ pub struct Begun {
     pub lines: Vec<usize>,
 }
 
-/// Begins in the form that was asked for, or in the one that the input has; without a form asked for, an image is not begun.
-pub fn begin(input: &Input, asked: Option<Form>) -> Step<Begun> {
+/// Begins in the form that was asked for, or in the one that the input has; without a form asked for, an image is not begun. The
+/// profile is the one that is given, or the one that the script states, or the widest.
+pub fn begin(input: &Input, asked: Option<Form>, given: Option<Profile>) -> Step<Begun> {
     match asked.unwrap_or_else(|| form(&input.bytes)) {
-        Form::Script => begin_script(input),
+        Form::Script => begin_script(input, given),
         Form::Bytes if asked.is_none() && is_image(&input.bytes) => Err(trouble(image_message(&input.name))),
         Form::Bytes => {
-            let (unit, requests) = begin_table(&input.name, &input.bytes)?;
+            let (unit, requests) = begin_table(given.unwrap_or(Profile::WIDEST), &input.name, &input.bytes)?;
             Ok(Begun { unit, requests, lines: Vec::new() })
         }
     }
 }
 
-/// Only a table given by its bytes can be refused, and then its line is named.
-fn begin_script(input: &Input) -> Step<Begun> {
+/// Where a table that is given by its bytes is refused, its line is named.
+fn begin_script(input: &Input, given: Option<Profile>) -> Step<Begun> {
     let script = assembled(input).map_err(trouble)?;
+    let profile = one_of(given, script.profile, &input.name).map_err(trouble)?;
     let name = script.table_line.map_or(input.name.clone(), |line| format!("{}:{line}", input.name));
-    let (unit, requests) = begin_table(&name, &script.bytes)?;
+    let (unit, requests) = begin_table(profile, &name, &script.bytes)?;
     Ok(Begun { unit, requests, lines: script.lines })
 }
 
-fn begin_table(name: &str, bytes: &[u8]) -> Step<(Unit, Vec<u8>)> {
+fn begin_table(profile: Profile, name: &str, bytes: &[u8]) -> Step<(Unit, Vec<u8>)> {
     let (table, requests) = bytes.split_at(bytes.len().min(TABLE_BYTES));
-    match Unit::from_table(table) {
+    match Unit::from_table_in(profile, table) {
         Ok(unit) => Ok((unit, requests.to_vec())),
-        Err(number) => Err(refused(refusal::of_table(name, table, number))),
+        Err(number) => Err(refused(refusal::of_table(profile, name, table, number))),
     }
 }
 

@@ -9,10 +9,11 @@ use crate::input::{assembled, form, is_text, read, Form, Input};
 use crate::orders::{orders, Gets, Orders};
 use crate::outcome::{bad_usage, refused, trouble, Outcome, Step, REFUSED, TROUBLE};
 use crate::paint::Paint;
+use crate::profile::{self, one_of, Profile};
 use crate::show::show;
 use crate::view::View;
 use crate::{help, load, page, refusal, save};
-use circmon::{IMAGE_BYTES, REQUEST_BYTES};
+use circmon::{Unit, IMAGE_BYTES, REQUEST_BYTES};
 use std::ffi::{OsStr, OsString};
 use std::io::{ErrorKind, Read, Write};
 
@@ -76,25 +77,45 @@ fn subcommand(name: &str, words: &[OsString], standard_input: &mut dyn Read, pai
     result.unwrap_or_else(|outcome| outcome)
 }
 
+/// Options with a value behind them.
+const IMAGE: (&str, &str) = ("--image", "a file");
+const TABLE: (&str, &str) = ("--table", "a file");
+const PROFILE: (&str, &str) = (profile::OPTION, "a profile");
+
 fn takes(name: &str) -> Takes {
-    let (flags, with_file, least_files, most_files): (&[&str], &[&str], usize, usize) = match name {
-        "explain" => (&["--script", "--bytes"], &[], 0, 1),
-        "run" => (&["--script", "--bytes"], &["--image"], 0, 1),
-        "show" => (&["--anyway"], &[], 0, 1),
+    type Values = &'static [(&'static str, &'static str)];
+    let (flags, with_value, least_files, most_files): (&[&str], Values, usize, usize) = match name {
+        "explain" => (&["--script", "--bytes"], &[PROFILE], 0, 1),
+        "run" => (&["--script", "--bytes"], &[IMAGE, PROFILE], 0, 1),
+        "show" => (&["--anyway"], &[PROFILE], 0, 1),
         // the image, and words that are no files: the objects
-        "page" => (&["--all"], &[], 0, usize::MAX),
+        "page" => (&["--all"], &[PROFILE], 0, usize::MAX),
         // two words that are no files: the seed and the count
-        "load" => (&["--bytes"], &["--table"], 0, 2),
-        "compare" => (&[], &[], 2, 2),
-        "orders" => (&["--bytes"], &[], 1, 2),
+        "load" => (&["--bytes"], &[TABLE], 0, 2),
+        "compare" => (&[], &[PROFILE], 2, 2),
+        "orders" => (&["--bytes"], &[PROFILE], 1, 2),
         _ => (&[], &[], 0, 1),
     };
-    Takes { flags, with_file, least_files, most_files }
+    Takes { flags, with_value, least_files, most_files }
 }
 
+/// The profile that the option gives to a subcommand.
+fn given(name: &str, arguments: &Arguments) -> Step<Option<Profile>> {
+    profile::asked(arguments).map_err(|message| bad_usage(name, message))
+}
+
+/// The bytes of a script. A profile is not in them, and only the widest one is that under which `circmon` runs them.
 fn asm(arguments: &Arguments, standard_input: &mut dyn Read) -> Step<Outcome> {
     let input = read(arguments.file(), standard_input).map_err(trouble)?;
-    assembled(&input).map(|it| Outcome::fine(it.bytes)).map_err(trouble)
+    let script = assembled(&input).map_err(trouble)?;
+    match script.profile {
+        Some(stated) if stated.profile != Profile::WIDEST => Err(trouble(format!(
+            "{}:{}: a profile has no bytes, and the program circmon runs under the widest one; \
+             'circtool run' and 'circtool explain' run this script\n",
+            input.name, stated.line
+        ))),
+        _ => Ok(Outcome::fine(script.bytes)),
+    }
 }
 
 /// The script of any bytes; where they look like something else, that is said beside it.
@@ -119,10 +140,10 @@ fn form_asked(arguments: &Arguments) -> Step<Option<Form>> {
     }
 }
 
-fn begin_run(arguments: &Arguments, standard_input: &mut dyn Read) -> Step<Begun> {
-    let asked = form_asked(arguments)?;
+fn begin_run(name: &str, arguments: &Arguments, standard_input: &mut dyn Read) -> Step<Begun> {
+    let (asked, given) = (form_asked(arguments)?, given(name, arguments)?);
     let input = read(arguments.file(), standard_input).map_err(trouble)?;
-    begin(&input, asked).map_err(|outcome| outcome.with(other_form(&input, asked)))
+    begin(&input, asked, given).map_err(|outcome| outcome.with(other_form(&input, asked)))
 }
 
 /// What another flag, or none, would do with an input that was taken for bytes.
@@ -138,16 +159,16 @@ fn other_form(input: &Input, asked: Option<Form>) -> &'static str {
 }
 
 fn explain_run(arguments: &Arguments, standard_input: &mut dyn Read, paint: Paint) -> Step<Outcome> {
-    let mut begun = begin_run(arguments, standard_input)?;
+    let mut begun = begin_run("explain", arguments, standard_input)?;
     Ok(Outcome::fine(explain(&mut begun.unit, &begun.requests, &begun.lines, paint)))
 }
 
 fn run(arguments: &Arguments, standard_input: &mut dyn Read) -> Step<Outcome> {
-    let out = arguments.file_of("--image");
+    let out = arguments.value_of("--image");
     if let Some(out) = out {
         may_write(out, arguments.file())?;
     }
-    let Begun { mut unit, requests, .. } = begin_run(arguments, standard_input)?;
+    let Begun { mut unit, requests, .. } = begin_run("run", arguments, standard_input)?;
     let replies: String = requests.chunks(REQUEST_BYTES).map(|piece| format!("{}\n", unit.ask(piece))).collect();
     if let Some(out) = out {
         save::whole(out, &unit.image()).map_err(|error| {
@@ -171,28 +192,31 @@ fn may_write(out: &OsStr, file: Option<&OsStr>) -> Step<()> {
 }
 
 fn show_image(arguments: &Arguments, standard_input: &mut dyn Read, paint: Paint) -> Step<Outcome> {
+    let profile = given("show", arguments)?.unwrap_or(Profile::WIDEST);
     let input = read(arguments.file(), standard_input).map_err(trouble)?;
-    let number = circmon::read(&input.bytes);
-    if number == 0 {
-        return Ok(Outcome::fine(show(&View::new(&input.bytes), paint)));
-    }
-    let mut outcome = Outcome::failed(REFUSED, refusal::of_image(&input.name, &input.bytes, number));
+    let view = View::new(&input.bytes).under(profile);
+    let number = match Unit::from_image_in(profile, &input.bytes) {
+        Ok(_) => return Ok(Outcome::fine(show(&view, paint))),
+        Err(number) => number,
+    };
+    let mut outcome = Outcome::failed(REFUSED, refusal::of_image(profile, &input.name, &input.bytes, number));
     if arguments.has("--anyway") && input.bytes.len() == IMAGE_BYTES {
         let heading = paint.heading("REFUSED IMAGE: no monitor begins from it; its fields as they stand");
-        outcome.out = format!("{heading}\n{}", show(&View::new(&input.bytes), paint)).into_bytes();
+        outcome.out = format!("{heading}\n{}", show(&view, paint)).into_bytes();
     }
     Ok(outcome)
 }
 
 fn pages(arguments: &Arguments, standard_input: &mut dyn Read, paint: Paint) -> Step<Outcome> {
+    let profile = given("page", arguments)?.unwrap_or(Profile::WIDEST);
     let asked = page::asked(arguments).map_err(|message| bad_usage("page", message))?;
     let input = read(arguments.file(), standard_input).map_err(trouble)?;
-    page::pages(&input, &asked, paint).map(Outcome::fine).map_err(refused)
+    page::pages(profile, &input, &asked, paint).map(Outcome::fine).map_err(refused)
 }
 
 fn load_requests(arguments: &Arguments, standard_input: &mut dyn Read) -> Step<Outcome> {
     let asked = load::asked(arguments).map_err(|message| bad_usage("load", message))?;
-    let table = match arguments.file_of("--table") {
+    let table = match arguments.value_of("--table") {
         Some(file) => Some(load::table(&read(Some(file), standard_input).map_err(trouble)?)?),
         None => None,
     };
@@ -203,10 +227,11 @@ fn compare_images(arguments: &Arguments, standard_input: &mut dyn Read, paint: P
     if arguments.files.iter().all(|file| file == "-") {
         return Err(trouble("circtool compare: standard input is one image, not both\n".to_string()));
     }
+    let profile = given("compare", arguments)?.unwrap_or(Profile::WIDEST);
     let a = read(Some(&arguments.files[0]), standard_input).map_err(trouble)?;
     let b = read(Some(&arguments.files[1]), standard_input).map_err(trouble)?;
     let (named_a, named_b) = (Named { name: &a.name, bytes: &a.bytes }, Named { name: &b.name, bytes: &b.bytes });
-    match compare(&named_a, &named_b, paint) {
+    match compare(profile, &named_a, &named_b, paint) {
         Comparison::Equal(text) => Ok(Outcome::fine(text)),
         Comparison::Different(text) => Ok(Outcome { out: text.into_bytes(), err: String::new(), status: REFUSED }),
         Comparison::Trouble(text) => Err(trouble(text)),
@@ -218,10 +243,12 @@ fn orders_of_gets(arguments: &Arguments, standard_input: &mut dyn Read, paint: P
     if image == "-" && gets.is_none_or(|file| file == "-") {
         return Err(trouble("circtool orders: standard input is the image or the gets, not both\n".to_string()));
     }
+    let given = given("orders", arguments)?;
     let image = read(Some(image), standard_input).map_err(trouble)?;
-    let gets = read(gets, standard_input).map_err(trouble)?;
-    let gets = Gets::new(&gets, arguments.has("--bytes")).map_err(trouble)?;
-    match orders(&Named { name: &image.name, bytes: &image.bytes }, &gets, paint) {
+    let input = read(gets, standard_input).map_err(trouble)?;
+    let gets = Gets::new(&input, arguments.has("--bytes")).map_err(trouble)?;
+    let profile = one_of(given, gets.profile, &input.name).map_err(trouble)?;
+    match orders(profile, &Named { name: &image.name, bytes: &image.bytes }, &gets, paint) {
         Orders::Agree(text) => Ok(Outcome::fine(text)),
         Orders::Matter(text) => Ok(Outcome { out: text.into_bytes(), err: String::new(), status: REFUSED }),
         Orders::Trouble(text) => Err(trouble(text)),

@@ -31,7 +31,10 @@ Usage: circtool asm [FILE]
 Writes the bytes of a script to standard output: 42 bytes of table, then six bytes for each request.
 
 A script has first the subjects, then the requests, one on a line; '#' begins a comment. Needs are a set in braces.
+Before the subjects may stand the profile of the site: how many subjects and objects are in use, the highest class, and
+the needs. What is outside it in a request gets 2.
 
+  profile subjects 4 objects 10 class 3 needs {0,1}
   subject 1 class 3 needs {0,1}    enrols s1; a subject that no line names is absent
   subject 2 class 0 needs {}
   s1 create o0                     s1 create o1 with e
@@ -43,8 +46,12 @@ A script has first the subjects, then the requests, one on a line; '#' begins a 
   table-bytes 88 00 ..             the table by its 42 bytes, in place of the subjects; fewer (or 'none') only where
                                    no request follows
 
-Subjects are 0 to 15, objects 0 to 63, classes and needs 0 to 15, modes r, w, a, e. Between words stand spaces and tabs.
-A byte-order mark before the script is left out.
+Subjects are 0 to 15, objects 0 to 63, classes and needs 0 to 15, modes r, w, a, e. A profile has 1 to 16 subjects, 1 to
+64 objects, a class from 0 to 15 and any needs. Between words stand spaces and tabs. A byte-order mark before the script
+is left out.
+
+A profile has no bytes, and circmon runs under the widest one, which a script without a profile has too: a script with
+another is not written.
 
 Example: circtool asm examples/marked-run.circ | target/bin/circmon
 ('rt check circmon', in the root of the repository, proves and builds the program circmon.)
@@ -64,19 +71,22 @@ Exit status: 0 fine; 2 usage, or a file that cannot be read.
 ";
 
 pub const EXPLAIN: &str = "\
-Usage: circtool explain [--script | --bytes] [FILE]
+Usage: circtool explain [--script | --bytes] [--profile PROFILE] [FILE]
 
 Runs the requests and prints each with its reply in words and, for a refusal, its cause in the state before the request:
 the right or ownership that is missing, the absent label, the new label that does not dominate the old one, the
 clearance that does not dominate a label, or the two objects that stand in the way of the star property. Of the last
 three it says how the one level compares with the other, 'below' (only the other one dominates) or 'apart' (neither
 does), and what is missing: the class, needs, or both. A level that is equal to the other or above it dominates it, and
-that is not refused.
+that is not refused. Of what is outside the profile it says what is in use.
 
 The input is a script or bytes as circmon reads them. Without a flag the first byte decides: 00, 80 to FF, or no byte at
 all is bytes, any other a script, and so is what begins with a byte-order mark. An accepted table is never taken for a
 script. 1,274 bytes are an image and are not run. circmon stops after 4,096 requests, circtool does not. Where the input
 is a script, the line of each request stands beside its step.
+
+  --profile PROFILE   the profile of the site, where the script does not state it: as in a script, in one word of the
+                      command line, 'subjects 4 objects 10 class 3 needs {0,1}'
 
 Example: circtool explain examples/four-answers.circ
 
@@ -85,7 +95,7 @@ errors in the script.
 ";
 
 pub const RUN: &str = "\
-Usage: circtool run [--script | --bytes] [--image OUT] [FILE]
+Usage: circtool run [--script | --bytes] [--profile PROFILE] [--image OUT] [FILE]
 
 Runs the requests and prints one reply for each, as circmon does. With --image the image after the run is written to the
 file OUT, whole or not at all, for 'circtool show' and 'circtool compare'. Where the input is bad, OUT is as it was.
@@ -94,6 +104,9 @@ The input is a script or bytes as circmon reads them. Without a flag the first b
 all is bytes, any other a script, and so is what begins with a byte-order mark. 1,274 bytes are an image and not run.
 circmon stops after 4,096 requests, circtool does not.
 
+  --profile PROFILE   the profile of the site, where the script does not state it: as in a script, in one word of the
+                      command line, 'subjects 4 objects 10 class 3 needs {0,1}'
+
 Example: circtool run examples/marked-run.circ --image marked.img
 
 Exit status: 0 fine, also where requests are refused; 1 the table is refused; 2 usage, a file that cannot be read or
@@ -101,11 +114,14 @@ written, or errors in the script.
 ";
 
 pub const SHOW: &str = "\
-Usage: circtool show [--anyway] [IMAGE]
+Usage: circtool show [--anyway] [--profile PROFILE] [IMAGE]
 
 Prints the state in an image: counts, enrolled subjects with clearances, live objects with owner, label or 'no label',
 and each subject that has rights or holds accesses on them. Of a refused image it prints the number, the check in words
 and where it failed; with --anyway also the fields as they stand, without what is marked absent.
+
+  --profile PROFILE   the profile of the monitor that wrote the image, which does not say it: as in a script, in one word
+                      of the command line, 'subjects 4 objects 10 class 3 needs {0,1}'; the widest where it is not given
 
 Colour is used only where standard output is a terminal and NO_COLOR is not set or empty.
 
@@ -115,8 +131,8 @@ Exit status: 0 fine; 1 the image is refused; 2 usage, or a file that cannot be r
 ";
 
 pub const PAGE: &str = "\
-Usage: circtool page IMAGE OBJECT ..
-       circtool page --all [IMAGE]
+Usage: circtool page [--profile PROFILE] IMAGE OBJECT ..
+       circtool page [--profile PROFILE] --all [IMAGE]
 
 Prints the access page of each object, o0 to o63, or with --all of every live one: under its owner and its label or 'no
 label' the page as the library writes it, a line for each subject and a last line.
@@ -126,6 +142,9 @@ label' the page as the library writes it, a line for each subject and a last lin
 
 Where objects are named, so is the image; '-' is standard input. Where one of them is not live, no page is
 printed.
+
+  --profile PROFILE   the profile of the monitor that wrote the image, which does not say it: as in a script, in one word
+                      of the command line, 'subjects 4 objects 10 class 3 needs {0,1}'; the widest where it is not given
 
 Example: circtool page marked.img o1
 
@@ -137,7 +156,8 @@ Usage: circtool load SEED COUNT [--table FILE] [--bytes]
 
 Writes COUNT requests that the library makes from SEED, as a script, with a first line that says seed and count. The
 same seed gives the same requests everywhere, and a longer load begins with a shorter one of the same seed. Every
-request is well formed; most are refused, since every field is drawn.
+request is well formed under the widest profile, and a script with another is no table for it; most are refused, since
+every field is drawn.
 
   --table FILE   puts the subjects of FILE in front: those of a script, whose requests are left out, or those of a table
                  in bytes; '-' is standard input
@@ -150,15 +170,18 @@ not. Without --table the script names no subject: it is put behind lines that do
 Example: circtool load 7 20 --table examples/seeded-load.circ | circtool explain
 
 Exit status: 0 fine; 1 the seed is 0, or the table is refused; 2 usage, a file that cannot be read, an image where a
-table is wanted, or errors in the script.
+table is wanted, errors in the script, or a profile in it.
 ";
 
 pub const COMPARE: &str = "\
-Usage: circtool compare A B
+Usage: circtool compare [--profile PROFILE] A B
 
-Compares two images. Equal: every further list of requests draws the same replies from both, which is proved. Different:
-where, in words, and requests on which the two reply differently, with both replies to each: at most four requests,
-proved.
+Compares two images, of monitors of one profile. Equal: every further list of requests draws the same replies from both,
+which is proved. Different: where, in words, and requests on which the two reply differently, with both replies to each:
+at most four requests, proved.
+
+  --profile PROFILE   the profile of both monitors, which no image says: as in a script, in one word of the command line,
+                      'subjects 4 objects 10 class 3 needs {0,1}'; the widest where it is not given
 
 Example: circtool compare before.img after.img
 
@@ -166,7 +189,7 @@ Exit status: 0 equal; 1 different; 2 trouble: usage, a file that cannot be read,
 ";
 
 pub const ORDERS: &str = "\
-Usage: circtool orders [--bytes] IMAGE [SCRIPT]
+Usage: circtool orders [--bytes] [--profile PROFILE] IMAGE [SCRIPT]
 
 Says whether it matters in which order gets come, as after a power return, when tasks take accesses in the order in
 which they wake: whether all orders of the gets in SCRIPT leave equal states, from the state in IMAGE on. Replies may
@@ -177,9 +200,12 @@ break the star property. It says which label would have to dominate which and ho
 that begin with these gets their replies and where the states that they leave differ. Where there are no two such gets,
 all orders leave equal states. Both are proved.
 
-SCRIPT has one get on a line, as 's1 get r o0', and no subject, since the image says who is enrolled.
+SCRIPT has one get on a line, as 's1 get r o0', and no subject, since the image says who is enrolled. It may state the
+profile of the monitor that wrote the image.
 
-  --bytes   SCRIPT is bytes, six for each get, without a table
+  --bytes             SCRIPT is bytes, six for each get, without a table
+  --profile PROFILE   the profile, where the script does not state it: as in a script, in one word of the command line,
+                      'subjects 4 objects 10 class 3 needs {0,1}'
 
 Example: circtool orders wake-up.img examples/wake-up-gets.circ
 

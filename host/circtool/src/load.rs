@@ -4,7 +4,8 @@ use crate::arguments::Arguments;
 use crate::begin::begin;
 use crate::disassemble::{disassemble, request_lines};
 use crate::input::{form, is_text, Form, Input};
-use crate::outcome::Step;
+use crate::outcome::{trouble, Step};
+use crate::profile::Profile;
 use crate::script::{number, quoted};
 use crate::words::{count, load_words};
 use circmon::{REQUEST_BYTES, TABLE_BYTES};
@@ -36,9 +37,10 @@ fn decimal(expected: &str, word: &OsStr, most: usize) -> Result<usize, String> {
     number(&word, most).ok_or_else(|| format!("expected {expected}, found {}", quoted(&word)))
 }
 
-/// The table of a script or of bytes; the requests behind it are left out.
+/// The table of a script or of bytes; the requests behind it are left out. A profile would be lost: a load has a line for each
+/// request and each subject, and is sure to be well formed under the widest profile only.
 pub fn table(input: &Input) -> Step<Vec<u8>> {
-    let begun = begin(input, None).map_err(|outcome| {
+    let begun = begin(input, None, None).map_err(|outcome| {
         let text = form(&input.bytes) == Form::Bytes && is_text(&input.bytes);
         outcome.with(if text {
             "  it looks like a script, but no script begins with its first character\n"
@@ -46,6 +48,10 @@ pub fn table(input: &Input) -> Step<Vec<u8>> {
             ""
         })
     })?;
+    if begun.unit.profile() != Some(Profile::WIDEST) {
+        let name = &input.name;
+        return Err(trouble(format!("{name}: a load is for the widest profile, and this script has a narrower one\n")));
+    }
     // an image begins with the table
     Ok(begun.unit.image()[..TABLE_BYTES].to_vec())
 }

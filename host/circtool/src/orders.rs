@@ -7,6 +7,7 @@ use crate::difference::differences;
 use crate::explain::{step, Step};
 use crate::input::{assembled, Input};
 use crate::paint::Paint;
+use crate::profile::{Profile, Stated};
 use crate::properties::{self, Pair};
 use crate::refusal;
 use crate::request::{reasons_words, Request};
@@ -23,6 +24,8 @@ pub struct Gets {
     requests: Vec<u8>,
     /// the line of each request in the script; none where the input is bytes
     lines: Vec<usize>,
+    /// the profile that the script states
+    pub profile: Option<Stated>,
 }
 
 impl Gets {
@@ -30,7 +33,7 @@ impl Gets {
     pub fn new(input: &Input, bytes: bool) -> Result<Gets, String> {
         let name = input.name.clone();
         if bytes {
-            return Ok(Gets { name, requests: input.bytes.clone(), lines: Vec::new() });
+            return Ok(Gets { name, requests: input.bytes.clone(), lines: Vec::new(), profile: None });
         }
         let script = assembled(input)?;
         let found = [(script.subject_line, "a subject"), (script.table_line, "a table")];
@@ -38,7 +41,10 @@ impl Gets {
             Some((line, what)) => {
                 Err(format!("{name}:{line}: expected gets alone, found {what}: the image says who is enrolled\n"))
             }
-            None => Ok(Gets { name, requests: script.bytes[TABLE_BYTES..].to_vec(), lines: script.lines }),
+            None => {
+                let requests = script.bytes[TABLE_BYTES..].to_vec();
+                Ok(Gets { name, requests, lines: script.lines, profile: script.profile })
+            }
         }
     }
 
@@ -72,16 +78,16 @@ pub enum Orders {
     Trouble(String),
 }
 
-/// What the library says of the gets, on the state in the image.
-pub fn orders(image: &Named, gets: &Gets, paint: Paint) -> Orders {
-    let unit = match Unit::from_image(image.bytes) {
+/// What the library says of the gets, on the state in the image, under the profile.
+pub fn orders(profile: Profile, image: &Named, gets: &Gets, paint: Paint) -> Orders {
+    let unit = match Unit::from_image_in(profile, image.bytes) {
         Ok(unit) => unit,
-        Err(number) => return Orders::Trouble(refusal::of_image(image.name, image.bytes, number)),
+        Err(number) => return Orders::Trouble(refusal::of_image(profile, image.name, image.bytes, number)),
     };
     match unit.clash(&gets.requests) {
         StartOrder::Agree => Orders::Agree(agree(image, gets)),
         StartOrder::Clash { first, second } => matter(image, &unit, gets, [first, second], paint),
-        StartOrder::NoGet { at } => Orders::Trouble(no_get(gets, at)),
+        StartOrder::NoGet { at } => Orders::Trouble(no_get(profile, gets, at)),
         StartOrder::TooMany => Orders::Trouble(format!(
             "{}: {} requests, and the orders of at most {MOST_GETS} gets are looked at\n",
             gets.name,
@@ -103,10 +109,10 @@ fn agree(image: &Named, gets: &Gets) -> String {
     )
 }
 
-/// A request of another kind in its words, or bytes and why they are none.
-fn no_get(gets: &Gets, at: usize) -> String {
+/// A request of another kind in its words, or bytes, or what is outside the profile, and why they are none.
+fn no_get(profile: Profile, gets: &Gets, at: usize) -> String {
     let piece = gets.pieces()[at];
-    let found = match Request::decode(piece) {
+    let found = match Request::decode_in(profile, piece) {
         Ok(request) => format!("'{}'", request.sentence()),
         Err(reasons) => format!("{}: {}", bytes_words(piece), reasons_words(&reasons)),
     };
@@ -129,7 +135,7 @@ fn carried_out(unit: &Unit, pieces: &[&[u8]], begin: [usize; 2]) -> CarriedOut {
             unit.ask(piece);
         }
     }
-    CarriedOut { steps, after: View::new(&unit.image()) }
+    CarriedOut { steps, after: View::of(&unit) }
 }
 
 fn matter(image: &Named, unit: &Unit, gets: &Gets, two: [usize; 2], paint: Paint) -> Orders {
@@ -146,7 +152,7 @@ fn matter(image: &Named, unit: &Unit, gets: &Gets, two: [usize; 2], paint: Paint
     for at in two {
         text.push_str(&format!("  {}: {}\n", gets.place(at), bytes_words(pieces[at])));
     }
-    for reason in reasons(&View::new(image.bytes), two.map(|at| pieces[at])) {
+    for reason in reasons(&View::of(unit), two.map(|at| pieces[at])) {
         text.push_str(&wrapped(&reason, "        ", 100));
     }
     for ((name, begin), order) in ["A", "B"].into_iter().zip(begins).zip([&a, &b]) {
