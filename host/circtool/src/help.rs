@@ -120,8 +120,8 @@ Prints the state in an image: counts, enrolled subjects with clearances, live ob
 and each subject that has rights or holds accesses on them. Of a refused image it prints the number, the check in words
 and where it failed; with --anyway also the fields as they stand, without what is marked absent.
 
-  --profile PROFILE   the profile of the monitor that wrote the image, which does not say it: as in a script, in one word
-                      of the command line, 'subjects 4 objects 10 class 3 needs {0,1}'; the widest where it is not given
+  --profile PROFILE   the profile of the monitor that wrote the image, which does not say it: as in a script, in one
+                      word of the command line, 'subjects 4 objects 10 class 3 needs {0,1}'; else it is the widest
 
 Colour is used only where standard output is a terminal and NO_COLOR is not set or empty.
 
@@ -143,8 +143,8 @@ label' the page as the library writes it, a line for each subject and a last lin
 Where objects are named, so is the image; '-' is standard input. Where one of them is not live, no page is
 printed.
 
-  --profile PROFILE   the profile of the monitor that wrote the image, which does not say it: as in a script, in one word
-                      of the command line, 'subjects 4 objects 10 class 3 needs {0,1}'; the widest where it is not given
+  --profile PROFILE   the profile of the monitor that wrote the image, which does not say it: as in a script, in one
+                      word of the command line, 'subjects 4 objects 10 class 3 needs {0,1}'; else it is the widest
 
 Example: circtool page marked.img o1
 
@@ -180,8 +180,8 @@ Compares two images, of monitors of one profile. Equal: every further list of re
 which is proved. Different: where, in words, and requests on which the two reply differently, with both replies to each:
 at most four requests, proved.
 
-  --profile PROFILE   the profile of both monitors, which no image says: as in a script, in one word of the command line,
-                      'subjects 4 objects 10 class 3 needs {0,1}'; the widest where it is not given
+  --profile PROFILE   the profile of both monitors, which no image says: as in a script, in one word of the command
+                      line, 'subjects 4 objects 10 class 3 needs {0,1}'; else it is the widest
 
 Example: circtool compare before.img after.img
 

@@ -1,7 +1,7 @@
 //! Loads of requests from a seed. A run that draws every field at random is refused nearly always; these runs follow a
 //! state, so that grants, conflicts, changes of level, deletes and re-creates in one slot are all frequent.
 
-use reference::{Kind, Level, Mode, Monitor, Request, OBJECTS, SUBJECTS};
+use reference::{Kind, Level, Mode, Monitor, Profile, Request, OBJECTS, SUBJECTS};
 
 /// Numbers from a seed (splitmix64).
 #[derive(Clone)]
@@ -66,12 +66,22 @@ fn lower(a: Level, b: Level) -> Level {
     Level { class: a.class.min(b.class), needs: a.needs & b.needs }
 }
 
+/// The level with no higher class and no other need than the profile has.
+pub fn inside(profile: Profile, level: Level) -> Level {
+    lower(level, Level { class: profile.highest_class, needs: profile.needs })
+}
+
 /// A table with most subjects enrolled. Clearances are drawn high and first labels low, so that labels rise between them.
 pub fn table(random: &mut Random, shape: Shape) -> [u8; reference::TABLE_BYTES] {
+    table_in(random, Profile::WIDEST, shape)
+}
+
+/// The same with the subjects and the levels of a profile.
+pub fn table_in(random: &mut Random, profile: Profile, shape: Shape) -> [u8; reference::TABLE_BYTES] {
     let mut monitor = Monitor::empty();
-    for subject in &mut monitor.subjects {
+    for subject in &mut monitor.subjects[..usize::from(profile.subjects)] {
         if !random.once_in(6) {
-            *subject = Some(upper(level(random, shape), level(random, shape)));
+            *subject = Some(inside(profile, upper(level(random, shape), level(random, shape))));
         }
     }
     monitor.table()
@@ -84,7 +94,8 @@ pub fn everyone() -> [u8; reference::TABLE_BYTES] {
     Monitor::begin(std::array::from_fn(clearance)).table()
 }
 
-/// The next request for a state: most draws name the owner of the object, so that ownership is met often.
+/// The next request for a state: most draws name the owner of the object, so that ownership is met often. Levels are inside the
+/// profile of the state, and so is all else where the shape has no more subjects and objects.
 pub fn request(random: &mut Random, shape: Shape, monitor: &Monitor) -> Request {
     let object = random.below(shape.objects);
     let live = monitor.objects[object].as_ref();
@@ -98,7 +109,7 @@ pub fn request(random: &mut Random, shape: Shape, monitor: &Monitor) -> Request 
         mode: random.mode(),
         other: random.below(shape.subjects),
         execute: random.once_in(2),
-        level: new_level(random, shape, live.and_then(|it| it.label)),
+        level: inside(monitor.profile, new_level(random, shape, live.and_then(|it| it.label))),
     };
     Request { actor, object, kind: kind(fields) }
 }

@@ -5,6 +5,7 @@ mod fields;
 pub mod level;
 pub mod orders;
 pub mod pair;
+pub mod profiles;
 pub mod rights_lists;
 pub mod rows;
 pub mod start_order;
@@ -149,7 +150,8 @@ pub struct Both {
 
 impl Both {
     pub fn new(monitor: Monitor) -> Both {
-        let unit = Unit::from_image(&image(&monitor)).expect("an image that is accepted");
+        let profile = profiles::proved(monitor.profile).expect("the profile of a monitor that was begun");
+        let unit = Unit::from_image_in(profile, &image(&monitor)).expect("an image that is accepted");
         Both { monitor, unit }
     }
 

@@ -1,13 +1,16 @@
 //! What the rows of a unit say, from docs/FORMATS.md: byte 0 of the rest of an object's record is 1 where it is live, byte 1 is
-//! its owner, byte 2 is 1 where a level stands in bytes 3 to 5.
+//! its owner, byte 2 is 1 where a level stands in bytes 3 to 5. The last row has the numbers of subjects and objects of the profile
+//! in the first two bytes, and its highest class and needs as a level.
 
-use circmon::{Rows, OBJECTS, ROWS, ROW_BYTES};
-use reference::{Level, Monitor};
+use circmon::{Rows, OBJECTS, ROWS, ROW_BYTES, SUBJECTS};
+use reference::{Level, Monitor, Object, Profile};
 
-/// The first row of the accesses held, of the rest of each object's record and of the clearances; that of the rights is row 0.
+/// The first row of the accesses held, of the rest of each object's record and of the clearances, and that of the profile; that of
+/// the rights is row 0.
 pub const HELD: usize = OBJECTS;
 pub const REST: usize = 2 * OBJECTS;
 pub const CLEARANCES: usize = 3 * OBJECTS;
+pub const PROFILE: usize = 3 * OBJECTS + SUBJECTS;
 
 pub fn level_in(row: &[u8; 16]) -> Option<Level> {
     (row[2] == 1).then(|| Level { class: row[3], needs: u16::from_be_bytes([row[4], row[5]]) })
@@ -19,6 +22,29 @@ pub fn is_live(rows: &Rows, object: usize) -> bool {
 
 pub fn label_of(rows: &Rows, object: usize) -> Option<Level> {
     level_in(&rows[REST + object])
+}
+
+/// Any numbers; byte 2 and those behind the needs are not looked at.
+pub fn profile_in(rows: &Rows) -> Profile {
+    let [subjects, objects, _, highest_class, high, low, ..] = rows[PROFILE];
+    Profile { subjects, objects, highest_class, needs: u16::from_be_bytes([high, low]) }
+}
+
+/// The state that the rows say, where what is not live has nothing.
+pub fn monitor_said(rows: &Rows) -> Monitor {
+    let subjects = std::array::from_fn(|subject| level_in(&rows[CLEARANCES + subject]));
+    let mut monitor = Monitor::begin_in(profile_in(rows), subjects);
+    for (object, place) in monitor.objects.iter_mut().enumerate() {
+        let rest = &rows[REST + object];
+        let said = Object {
+            label: level_in(rest),
+            rights: rows[object],
+            held: rows[HELD + object],
+            ..Object::new(rest[1].into())
+        };
+        *place = (rest[0] == 1).then_some(said);
+    }
+    monitor
 }
 
 /// The rows of a unit that was begun and asked and is in this state: what has no meaning is 0.
@@ -34,6 +60,9 @@ pub fn of(monitor: &Monitor) -> Rows {
     for (subject, clearance) in monitor.subjects.iter().enumerate() {
         rows[CLEARANCES + subject] = level_row(*clearance);
     }
+    let Profile { subjects, objects, highest_class, needs } = monitor.profile;
+    rows[PROFILE] = level_row(Some(Level { class: highest_class, needs }));
+    rows[PROFILE][..2].copy_from_slice(&[subjects, objects]);
     rows
 }
 

@@ -2,8 +2,8 @@
 
 use circmon::{Rows, Unit, IMAGE_BYTES, OBJECTS, SUBJECTS};
 use load::Random;
-use reference::{reply, Level, Monitor, Object};
-use sidebyside::rows::{level_in, CLEARANCES, HELD, REST};
+use reference::{reply, Level};
+use sidebyside::rows::{level_in, monitor_said, CLEARANCES, HELD, PROFILE, REST};
 use sidebyside::{image, random_rows, shape, Count, REPLIES};
 
 const LEFT: u8 = 0xEE;
@@ -32,7 +32,7 @@ impl Bits {
 /// The image of the state that the rows say, with what an object that is not live has.
 fn image_said(rows: &Rows) -> Vec<u8> {
     let mut bits = Bits::default();
-    rows[CLEARANCES..].iter().for_each(|row| bits.level(level_in(row)));
+    rows[CLEARANCES..PROFILE].iter().for_each(|row| bits.level(level_in(row)));
     for object in 0..OBJECTS {
         let rest = &rows[REST + object];
         bits.number(1, (rest[0] == 1).into());
@@ -46,27 +46,15 @@ fn image_said(rows: &Rows) -> Vec<u8> {
     bits.bytes()
 }
 
-/// The state that the rows say, where what is not live has nothing.
-fn monitor_said(rows: &Rows) -> Monitor {
-    let mut monitor = Monitor::begin(std::array::from_fn(|subject| level_in(&rows[CLEARANCES + subject])));
-    for (object, place) in monitor.objects.iter_mut().enumerate() {
-        let rest = &rows[REST + object];
-        let said = Object {
-            label: level_in(rest),
-            rights: rows[object],
-            held: rows[HELD + object],
-            ..Object::new(rest[1].into())
-        };
-        *place = (rest[0] == 1).then_some(said);
-    }
-    monitor
-}
-
-/// Any bytes, but most subjects are enrolled: where few are, nearly every request gets 3.
+/// Any bytes, but most subjects are enrolled, and mostly the profile has more than all subjects, objects and classes: else nearly
+/// every request gets 3 or 2.
 fn rows_with_subjects(random: &mut Random) -> Rows {
     let mut rows = random_rows(random);
-    for row in &mut rows[CLEARANCES..] {
+    for row in &mut rows[CLEARANCES..PROFILE] {
         row[2] = if random.once_in(4) { row[2] } else { 1 };
+    }
+    if !random.once_in(8) {
+        rows[PROFILE].iter_mut().for_each(|byte| *byte |= 0xC0);
     }
     rows
 }

@@ -6,7 +6,7 @@ use load::Random;
 use reference::{Get, Kind, Level, Mode, Monitor, Object, Request};
 use sidebyside::orders::Met;
 use sidebyside::pair::Pair;
-use sidebyside::rows::{is_live, label_of, CLEARANCES, HELD, REST};
+use sidebyside::rows::{is_live, label_of, profile_in, CLEARANCES, HELD, PROFILE, REST};
 use sidebyside::start_order::{answer, bytes};
 use sidebyside::{image, random_rows, Both};
 
@@ -151,7 +151,9 @@ fn as_many_pieces_as_are_looked_at_and_one_more() {
 /// and ask of the labels of their objects what these do not keep.
 fn said(unit: &Unit, requests: &[u8]) -> StartOrder {
     let pieces: Vec<&[u8]> = requests.chunks(6).collect();
-    let gets: Vec<Option<Get>> = pieces.iter().map(|piece| Get::decode(piece)).collect();
+    let profile = profile_in(unit.rows());
+    let inside = |get: &Get| profile.has_subject(get.actor) && profile.has_object(get.object);
+    let gets: Vec<Option<Get>> = pieces.iter().map(|piece| Get::decode(piece).filter(inside)).collect();
     if let Some(at) = gets.iter().position(Option::is_none) {
         return StartOrder::NoGet { at };
     }
@@ -170,15 +172,18 @@ fn said(unit: &Unit, requests: &[u8]) -> StartOrder {
     StartOrder::Agree
 }
 
-/// Any bytes; or the same with every subject cleared for everything, most objects live and labelled and few accesses held; or a
-/// state that was reached with some bytes changed, in half of them with nothing held.
+/// Any bytes; or the same with every subject cleared for everything, most objects live and labelled, few accesses held and mostly a
+/// profile that has more than all; or a state that was reached with some bytes changed, in half of them with nothing held.
 fn garbage(random: &mut Random, seed: u64) -> Unit {
     let mut rows = random_rows(random);
     if seed % 3 == 1 {
-        rows[CLEARANCES..].iter_mut().for_each(|row| row[2..6].copy_from_slice(&[1, 0xFF, 0xFF, 0xFF]));
+        rows[CLEARANCES..PROFILE].iter_mut().for_each(|row| row[2..6].copy_from_slice(&[1, 0xFF, 0xFF, 0xFF]));
         for row in &mut rows[REST..CLEARANCES] {
             row[0] = if random.once_in(4) { row[0] } else { 1 };
             row[2] = if random.once_in(4) { row[2] } else { 1 };
+        }
+        if !random.once_in(4) {
+            rows[PROFILE].iter_mut().for_each(|byte| *byte |= 0xC0);
         }
     }
     if seed % 3 == 2 {

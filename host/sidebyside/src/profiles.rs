@@ -1,0 +1,112 @@
+//! Profiles for tests: drawn ones, narrow and wide, and requests with a field outside them.
+
+use crate::orders::Met;
+use load::{Random, Shape};
+use reference::{Kind, Level, Monitor, Profile, Request, OBJECTS, SUBJECTS};
+
+/// The profile as the bindings have it; nothing where it is outside its ranges.
+pub fn proved(profile: Profile) -> Option<circmon::Profile> {
+    circmon::Profile::new(profile.subjects, profile.objects, profile.highest_class, profile.needs)
+}
+
+/// The profile with the least of everything.
+pub const LEAST: Profile = Profile { subjects: 1, objects: 1, highest_class: 0, needs: 0 };
+
+/// A profile in its ranges. The least and the most of each number are frequent, and so is the least of all together.
+pub fn drawn(random: &mut Random) -> Profile {
+    if random.once_in(20) {
+        return LEAST;
+    }
+    let needs = [0, 1, 0b11, 0x8001, u16::MAX, random.number() as u16, random.number() as u16];
+    Profile {
+        subjects: one_of(random, &[1, 2, 4, 16], 16),
+        objects: one_of(random, &[1, 2, 10, 64], 64),
+        highest_class: one_of(random, &[1, 2, 4, 16], 16) - 1,
+        needs: needs[random.below(needs.len())],
+    }
+}
+
+/// One of these numbers, or any from 1 to the most.
+fn one_of(random: &mut Random, numbers: &[u8], most: usize) -> u8 {
+    let any = 1 + random.below(most) as u8;
+    numbers.get(random.below(numbers.len() + 3)).copied().unwrap_or(any)
+}
+
+/// The shape of runs under a profile; few objects make conflicts frequent.
+pub fn shape(profile: Profile, most_objects: usize) -> Shape {
+    Shape {
+        objects: usize::from(profile.objects).min(most_objects),
+        subjects: profile.subjects.into(),
+        classes: usize::from(profile.highest_class) + 1,
+        needs: 16,
+        damaged: 25,
+    }
+}
+
+/// What the profile is narrow in, for counts.
+pub fn note_narrow(profile: Profile, met: &mut Met) {
+    let narrow = [
+        ("one subject", profile.subjects == 1),
+        ("one object", profile.objects == 1),
+        ("class 0 alone", profile.highest_class == 0),
+        ("no needs", profile.needs == 0),
+        ("the least of all", profile == LEAST),
+        ("the most of all", profile == Profile::WIDEST),
+    ];
+    narrow.iter().filter(|(_, is_so)| *is_so).for_each(|(what, _)| met.note(*what));
+}
+
+/// The names of the fields that may be outside a profile, as `outside` gives them.
+pub const FIELDS: [&str; 5] = ["actor", "other", "object", "class", "need"];
+
+/// The request with one field outside the profile and inside the ranges of every field, and the name of the field. Nothing where
+/// the field that is drawn cannot be so.
+pub fn outside(random: &mut Random, profile: Profile, request: Request) -> Option<(&'static str, Request)> {
+    let field = random.below(3);
+    let mut changed = request;
+    let name = match (field, &mut changed.kind) {
+        (0, _) => {
+            changed.actor = above(random, profile.subjects.into(), SUBJECTS)?;
+            "actor"
+        }
+        (1, _) => {
+            changed.object = above(random, profile.objects.into(), OBJECTS)?;
+            "object"
+        }
+        (_, Kind::Give(other, _) | Kind::Rescind(other, _)) => {
+            *other = above(random, profile.subjects.into(), SUBJECTS)?;
+            "other"
+        }
+        (_, Kind::ChangeLevel(level)) => outside_level(random, profile, level)?,
+        _ => return None,
+    };
+    Some((name, changed))
+}
+
+/// A number from the first on, below the end.
+fn above(random: &mut Random, first: usize, end: usize) -> Option<usize> {
+    (first < end).then(|| first + random.below(end - first))
+}
+
+fn outside_level(random: &mut Random, profile: Profile, level: &mut Level) -> Option<&'static str> {
+    if random.once_in(2) {
+        level.class = above(random, usize::from(profile.highest_class) + 1, 16)? as u8;
+        return Some("class");
+    }
+    let others: Vec<u32> = (0..16).filter(|need| profile.needs >> need & 1 == 0).collect();
+    let need = others.get(random.below(others.len().max(1)))?;
+    level.needs |= 1 << need;
+    Some("need")
+}
+
+/// The bytes of the next request for a state, often with a field outside its profile, which is noted, and sometimes damaged.
+pub fn bytes(random: &mut Random, shape: Shape, monitor: &Monitor, met: &mut Met) -> Vec<u8> {
+    if random.once_in(5) {
+        let request = load::request(random, shape, monitor);
+        if let Some((field, request)) = outside(random, monitor.profile, request) {
+            met.note(format!("{field} outside"));
+            return request.encode().to_vec();
+        }
+    }
+    load::bytes(random, shape, monitor)
+}
