@@ -159,7 +159,8 @@ fn a_record_beyond_the_profile_is_absent_and_a_bit_in_it_gets_11() {
 
 #[test]
 fn a_subject_beyond_the_profile_in_a_live_record_is_an_absent_one() {
-    for change in [|it: &mut Object| it.owner = 4, |it| it.rights[15] = 1, |it| it.held[4] = 1] {
+    let changes: [fn(&mut Object); 3] = [|it| it.owner = 4, |it| it.rights[15] = 1, |it| it.held[4] = 1];
+    for change in changes {
         assert_eq!(read(&with(&with_object(), |it| change(object_9(it)))), reply::ABSENT_SUBJECT);
     }
 }
