@@ -69,7 +69,11 @@ fn different(profile: Profile, a: &Named, b: &Named, requests: &[u8], paint: Pai
     };
     let places = differences(&View::new(a.bytes), &View::new(b.bytes));
     let mut text = format!("A: {}\nB: {}\n\n", a.name, b.name);
-    text.push_str(&paint.heading(&format!("different in {}{}", count(places.len(), "place", "places"), under(profile))));
+    text.push_str(&paint.heading(&format!(
+        "different in {}{}",
+        count(places.len(), "place", "places"),
+        under(profile)
+    )));
     text.push('\n');
     for place in &places {
         text.push_str(&format!("  {place}\n"));

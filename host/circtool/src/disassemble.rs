@@ -34,7 +34,8 @@ pub fn request_lines(requests: &[u8]) -> String {
 fn table_lines(table: &[u8]) -> String {
     if let Err(number) = Unit::from_table(table) {
         let bytes = if table.is_empty() { "none".to_string() } else { hex(table) };
-        let place = fault::of_table(Profile::WIDEST, table).first().map(|fault| format!(": {fault}")).unwrap_or_default();
+        let place =
+            fault::of_table(Profile::WIDEST, table).first().map(|fault| format!(": {fault}")).unwrap_or_default();
         return format!("# table refused with {}{place}\ntable-bytes {bytes}\n", refusal_words(number));
     }
     let lines: String = View::new(table)

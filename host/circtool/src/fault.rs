@@ -12,11 +12,11 @@ use crate::view::{View, OBJECTS, SUBJECTS};
 use circmon::{IMAGE_BYTES, TABLE_BYTES};
 use std::fmt;
 
+/// One place that is at fault. What is outside the profile is the clearance or the label in a record.
 #[derive(Clone, Debug, PartialEq, Eq)]
 pub enum Fault {
     Length { found: usize, expected: usize },
     Stray { absent: Absent, bits: Vec<usize> },
-    /// the clearance or the label in this record
     Outside { record: Record, level: Level, profile: Profile },
     NotEnrolled { subject: usize, object: usize, owns: bool, rights: Modes, held: Modes },
     Discretionary(Holding),

@@ -255,7 +255,9 @@ impl fmt::Display for Malformed {
             Malformed::Mode(mode, kind) => write!(out, "mode {mode} is not allowed in {kind}"),
             Malformed::Unused(name, number) => write!(out, "the unused field {name} is {number}, not 0"),
             Malformed::ActorBeyond(actor, it) => write!(out, "subject s{actor} {}", profile::beyond_subjects(*it)),
-            Malformed::OtherBeyond(other, it) => write!(out, "other subject s{other} {}", profile::beyond_subjects(*it)),
+            Malformed::OtherBeyond(other, it) => {
+                write!(out, "other subject s{other} {}", profile::beyond_subjects(*it))
+            }
             Malformed::ObjectBeyond(object, it) => write!(out, "object o{object} {}", profile::beyond_objects(*it)),
             Malformed::LevelOutside(level, it) => {
                 write!(out, "{} {}", level_words(*level), profile::outside(*it, *level))

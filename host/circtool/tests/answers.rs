@@ -3,7 +3,7 @@
 
 mod shared;
 
-use circmon::Unit;
+use circmon::{Profile, Unit};
 use circtool::explain::step;
 use circtool::fault;
 use load::Random;
@@ -145,7 +145,7 @@ fn images_refused_with_8_or_9() {
         let monitor = relabelled(seed);
         let bytes = image(&monitor);
         let number = circmon::read(&bytes);
-        let faults = fault::of_image(&bytes);
+        let faults = fault::of_image(Profile::WIDEST, &bytes);
         assert!(number == 0 || !faults.is_empty(), "seed {seed}: refused with {number}");
         for fault in faults {
             assert_eq!(fault.number(), number, "seed {seed}: {fault}");

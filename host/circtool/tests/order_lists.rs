@@ -2,6 +2,7 @@
 
 mod shared;
 
+use circmon::Profile;
 use circtool::compare::Named;
 use circtool::difference::differences;
 use circtool::input::Input;
@@ -21,7 +22,7 @@ fn printed(monitor: &Monitor, gets: &[Get], paint: Paint) -> (StartOrder, String
     let input = Input { name: "gets".to_string(), bytes: script.into_bytes() };
     let named = Named { name: "state", bytes: &image(monitor) };
     let answer = monitor.start_order(&bytes(gets));
-    match (orders(&named, &Gets::new(&input, false).unwrap(), paint), answer) {
+    match (orders(Profile::WIDEST, &named, &Gets::new(&input, false).unwrap(), paint), answer) {
         (Orders::Agree(text), StartOrder::Agree) | (Orders::Matter(text), StartOrder::Clash { .. }) => (answer, text),
         (Orders::Agree(text) | Orders::Matter(text) | Orders::Trouble(text), _) => panic!("{answer:?}: {text}"),
     }

@@ -3,6 +3,7 @@
 
 mod shared;
 
+use circmon::Profile;
 use circtool::input::Input;
 use circtool::mode::{Mode, Modes};
 use circtool::page::{pages, Asked};
@@ -142,7 +143,7 @@ fn bad_words_have_status_2() {
 #[test]
 fn only_an_absent_label_is_coloured() {
     let input = Input { name: "a.img".to_string(), bytes: image(&state()) };
-    let text = |paint| String::from_utf8(pages(&input, &Asked::All, paint).unwrap()).unwrap();
+    let text = |paint| String::from_utf8(pages(Profile::WIDEST, &input, &Asked::All, paint).unwrap()).unwrap();
     let coloured = text(Paint::COLOURED);
     assert_eq!(shared::without_colour(&coloured), text(Paint::PLAIN));
     assert_eq!(coloured.matches('\x1b').count(), 2, "{coloured}");

@@ -1,6 +1,6 @@
 //! Two images: equal ones, every kind of difference with its words, and requests that tell the two apart.
 
-use circmon::distinguish;
+use circmon::{distinguish, Profile};
 use circtool::compare::{compare, Comparison, Named};
 use circtool::difference::differences;
 use circtool::paint::Paint;
@@ -10,7 +10,7 @@ use reference::{Level, Monitor, Object};
 use sidebyside::{image, SHAPES};
 
 fn compared(a: &[u8], b: &[u8]) -> Comparison {
-    compare(&Named { name: "a.img", bytes: a }, &Named { name: "b.img", bytes: b }, Paint::PLAIN)
+    compare(Profile::WIDEST, &Named { name: "a.img", bytes: a }, &Named { name: "b.img", bytes: b }, Paint::PLAIN)
 }
 
 fn replies(state: &Monitor, requests: &[u8]) -> Vec<u8> {

@@ -2,7 +2,7 @@
 
 mod shared;
 
-use circmon::IMAGE_BYTES;
+use circmon::{Profile, IMAGE_BYTES};
 use circtool::fault::{self, Absent, Fault};
 use circtool::layout::record_of;
 use circtool::refusal;
@@ -10,6 +10,9 @@ use load::Random;
 use reference::{Monitor, Object};
 use shared::second;
 use sidebyside::{image, Count, SHAPES};
+
+/// Nothing is outside it; `profile_refusals` has the others.
+const WIDEST: Profile = Profile::WIDEST;
 
 fn number_of(faults: &[Fault], what: &str) -> u8 {
     let number = faults.first().map_or(0, Fault::number);
@@ -31,7 +34,7 @@ fn each_single_bit_of_rich_images_is_located() {
         for bit in 0..bytes.len() * 8 {
             let what = format!("seed {seed}, bit {bit}");
             let damaged = flipped(&bytes, bit);
-            let faults = fault::of_image(&damaged);
+            let faults = fault::of_image(WIDEST, &damaged);
             let number = circmon::read(&damaged);
             assert_eq!(number_of(&faults, &what), number, "{what}");
             seen.note(number);
@@ -62,7 +65,7 @@ fn images_damaged_in_random_ways() {
         }
         let what = format!("seed {seed}");
         let number = circmon::read(&bytes);
-        assert_eq!(number_of(&fault::of_image(&bytes), &what), number, "{what}");
+        assert_eq!(number_of(&fault::of_image(WIDEST, &bytes), &what), number, "{what}");
         seen.note(number);
     }
     assert!(seen.numbers() >= 4, "{seen:?}");
@@ -82,7 +85,7 @@ fn states_that_break_one_property() {
         let bytes = image(&monitor);
         let what = format!("seed {seed}");
         let number = circmon::read(&bytes);
-        let faults = fault::of_image(&bytes);
+        let faults = fault::of_image(WIDEST, &bytes);
         assert_eq!(number_of(&faults, &what), number, "{what}");
         for fault in &faults {
             is_so(fault, &monitor, &what);
@@ -110,6 +113,7 @@ fn is_so(fault: &Fault, state: &Monitor, what: &str) {
     let object = |at: usize| state.objects[at].as_ref().unwrap_or_else(|| panic!("{what}: o{at} is not live"));
     match fault {
         Fault::Length { .. } | Fault::Stray { .. } => panic!("{what}: the form is good"),
+        Fault::Outside { .. } => panic!("{what}: under the widest profile"),
         Fault::NotEnrolled { subject, object: at, owns, rights, held } => {
             assert!(state.subjects[*subject].is_none(), "{what}");
             assert_eq!(*owns, object(*at).owner == *subject, "{what}");
@@ -139,13 +143,13 @@ fn lengths_and_tables() {
     let bytes = image(&load::rich(7, 20, 500));
     for length in [0, 1, 41, 42, 43, 1273] {
         assert_eq!(circmon::read(&bytes[..length]), 10);
-        assert_eq!(fault::of_image(&bytes[..length]), [Fault::Length { found: length, expected: IMAGE_BYTES }]);
+        assert_eq!(fault::of_image(WIDEST, &bytes[..length]), [Fault::Length { found: length, expected: IMAGE_BYTES }]);
     }
     for seed in 0..20 {
         let table = load::table(&mut Random::new(seed), SHAPES[seed as usize % SHAPES.len()]);
         for bit in 0..42 * 8 {
             let damaged = flipped(&table, bit);
-            let faults = fault::of_table(&damaged);
+            let faults = fault::of_table(WIDEST, &damaged);
             let number = circmon::begin(&damaged, &mut [0; IMAGE_BYTES]);
             assert_eq!(number_of(&faults, "table"), number, "seed {seed}, bit {bit}");
             assert!(faults.iter().all(|it| it.records() == [record_of(bit)]), "seed {seed}, bit {bit}");
@@ -155,7 +159,7 @@ fn lengths_and_tables() {
 
 /// The message about an image that is refused.
 fn message(bytes: &[u8]) -> String {
-    refusal::of_image("a.img", bytes, circmon::read(bytes))
+    refusal::of_image(WIDEST, "a.img", bytes, circmon::read(bytes))
 }
 
 #[test]
@@ -181,7 +185,7 @@ fn messages_name_the_check_and_the_place() {
          s0 is not enrolled, and on o0 it is the owner\n"
     );
     let label = flipped(&flipped(&flipped(&empty, 0), 42 * 8), 42 * 8 + 5 + 4);
-    assert!(matches!(fault::of_image(&label)[..], [Fault::Stray { absent: Absent::LabelOf(0), .. }]));
+    assert!(matches!(fault::of_image(WIDEST, &label)[..], [Fault::Stray { absent: Absent::LabelOf(0), .. }]));
     assert!(message(&label).contains("object record 0 has no label, and the bit at byte 43, mask 0x40 (class) is set"));
 }
 
@@ -191,6 +195,6 @@ fn many_places_are_counted() {
     bytes[42..].fill(0x55);
     let lines: Vec<String> = message(&bytes).lines().map(str::to_string).collect();
     assert_eq!(lines.len(), 7, "{lines:?}");
-    let faults = fault::of_image(&bytes).len();
+    let faults = fault::of_image(WIDEST, &bytes).len();
     assert_eq!(lines[6], format!("  and {} more places of this check", faults - 5));
 }

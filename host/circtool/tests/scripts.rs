@@ -48,7 +48,7 @@ fn errors(script: &str) -> Vec<String> {
 
 #[test]
 fn errors_of_requests() {
-    let first = "expected a subject (s0 to s15), 'subject', 'bytes' or 'table-bytes'";
+    let first = "expected a subject (s0 to s15), 'profile', 'subject', 'bytes' or 'table-bytes'";
     let verbs = "expected a request (create, get, release, give, rescind, delete or level)";
     for (line, error) in [
         ("s1 get x o0", "1:8: expected a mode (r, w, a or e), found 'x'".to_string()),
@@ -114,7 +114,7 @@ fn only_the_white_space_of_ascii_stands_between_words() {
     for spaced in ["\tsubject 1  class\t3 needs{ 0 , 1 }\r\n", "\x0csubject 1 class 3 needs {0,\t1} \n"] {
         assert_eq!(assemble(spaced).unwrap(), plain, "{spaced:?}");
     }
-    let first = "expected a subject (s0 to s15), 'subject', 'bytes' or 'table-bytes'";
+    let first = "expected a subject (s0 to s15), 'profile', 'subject', 'bytes' or 'table-bytes'";
     for (script, error) in [
         ("s1\u{a0}get r o0", format!("1:1: {first}, found 's1<U+00A0>get'")),
         ("\u{a0}s1 get r o0", format!("1:1: {first}, found '<U+00A0>s1'")),
