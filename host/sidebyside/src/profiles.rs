@@ -110,3 +110,20 @@ pub fn bytes(random: &mut Random, shape: Shape, monitor: &Monitor, met: &mut Met
     }
     load::bytes(random, shape, monitor)
 }
+
+/// A state that a run under the profile reaches.
+pub fn reached(random: &mut Random, profile: Profile, requests: usize) -> Monitor {
+    let shape = shape(profile, [2, 5, OBJECTS][random.below(3)]);
+    let table = load::table_in(random, profile, shape);
+    let mut monitor = Monitor::from_table_in(profile, &table).expect("a table inside the profile");
+    for _ in 0..requests {
+        let bytes = load::bytes(random, shape, &monitor);
+        monitor.request(&bytes);
+    }
+    monitor
+}
+
+/// The highest level of a profile.
+pub fn top(profile: Profile) -> Level {
+    Level { class: profile.highest_class, needs: profile.needs }
+}
