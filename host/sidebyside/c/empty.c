@@ -10,6 +10,11 @@ int main(void) {
     printf("open %d\n", circmon_open(&unit, NULL, 0));
     printf("start %d", circmon_start(&unit, NULL, 0));
     printf(" %d\n", circmon_start(&unit, table, sizeof table));
+    printf("open_in %d", circmon_open_in(&unit, 1, 1, 0, 0, NULL, 0));
+    printf(" %d\n", circmon_open_in(&unit, 0, 1, 0, 0, NULL, 0));
+    printf("start_in %d", circmon_start_in(&unit, 1, 1, 0, 0, NULL, 0));
+    printf(" %d\n", circmon_start_in(&unit, 1, 65, 0, 0, NULL, 0));
+    circmon_start(&unit, table, sizeof table);
     printf("ask %d\n", circmon_ask(&unit, NULL, 0));
     printf("save %d\n", circmon_save(&unit, NULL, 0));
     printf("page %d", circmon_page(&unit, 64, NULL, 0));
@@ -29,6 +34,10 @@ int main(void) {
     printf("distinguish %d", circmon_distinguish(NULL, 0, image, sizeof image, NULL, 0));
     printf(" %d", circmon_distinguish(image, sizeof image, NULL, 0, NULL, 0));
     printf(" %d\n", circmon_distinguish(image, sizeof image, image, sizeof image, NULL, 0));
+    printf("distinguish_in %d", circmon_distinguish_in(16, 64, 15, 0xFFFF, NULL, 0, image, sizeof image, NULL, 0));
+    printf(" %d", circmon_distinguish_in(16, 64, 15, 0xFFFF, image, sizeof image, NULL, 0, NULL, 0));
+    printf(" %d", circmon_distinguish_in(16, 64, 16, 0xFFFF, NULL, 0, NULL, 0, NULL, 0));
+    printf(" %d\n", circmon_distinguish_in(16, 64, 15, 0xFFFF, image, sizeof image, image, sizeof image, NULL, 0));
     printf("load %d", (int)circmon_load(1, NULL, 0));
     printf(" %d\n", (int)circmon_load(0, NULL, 0));
     return 0;

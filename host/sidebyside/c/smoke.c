@@ -83,6 +83,28 @@ static void start_orders(const uint8_t *image, circmon_size length) {
     printf(" %d\n", memcmp(&kept, &unit, sizeof kept) == 0);
 }
 
+/* Under a profile of two subjects and one object, class 3 and the needs 0 and 1: table W has a third subject and is refused with 11,
+ * and with needs 0 alone 16 comes for subject 1. Without its third subject it is accepted. */
+static void profiles(void) {
+    uint8_t two[CIRCMON_TABLE_BYTES], image[CIRCMON_IMAGE_BYTES], telling[CIRCMON_DISTINGUISH_BYTES];
+    circmon_unit unit, again;
+    memcpy(two, table, sizeof two);
+    two[5] = 0;
+    printf("start_in %d", circmon_start_in(&unit, 2, 1, 3, 0x0003, table, sizeof table));
+    printf(" %d", circmon_start_in(&unit, 2, 1, 3, 0x0001, two, sizeof two));
+    printf(" %d", circmon_start_in(&unit, 17, 1, 3, 0x0003, two, sizeof two));
+    printf(" %d\n", circmon_start_in(&unit, 2, 1, 3, 0x0003, two, sizeof two));
+    printf("profile %d %d %d %d %d\n", unit.row[208][0], unit.row[208][1], unit.row[208][3], unit.row[208][4], unit.row[208][5]);
+    printf("ask %d", circmon_ask(&unit, requests[0], sizeof requests[0]));
+    printf(" %d", circmon_ask(&unit, second[0], sizeof second[0]));
+    printf(" %d\n", circmon_save(&unit, image, sizeof image));
+    printf("open_in %d", circmon_open_in(&again, 1, 1, 3, 0x0003, image, sizeof image));
+    printf(" %d", circmon_open_in(&again, 2, 1, 3, 0x0003, image, sizeof image));
+    printf(" %d\n", memcmp(&unit, &again, sizeof unit) == 0);
+    printf("distinguish_in %d", circmon_distinguish_in(2, 0, 3, 0x0003, image, sizeof image, image, sizeof image, telling, sizeof telling));
+    printf(" %d\n", circmon_distinguish_in(2, 1, 3, 0x0003, image, sizeof image, image, sizeof image, telling, sizeof telling));
+}
+
 /* The number and the count of a load into 13 bytes, in which two requests have room, and the bytes after it. */
 static void load_from(uint32_t seed) {
     uint8_t buffer[2 * CIRCMON_REQUEST_BYTES + 1];
@@ -103,6 +125,7 @@ int main(void) {
     printf("the same image %d\n", memcmp(saved, image, sizeof image) == 0);
     raised(image, sizeof image);
     start_orders(image, sizeof image);
+    profiles();
     printf("replay %d\n", circmon_replay(table, sizeof table, requests[0], sizeof requests, replies, sizeof replies));
     printf("replies %d %d %d %d\n", replies[0], replies[1], replies[2], replies[3]);
     memset(telling, 0xEE, sizeof telling);

@@ -74,6 +74,8 @@ static uint8_t *begun;
 static void *nothing(void *unused) { begun = (uint8_t *)__builtin_frame_address(0); return unused; }
 static void *open_unit(void *unused) { answer = circmon_open(&unit, image, sizeof image); return unused; }
 static void *start(void *unused) { answer = circmon_start(&unit, table, sizeof table); return unused; }
+static void *open_in(void *unused) { answer = circmon_open_in(&unit, SUBJECTS, OBJECTS, 15, 0xFFFF, image, sizeof image); return unused; }
+static void *start_in(void *unused) { answer = circmon_start_in(&unit, SUBJECTS, OBJECTS, 15, 0xFFFF, table, sizeof table); return unused; }
 static void *save(void *unused) { answer = circmon_save(&unit, written, sizeof written); return unused; }
 static void *page(void *unused) { answer = circmon_page(&unit, OBJECTS - 1, text, sizeof text); return unused; }
 static void *clash(void *unused) { answer = (uint8_t)circmon_clash(&unit, wanted[0], sizeof wanted); return unused; }
@@ -82,6 +84,7 @@ static void *reading(void *unused) { answer = circmon_read(image, sizeof image);
 static void *level(void *unused) { answer = circmon_request(image, sizeof image, requests[3 * OBJECTS], CIRCMON_REQUEST_BYTES); return unused; }
 static void *replay(void *unused) { answer = circmon_replay(table, sizeof table, requests[0], sizeof requests, replies, sizeof replies); return unused; }
 static void *distinguish(void *unused) { answer = circmon_distinguish(image, sizeof image, other, sizeof other, told, sizeof told); return unused; }
+static void *distinguish_in(void *unused) { answer = circmon_distinguish_in(SUBJECTS, OBJECTS, 15, 0xFFFF, image, sizeof image, other, sizeof other, told, sizeof told); return unused; }
 static void *compare(void *unused) { answer = circmon_compare(2, 0x0001, 1, 0x0003); return unused; }
 static void *load(void *unused) { answer = (uint8_t)circmon_load(1, made, sizeof made); return unused; }
 
@@ -115,10 +118,10 @@ static size_t depth(void *(*work)(void *)) {
 
 int main(void) {
     const struct { const char *name; void *(*work)(void *); } rows[] = {
-        {"circmon_open", open_unit}, {"circmon_start", start}, {"circmon_ask", ask}, {"circmon_save", save},
+        {"circmon_open", open_unit}, {"circmon_start", start}, {"circmon_open_in", open_in}, {"circmon_start_in", start_in}, {"circmon_ask", ask}, {"circmon_save", save},
         {"circmon_page", page}, {"circmon_clash", clash}, {"circmon_begin", begin}, {"circmon_read", reading},
-        {"circmon_request", level}, {"circmon_replay", replay}, {"circmon_distinguish", distinguish}, {"circmon_compare", compare},
-        {"circmon_load", load}};
+        {"circmon_request", level}, {"circmon_replay", replay}, {"circmon_distinguish", distinguish},
+        {"circmon_distinguish_in", distinguish_in}, {"circmon_compare", compare}, {"circmon_load", load}};
     depth(nothing);
     for (size_t i = 0; i < sizeof rows / sizeof *rows; i++) {
         fill();

@@ -2,7 +2,7 @@
 
 use crate::orders::Met;
 use load::{Random, Shape};
-use reference::{Kind, Level, Monitor, Profile, Request, OBJECTS, SUBJECTS};
+use reference::{Get, Kind, Level, Mode, Monitor, Profile, Request, OBJECTS, SUBJECTS};
 
 /// The profile as the bindings have it; nothing where it is outside its ranges.
 pub fn proved(profile: Profile) -> Option<circmon::Profile> {
@@ -12,10 +12,10 @@ pub fn proved(profile: Profile) -> Option<circmon::Profile> {
 /// The profile with the least of everything.
 pub const LEAST: Profile = Profile { subjects: 1, objects: 1, highest_class: 0, needs: 0 };
 
-/// A profile in its ranges. The least and the most of each number are frequent, and so is the least of all together.
+/// A profile in its ranges. The least and the most of each number are frequent, and so are those of all together.
 pub fn drawn(random: &mut Random) -> Profile {
-    if random.once_in(20) {
-        return LEAST;
+    if random.once_in(10) {
+        return [LEAST, Profile::WIDEST][random.below(2)];
     }
     let needs = [0, 1, 0b11, 0x8001, u16::MAX, random.number() as u16, random.number() as u16];
     Profile {
@@ -126,4 +126,28 @@ pub fn reached(random: &mut Random, profile: Profile, requests: usize) -> Monito
 /// The highest level of a profile.
 pub fn top(profile: Profile) -> Level {
     Level { class: profile.highest_class, needs: profile.needs }
+}
+
+/// The state as after a power return, when nobody holds anything yet.
+pub fn released(monitor: &Monitor) -> Monitor {
+    let mut released = monitor.clone();
+    released.objects.iter_mut().flatten().for_each(|object| object.held = [0; SUBJECTS]);
+    released
+}
+
+/// Up to six gets of one actor, who has the right to most of them.
+pub fn likely_gets(random: &mut Random, monitor: &Monitor) -> Vec<Get> {
+    let actor = random.below(monitor.profile.subjects.clamp(1, SUBJECTS as u8).into());
+    let all = (0..OBJECTS).flat_map(|object| Mode::ALL.map(|mode| Get { actor, object, mode }));
+    let has = |get: &Get| monitor.objects[get.object].as_ref().is_some_and(|it| it.rights[actor] & get.mode.bit() != 0);
+    let with_right: Vec<Get> = all.filter(has).collect();
+    let mut get = |_| match with_right.get(random.below(with_right.len() + 1)) {
+        Some(get) => *get,
+        None => Get {
+            actor,
+            object: random.below(monitor.profile.objects.clamp(1, OBJECTS as u8).into()),
+            mode: random.mode(),
+        },
+    };
+    (0..6).map(&mut get).collect()
 }

@@ -109,16 +109,21 @@ const CHANGES: [(&str, Change); 11] = [
         live(random, it)?.label = None;
         Some(())
     }),
-    ("a label at the top", |random, it| {
+    ("labels at the top", |random, it| {
         let label = top(it.profile);
-        live(random, it)?.label = Some(label);
+        it.objects.iter_mut().flatten().filter(|_| random.once_in(3)).for_each(|it| it.label = Some(label));
         Some(())
     }),
-    // whoever alters an object with the lowest label and reads another one breaks star
-    ("everyone at the top and a label at the bottom", |random, it| {
-        let highest = top(it.profile);
-        it.subjects.iter_mut().flatten().for_each(|level| *level = highest);
-        live(random, it)?.label = Some(Level { class: 0, needs: 0 });
+    ("a read at the top beside an append at the bottom", |random, it| {
+        let (subject, highest) = (enrolled(random, it)?, top(it.profile));
+        it.subjects[subject] = Some(highest);
+        let mut live = it.objects.iter_mut().flatten();
+        for (level, mode) in [(highest, Mode::Read), (Level { class: 0, needs: 0 }, Mode::Append)] {
+            let object = live.next()?;
+            (object.label, object.held) = (Some(level), [0; SUBJECTS]);
+            object.rights[subject] |= mode.bit();
+            object.held[subject] = mode.bit();
+        }
         Some(())
     }),
 ];

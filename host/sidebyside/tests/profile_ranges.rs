@@ -111,6 +111,6 @@ fn a_profile_outside_its_ranges_is_refused_with_16_before_anything_else_is_read(
     assert!(rest.is_empty() && IMAGE_BYTES < 1 << 16);
     println!("{} cases: {met:#?}", cases.len());
     met.check(500, &["function 0: 16", "function 1: 16", "function 2: 16"]);
-    met.check(50, &["function 0: 0", "function 0: 10", "function 0: 11", "function 1: 0", "function 1: 10"]);
-    met.check(50, &["function 1: 11", "function 2: 0", "function 2: 138", "function 2: 139", "function 2: 202"]);
+    met.check(20, &["function 0: 0", "function 0: 10", "function 0: 11", "function 1: 0", "function 1: 10"]);
+    met.check(20, &["function 1: 11", "function 2: 0", "function 2: 138", "function 2: 139", "function 2: 202"]);
 }

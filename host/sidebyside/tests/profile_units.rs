@@ -2,7 +2,7 @@
 
 use circmon::{distinguish, distinguish_in, Unit, DISTINGUISH_BYTES, PAGE_BYTES, ROWS, ROW_BYTES};
 use load::{Random, Shape};
-use reference::{reply, Get, Monitor, Profile};
+use reference::{reply, Monitor, Profile};
 use sidebyside::orders::Met;
 use sidebyside::profiles::{self, FIELDS};
 use sidebyside::rows::{self, profile_in, PROFILE};
@@ -81,7 +81,8 @@ fn note_row(profile: Profile, met: &mut Met) {
     strange.iter().filter(|(_, is_so)| *is_so).for_each(|(what, _)| met.note(*what));
 }
 
-/// A state that was reached, with any bytes in the row of its profile, in both implementations.
+/// A state that was reached, in half of them with nothing held, with any bytes in the row of its profile, in both
+/// implementations.
 fn with_any_row(random: &mut Random, shape: Shape) -> Both {
     let table = load::table(random, shape);
     let mut monitor = Monitor::from_table(&table).unwrap();
@@ -89,7 +90,7 @@ fn with_any_row(random: &mut Random, shape: Shape) -> Both {
         let request = load::bytes(random, shape, &monitor);
         monitor.request(&request);
     }
-    let mut rows = rows::of(&monitor);
+    let mut rows = rows::of(&if random.once_in(2) { profiles::released(&monitor) } else { monitor });
     rows[PROFILE] = any_row(random);
     Both { monitor: rows::monitor_said(&rows), unit: Unit::from_rows(rows) }
 }
@@ -101,9 +102,7 @@ fn check_reading(random: &mut Random, both: &Both, what: &str, met: &mut Met) {
     let number = both.unit.page(object, &mut one);
     assert_eq!(number, both.monitor.write_page(object, &mut two), "{what}: page of o{object}");
     assert_eq!(one, two, "{what}: page of o{object}");
-    let draw = |random: &mut Random| Get { actor: random.below(4), object: random.below(4), mode: random.mode() };
-    let gets: Vec<Get> = (0..1 + random.below(4)).map(|_| draw(random)).collect();
-    let found = answer(both, &bytes(&gets));
+    let found = answer(both, &bytes(&profiles::likely_gets(random, &both.monitor)));
     met.note(format!("{found:?}").split(' ').next().unwrap_or_default());
 }
 
