@@ -240,51 +240,6 @@ fn a_lowered_label_is_named_with_the_old_one() {
     assert_eq!(last(&format!("{labelled}s1 delete o0\ns1 create o0\ns1 level o0 class 0 needs {{}}")).0, 0);
 }
 
-/// The replies that each example is written to show.
-const EXAMPLES: [(&str, &[u8]); 10] = [
-    ("four-answers", &[0, 0, 0, 0, 0, 0, 0, 0, 0, 0, 0, 8, 8, 8, 8, 8, 8, 0, 0, 9, 0, 9, 0, 0]),
-    ("lobby-display", &[0, 0, 0, 0, 7, 7, 7, 0, 8, 8, 0, 14, 8]),
-    ("marked-run", &[0, 7, 0, 1, 0, 0, 0, 0, 9, 0, 8, 0, 9, 6, 0, 1]),
-    ("rights-by-object", &[0, 0, 0, 0, 0, 0, 6, 1, 0, 0, 0, 0, 6, 0]),
-    ("rights-by-task", &[0, 0, 0, 0, 0, 0, 6, 0, 0, 0, 1, 0, 0, 6]),
-    // subjects alone, for `load --table`
-    ("seeded-load", &[]),
-    ("slot-again", &[0, 0, 0, 0, 0, 4, 0, 7, 0, 6, 6, 6, 0]),
-    ("star-conflict", &[0, 0, 0, 0, 0, 9, 0, 0, 9, 0, 0, 0, 9, 14]),
-    // gets without subjects, for `orders`
-    ("wake-up-gets", &[3, 3, 3, 3, 3]),
-    ("wake-up", &[0, 0, 0, 0, 0, 0, 0, 0]),
-];
-
-/// The replies in the rows of what explain prints: a row begins with its step.
-fn replies_in_rows(text: &str) -> Vec<u8> {
-    let rows = text.lines().filter(|line| line.len() > 6 && line[..4].trim().parse::<usize>().is_ok());
-    rows.map(|row| row.rsplit("  ").next().unwrap().split(' ').next().unwrap().parse().unwrap()).collect()
-}
-
-#[test]
-fn every_example_replies_as_the_library_and_the_second_implementation() {
-    let files = shared::examples();
-    let names: Vec<&str> = files.iter().map(|file| file.file_stem().unwrap().to_str().unwrap()).collect();
-    assert_eq!(names, EXAMPLES.map(|(name, _)| name), "each example has its replies here");
-    for (file, (name, expected)) in files.iter().zip(EXAMPLES) {
-        let script = std::fs::read_to_string(file).unwrap();
-        assert!(script.starts_with("# "), "{name} begins with a comment that says what it shows");
-        let bytes = circtool::assemble::assemble(&script).unwrap();
-        let mut replies = vec![0xEE; expected.len()];
-        assert_eq!(circmon::replay(&bytes[..42], &bytes[42..], &mut replies), 0, "{name}");
-        assert_eq!(replies, expected, "{name}");
-        let lines: String = expected.iter().map(|reply| format!("{reply}\n")).collect();
-        assert_eq!(reference::program(&bytes), lines, "{name}");
-        let printed = shared::circtool(&["run", file.to_str().unwrap()], b"");
-        assert_eq!(shared::out(&printed), lines, "{name}");
-        let printed = shared::circtool(&["explain", file.to_str().unwrap()], b"");
-        shared::ended(&printed, 0);
-        assert_eq!(replies_in_rows(&shared::out(&printed)), expected, "{name}");
-        assert!(!shared::out(&printed).contains("please report"), "{name}");
-    }
-}
-
 #[test]
 fn colour_adds_no_word() {
     let script = std::fs::read_to_string(shared::root().join("examples/lobby-display.circ")).unwrap();

@@ -89,7 +89,7 @@ static void profiles(void) {
     uint8_t two[CIRCMON_TABLE_BYTES], image[CIRCMON_IMAGE_BYTES], telling[CIRCMON_DISTINGUISH_BYTES];
     circmon_unit unit, again;
     memcpy(two, table, sizeof two);
-    two[5] = 0;
+    two[5] = 0xC0;
     printf("start_in %d", circmon_start_in(&unit, 2, 1, 3, 0x0003, table, sizeof table));
     printf(" %d", circmon_start_in(&unit, 2, 1, 3, 0x0001, two, sizeof two));
     printf(" %d", circmon_start_in(&unit, 17, 1, 3, 0x0003, two, sizeof two));

@@ -279,12 +279,7 @@ fn what_is_not_so_would_be_seen() {
     );
     check_edits(
         "uint8_t circmon_start_in(circmon_unit *unit, uint8_t subjects, uint8_t objects, uint8_t highest_class, uint16_t needs, const uint8_t *table, circmon_size table_len);",
-        &[
-            ("uint8_t subjects, ", ""),
-            ("uint8_t highest_class, uint16_t needs", "uint16_t needs, uint8_t highest_class"),
-            ("uint16_t needs", "uint8_t needs"),
-            ("circmon_unit *unit", "const circmon_unit *unit"),
-        ],
+        &[("uint8_t subjects, ", ""), ("highest_class, uint16_t", "highest_class, uint8_t")],
     );
     check_edits(
         "uint64_t circmon_load(uint32_t seed, uint8_t *requests, circmon_size requests_len);",

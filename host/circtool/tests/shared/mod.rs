@@ -56,6 +56,16 @@ pub fn second(level: circmon::Level) -> reference::Level {
     reference::Level { class: level.class, needs: level.needs }
 }
 
+/// A profile as the second implementation has it.
+pub fn second_profile(profile: circmon::Profile) -> reference::Profile {
+    reference::Profile {
+        subjects: profile.subjects(),
+        objects: profile.objects(),
+        highest_class: profile.highest_class(),
+        needs: profile.needs(),
+    }
+}
+
 /// The command with these words, with bytes on its standard input.
 pub fn circtool(words: &[&str], input: &[u8]) -> Output {
     fed(Command::new(env!("CARGO_BIN_EXE_circtool")).args(words).current_dir(root()), input)
