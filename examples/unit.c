@@ -1,6 +1,6 @@
 /* A unit in C: it starts from an enrolment table, answers requests in memory, writes the access page of an object, saves its
- * state as an image and opens it again; the order of two gets; a request on an image alone; two levels compared; and a test
- * load. docs/EMBEDDING.md builds and runs it. */
+ * state as an image and opens it again; the order of two gets; a request on an image alone; two levels compared; a test
+ * load; and a unit under the profile of a small plant. docs/EMBEDDING.md builds and runs it. */
 #include "circmon.h"
 #include <stdio.h>
 #include <string.h>
@@ -40,6 +40,22 @@ static void start_order(circmon_unit *unit) {
     printf("\n");
 }
 
+/* s1 creates o9 and o10. */
+static const uint8_t make_o9[CIRCMON_REQUEST_BYTES] = {0x50, 0x80, 0x48}, make_o10[CIRCMON_REQUEST_BYTES] = {0x50, 0x80, 0x50};
+
+/* Four tasks at most, ten objects, classes up to 3, and the needs 0 and 1. */
+static void small_plant(void) {
+    circmon_unit unit;
+    uint8_t image[CIRCMON_IMAGE_BYTES];
+    printf("a plant of 2 tasks, from a table with 3: %d\n", circmon_start_in(&unit, 2, 10, 3, 0x0003, table, sizeof table));
+    printf("a plant of 4 tasks: %d\n", circmon_start_in(&unit, 4, 10, 3, 0x0003, table, sizeof table));
+    printf("s1 creates o9: %d\n", circmon_ask(&unit, make_o9, sizeof make_o9));
+    printf("s1 creates o10, which is beyond the profile: %d\n", circmon_ask(&unit, make_o10, sizeof make_o10));
+    /* the image does not say the profile */
+    circmon_save(&unit, image, sizeof image);
+    printf("open under the same profile: %d\n", circmon_open_in(&unit, 4, 10, 3, 0x0003, image, sizeof image));
+}
+
 int main(void) {
     circmon_unit unit, again;
     uint8_t saved[CIRCMON_IMAGE_BYTES], image[CIRCMON_IMAGE_BYTES], telling[CIRCMON_DISTINGUISH_BYTES];
@@ -74,5 +90,6 @@ int main(void) {
     }
     printf("load from seed 1: %d, %d requests, %d of them granted\n", CIRCMON_NUMBER(loaded), (int)CIRCMON_COUNT(loaded),
            granted);
+    small_plant();
     return 0;
 }

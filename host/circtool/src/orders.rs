@@ -10,7 +10,7 @@ use crate::paint::Paint;
 use crate::profile::{Profile, Stated};
 use crate::properties::{self, Pair};
 use crate::refusal;
-use crate::request::{reasons_words, Request};
+use crate::request::{reasons_words, Malformed, Request};
 use crate::view::View;
 use crate::words::{bytes_words, count, reply_words, wrapped};
 use circmon::{StartOrder, Unit, MOST_GETS, REQUEST_BYTES, TABLE_BYTES};
@@ -114,6 +114,9 @@ fn no_get(profile: Profile, gets: &Gets, at: usize) -> String {
     let piece = gets.pieces()[at];
     let found = match Request::decode_in(profile, piece) {
         Ok(request) => format!("'{}'", request.sentence()),
+        Err(reasons) if reasons.iter().all(Malformed::is_by_profile) => {
+            format!("'{}': {}", bytes_words(piece), reasons_words(&reasons))
+        }
         Err(reasons) => format!("{}: {}", bytes_words(piece), reasons_words(&reasons)),
     };
     format!("{}: expected a get, found {found}\n", gets.place_in_file(at))

@@ -189,7 +189,7 @@ fn images_are_read_under_the_profile_of_the_option() {
     let orders = circtool(&["orders", &a, &gets], b"");
     ended(&orders, 2);
     let message =
-        "expected a get, found s4 gets r on o9: subject s4 is beyond the profile: 4 subjects, s0 to s3 are in use";
+        "expected a get, found 's4 gets r on o9': subject s4 is beyond the profile: 4 subjects, s0 to s3 are in use";
     assert_eq!(err(&orders), format!("{gets}:3: {message}\n"));
     let both = circtool(&["orders", &option, &a, &gets], b"");
     ended(&both, 2);
