@@ -1,13 +1,16 @@
-//! The loads: each a table and requests, of one kind or mixed, on few or many objects; and a test load from a seed.
+//! The loads: each a table and requests, of one kind or mixed, on few or many objects; a test load from a seed; and one under a
+//! narrow profile.
 
 use load::{Random, Shape};
-use reference::{Kind, Level, Monitor, Request, REQUEST_BYTES, SUBJECTS};
+use reference::{Kind, Level, Monitor, Profile, Request, REQUEST_BYTES, SUBJECTS};
 
 const REQUESTS: usize = 20_000;
 
 /// A load: a table, requests that make a state, and behind them the requests that count.
 pub struct Load {
     pub name: String,
+    /// of the unit; every request is inside it, so that a replay, which runs under the widest, replies the same
+    pub profile: Profile,
     pub table: [u8; reference::TABLE_BYTES],
     pub requests: Vec<u8>,
 }
@@ -114,7 +117,24 @@ pub fn loads() -> Vec<Load> {
         }
     }
     loads.push(from_seed(1));
+    loads.push(small_plant());
     loads
+}
+
+/// Mixed requests in a plant of four tasks, under its profile.
+fn small_plant() -> Load {
+    let profile = Profile { subjects: 4, objects: 10, highest_class: 3, needs: 0b11 };
+    let shape = Shape { subjects: 4, ..shape(10) };
+    let random = &mut Random::new(4);
+    let table = load::table_in(random, profile, shape);
+    let mut monitor = Monitor::from_table_in(profile, &table).expect("a table inside the profile");
+    let mut requests = Vec::new();
+    for _ in 0..REQUESTS {
+        let bytes = load::request(random, shape, &monitor).encode();
+        monitor.request(&bytes);
+        requests.extend(bytes);
+    }
+    Load { name: "mixed, a plant of 4 tasks".to_string(), profile, table, requests }
 }
 
 /// A test load as the library makes it, with everyone enrolled: who has the table, the seed and the number of requests can
@@ -122,7 +142,7 @@ pub fn loads() -> Vec<Load> {
 fn from_seed(seed: u32) -> Load {
     let mut requests = vec![0; REQUESTS * REQUEST_BYTES];
     assert_eq!(circmon::load(seed, &mut requests).number, 0);
-    Load { name: format!("from seed {seed}"), table: load::everyone(), requests }
+    Load { name: format!("from seed {seed}"), profile: Profile::WIDEST, table: load::everyone(), requests }
 }
 
 fn seed(objects: usize, dense: bool) -> u64 {
@@ -140,18 +160,19 @@ fn drawn(kind: &str, draw: Draw, objects: usize, dense: bool) -> Load {
         requests.extend(bytes);
     }
     let name = format!("{kind}, {objects} objects, {}", if dense { "dense" } else { "sparse" });
-    Load { name, table, requests }
+    Load { name, profile: Profile::WIDEST, table, requests }
 }
 
 #[cfg(test)]
 mod tests {
     use super::*;
+    use reference::reply;
 
     const PREPARED: [(usize, bool); 6] = [(4, false), (4, true), (16, false), (16, true), (64, false), (64, true)];
 
     /// The replies of a load, with those to the requests that make its state.
     fn replies(load: &Load) -> (Monitor, Vec<u8>) {
-        let mut monitor = Monitor::from_table(&load.table).expect("a table that was written");
+        let mut monitor = Monitor::from_table_in(load.profile, &load.table).expect("a table that was written");
         let replies = load.requests.chunks(REQUEST_BYTES).map(|it| monitor.request(it)).collect();
         (monitor, replies)
     }
@@ -192,6 +213,17 @@ mod tests {
             assert!(20 * often > REQUESTS, "{what}");
             assert_eq!(held(&monitor) >= 2 * objects, dense, "{what}: {} accesses are left", held(&monitor));
         }
+    }
+
+    #[test]
+    fn every_request_of_the_small_plant_is_inside_its_profile() {
+        let load = small_plant();
+        let (monitor, replies) = replies(&load);
+        assert!(monitor.profile != Profile::WIDEST && !replies.contains(&reply::MALFORMED));
+        let granted = replies.iter().filter(|reply| **reply < 2).count();
+        assert!(4 * granted > REQUESTS, "{granted} of {REQUESTS} are granted");
+        let mut replayed = vec![0xEE; REQUESTS];
+        assert_eq!((circmon::replay(&load.table, &load.requests, &mut replayed), replayed), (0, replies));
     }
 
     #[test]

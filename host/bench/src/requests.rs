@@ -2,7 +2,7 @@
 
 use crate::loads::{loads, Load};
 use crate::timing::{median, time, ROUNDS};
-use circmon::Unit;
+use circmon::{Profile, Unit};
 use reference::{Monitor, Star, REQUEST_BYTES};
 
 /// Runs a whole load, from its table on.
@@ -10,7 +10,7 @@ type Run = fn(&Load, &mut [u8]);
 
 const RUNS: [(&str, Run); 4] = [
     ("unit", |load, replies| {
-        let mut unit = Unit::from_table(&load.table).expect("a table that was written");
+        let mut unit = Unit::from_table_in(profile(load), &load.table).expect("a table that was written");
         for (reply, request) in replies.iter_mut().zip(load.requests.chunks(REQUEST_BYTES)) {
             *reply = unit.ask(request);
         }
@@ -20,8 +20,14 @@ const RUNS: [(&str, Run); 4] = [
     ("listed", |load, replies| run_reference(load, Star::Listed, replies)),
 ];
 
+/// The profile of the load as the bindings have it.
+fn profile(load: &Load) -> Profile {
+    let it = load.profile;
+    Profile::new(it.subjects, it.objects, it.highest_class, it.needs).expect("a profile in its ranges")
+}
+
 fn run_reference(load: &Load, star: Star, replies: &mut [u8]) {
-    let mut monitor = Monitor::from_table(&load.table).expect("a table that was written");
+    let mut monitor = Monitor::from_table_in(load.profile, &load.table).expect("a table that was written");
     monitor.star = star;
     for (reply, request) in replies.iter_mut().zip(load.requests.chunks(REQUEST_BYTES)) {
         *reply = monitor.request(request);
