@@ -57,7 +57,7 @@ fn requests_outside_the_profile_are_explained_by_it() {
         let mut unit = Unit::from_table_in(profiles::proved(profile).unwrap(), &table).unwrap();
         let mut monitor = Monitor::from_table_in(profile, &table).unwrap();
         for at in 0..400 {
-            let bytes = profiles::bytes(random, shape, &monitor, &mut Met::default());
+            let bytes = profiles::bytes(random, shape, &monitor);
             let verdict = judge(&View::of(&unit), &bytes);
             let step = step(&mut unit, &bytes);
             let what = format!("seed {seed}, request {at}: {bytes:02x?}, {verdict:?}");

@@ -43,21 +43,71 @@ pub fn shape(profile: Profile, most_objects: usize) -> Shape {
     }
 }
 
-/// What the profile is narrow in, for counts.
+/// What a profile may have the least of, as `note_narrow` names it.
+pub const NARROW: [&str; 4] = ["one subject", "one object", "class 0", "no needs"];
+
+/// Notes what the profile has the least of, by itself or beside others, and whether it has the least or the most of all.
 pub fn note_narrow(profile: Profile, met: &mut Met) {
-    let narrow = [
-        ("one subject", profile.subjects == 1),
-        ("one object", profile.objects == 1),
-        ("class 0 alone", profile.highest_class == 0),
-        ("no needs", profile.needs == 0),
-        ("the least of all", profile == LEAST),
-        ("the most of all", profile == Profile::WIDEST),
-    ];
-    narrow.iter().filter(|(_, is_so)| *is_so).for_each(|(what, _)| met.note(*what));
+    let Profile { subjects, objects, highest_class, needs } = profile;
+    let least = [subjects == 1, objects == 1, highest_class == 0, needs == 0];
+    let names: Vec<&str> = NARROW.into_iter().zip(least).filter(|(_, is_so)| *is_so).map(|(name, _)| name).collect();
+    match names.as_slice() {
+        [] => {}
+        [name] => met.note(format!("{name} alone")),
+        several => several.iter().for_each(|name| met.note(format!("{name} beside another"))),
+    }
+    if profile == LEAST {
+        met.note("the least of all");
+    }
+    if profile == Profile::WIDEST {
+        met.note("the most of all");
+    }
 }
 
-/// The names of the fields that may be outside a profile, as `outside` gives them.
+/// That profiles with each of these were met more often than this.
+pub fn check_narrow(met: &Met, often: usize) {
+    for name in NARROW {
+        met.check(often, &[&format!("{name} alone"), &format!("{name} beside another")]);
+    }
+    met.check(often, &["the least of all", "the most of all"]);
+}
+
+/// The fields that may be outside a profile.
 pub const FIELDS: [&str; 5] = ["actor", "other", "object", "class", "need"];
+
+/// Those of the request that are.
+pub fn fields_outside(profile: Profile, request: &Request) -> Vec<&'static str> {
+    let (other, level) = match request.kind {
+        Kind::Give(other, _) | Kind::Rescind(other, _) => (Some(other), None),
+        Kind::ChangeLevel(level) => (None, Some(level)),
+        _ => (None, None),
+    };
+    let outside = [
+        request.actor >= profile.subjects.into(),
+        other.is_some_and(|other| other >= profile.subjects.into()),
+        request.object >= profile.objects.into(),
+        level.is_some_and(|level| level.class > profile.highest_class),
+        level.is_some_and(|level| level.needs & !profile.needs != 0),
+    ];
+    FIELDS.into_iter().zip(outside).filter(|(_, is_so)| *is_so).map(|(name, _)| name).collect()
+}
+
+/// Notes the reply to a byte string and, where it is 2 for one field outside the profile and nothing else, that field.
+pub fn note_reply(profile: Profile, bytes: &[u8], reply: u8, met: &mut Met) {
+    met.note(format!("reply {reply}"));
+    let Some(request) = Request::decode(bytes) else { return };
+    let outside = fields_outside(profile, &request);
+    assert_eq!(outside.is_empty(), reply != 2, "{bytes:02x?} under {profile:?}");
+    if let [field] = outside.as_slice() {
+        met.note(format!("2 by {field} alone"));
+    }
+}
+
+/// That each reply, and a 2 by each field alone, were met more often than this.
+pub fn check_replies(met: &Met, often: usize) {
+    crate::REPLIES.iter().for_each(|reply| met.check(often, &[&format!("reply {reply}")]));
+    FIELDS.iter().for_each(|field| met.check(often, &[&format!("2 by {field} alone")]));
+}
 
 /// The request with one field outside the profile and inside the ranges of every field, and the name of the field. Nothing where
 /// the field that is drawn cannot be so.
@@ -99,12 +149,11 @@ fn outside_level(random: &mut Random, profile: Profile, level: &mut Level) -> Op
     Some("need")
 }
 
-/// The bytes of the next request for a state, often with a field outside its profile, which is noted, and sometimes damaged.
-pub fn bytes(random: &mut Random, shape: Shape, monitor: &Monitor, met: &mut Met) -> Vec<u8> {
+/// The bytes of the next request for a state, often with a field outside its profile, and sometimes damaged.
+pub fn bytes(random: &mut Random, shape: Shape, monitor: &Monitor) -> Vec<u8> {
     if random.once_in(5) {
         let request = load::request(random, shape, monitor);
-        if let Some((field, request)) = outside(random, monitor.profile, request) {
-            met.note(format!("{field} outside"));
+        if let Some((_, request)) = outside(random, monitor.profile, request) {
             return request.encode().to_vec();
         }
     }

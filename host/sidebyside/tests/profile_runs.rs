@@ -5,7 +5,7 @@ use circmon::{StartOrder, Unit, PAGE_BYTES};
 use load::{Random, Shape};
 use reference::{reply, Get, Monitor, Request, MOST_GETS};
 use sidebyside::orders::{shuffled, Met};
-use sidebyside::profiles::{self, FIELDS};
+use sidebyside::profiles;
 use sidebyside::start_order::{after_order, agree, answer, bytes};
 use sidebyside::{image, rows, Both, REPLIES};
 
@@ -32,18 +32,15 @@ impl Run {
         Run { random, shape, both: Both { monitor, unit }, met }
     }
 
-    /// The next request, and its reply. A field outside the profile alone is noted with what the widest profile would reply.
+    /// The next request, and its reply; where the state did not change, every byte of the unit is left.
     fn ask(&mut self, what: &str) {
         let Run { random, shape, both, met } = self;
-        let bytes = profiles::bytes(random, *shape, &both.monitor, met);
+        let bytes = profiles::bytes(random, *shape, &both.monitor);
         let before = both.unit.clone();
         let reply = both.monitor.request(&bytes);
         assert_eq!(both.unit.ask(&bytes), reply, "{what}: {bytes:02x?}");
         assert!(reply == 0 || both.unit == before, "{what}: {bytes:02x?} gets {reply}, and a byte is changed");
-        met.note(format!("reply {reply}"));
-        if reply == reply::MALFORMED && Request::decode(&bytes).is_some() {
-            met.note("malformed by the profile alone");
-        }
+        profiles::note_reply(both.monitor.profile, &bytes, reply, met);
     }
 
     fn check_state(&mut self, what: &str) {
@@ -127,13 +124,11 @@ fn a_million_requests_under_profiles() {
         met = run.met;
     }
     println!("{} requests: {met:#?}", RUNS as usize * REQUESTS);
-    let of = |number: &u8| met.of(&format!("reply {number}"));
-    assert!(REPLIES.iter().map(of).sum::<usize>() >= 1_000_000, "{met:#?}");
-    assert!(REPLIES.iter().all(|number| of(number) > 1000), "{met:#?}");
-    let outside = FIELDS.map(|field| format!("{field} outside"));
-    met.check(1000, &outside.each_ref().map(String::as_str));
-    met.check(30, &["one subject", "one object", "class 0 alone", "no needs", "the least of all", "the most of all"]);
-    met.check(1000, &["malformed by the profile alone", "page beyond the profile", "orders agree", "orders clash"]);
+    let replies: usize = REPLIES.iter().map(|reply| met.of(&format!("reply {reply}"))).sum();
+    assert!(replies >= 1_000_000, "{met:#?}");
+    profiles::check_replies(&met, 1000);
+    profiles::check_narrow(&met, 20);
+    met.check(1000, &["page beyond the profile", "orders agree", "orders clash"]);
     met.check(500, &["page 0", "page 2", "page 4", "page 13", "no get: actor outside", "no get: object outside"]);
 }
 

@@ -4,10 +4,10 @@ use circmon::{distinguish, distinguish_in, Unit, DISTINGUISH_BYTES, PAGE_BYTES, 
 use load::{Random, Shape};
 use reference::{reply, Monitor, Profile};
 use sidebyside::orders::Met;
-use sidebyside::profiles::{self, FIELDS};
+use sidebyside::profiles;
 use sidebyside::rows::{self, profile_in, PROFILE};
 use sidebyside::start_order::{answer, bytes};
-use sidebyside::{image, random_rows, shape, Both, REPLIES, SHAPES};
+use sidebyside::{image, random_rows, shape, Both, SHAPES};
 
 const WIDEST: circmon::Profile = circmon::Profile::WIDEST;
 
@@ -117,10 +117,10 @@ fn any_bytes_in_the_row_of_the_profile() {
         assert_eq!(both.unit.profile(), profiles::proved(profile_in(both.unit.rows())), "seed {seed}");
         for at in 0..150 {
             let what = format!("seed {seed}, request {at}, {:?}", both.monitor.profile);
-            let request = profiles::bytes(random, shape, &both.monitor, &mut met);
+            let request = profiles::bytes(random, shape, &both.monitor);
             let reply = both.monitor.request(&request);
             assert_eq!(both.unit.ask(&request), reply, "{what}: {request:02x?}");
-            met.note(format!("reply {reply}"));
+            profiles::note_reply(both.monitor.profile, &request, reply, &mut met);
             if at % 30 == 0 {
                 check_reading(random, &both, &what, &mut met);
                 assert_eq!(both.unit.image()[..], image(&both.monitor)[..], "{what}");
@@ -133,10 +133,7 @@ fn any_bytes_in_the_row_of_the_profile() {
     println!("{met:#?}");
     met.check(100, &["no subject", "no object", "more subjects than there are", "more objects than there are"]);
     met.check(30, &["a class above all", "in its ranges", "Agree", "Clash", "NoGet"]);
-    let words: Vec<String> = REPLIES.iter().map(|number| format!("reply {number}")).collect();
-    met.check(100, &words.iter().map(String::as_str).collect::<Vec<_>>());
-    let outside = FIELDS.map(|field| format!("{field} outside"));
-    met.check(100, &outside.each_ref().map(String::as_str));
+    profiles::check_replies(&met, 100);
 }
 
 #[test]
