@@ -1,5 +1,5 @@
-//! Safe Rust over the proved monitor: a unit in memory, and the functions of include/circmon.h on images, on levels and on
-//! requests from a seed.
+//! Safe Rust over the proved monitor: a unit in memory, the profile of a site, and the functions of include/circmon.h on images, on
+//! levels and on requests from a seed.
 //!
 //! The contracts of the functions are proved of the Rattle code (crates/capi). What stands here is the boundary: the
 //! declarations, and slices handed on as pointer and length.
@@ -41,8 +41,8 @@ fn size(slice: &[u8]) -> u64 {
     slice.len() as u64
 }
 
-/// The image of a monitor begun from the table under the widest profile, into the first 1,274 bytes of the buffer: 0, or 10, 11 or 13 and every
-/// byte left.
+/// The image of a monitor begun from the table under the widest profile, into the first 1,274 bytes of the buffer: 0, or 10, 11
+/// or 13 and every byte left.
 pub fn begin(table: &[u8], image: &mut [u8]) -> u8 {
     // Safety: each pointer comes with the length of its slice, and no slice overlaps the one that is written.
     unsafe { raw::circmon_begin(table.as_ptr(), size(table), image.as_mut_ptr(), size(image)) }
@@ -77,9 +77,9 @@ pub fn replay(table: &[u8], requests: &[u8], replies: &mut [u8]) -> u8 {
     }
 }
 
-/// The requests on which the states of two images reply differently under the widest profile, whole, in the first bytes of the buffer: their
-/// number, 0 where the images are equal and 1 to 4 where they differ, and any later byte left. Or 128 + n where the image a
-/// is refused with n, then 192 + n where the image b is, then 13 where the buffer has under 24 bytes, and every byte left.
+/// The requests on which the states of two images reply differently under the widest profile, whole, in the first bytes of the
+/// buffer: their number, 0 where the images are equal and 1 to 4 where they differ, and any later byte left. Or 128 + n where the
+/// image a is refused with n, then 192 + n where the image b is, then 13 where the buffer has under 24 bytes, and every byte left.
 pub fn distinguish(a: &[u8], b: &[u8], requests: &mut [u8]) -> u8 {
     // Safety: each pointer comes with the length of its slice, and no slice overlaps the one that is written.
     unsafe { raw::circmon_distinguish(a.as_ptr(), size(a), b.as_ptr(), size(b), requests.as_mut_ptr(), size(requests)) }
@@ -104,8 +104,8 @@ pub fn distinguish_in(profile: Profile, a: &[u8], b: &[u8], requests: &mut [u8])
     }
 }
 
-/// Requests from the seed, each of six bytes and well formed under the widest profile, as many whole ones as the buffer takes: 0 with their count, and
-/// the bytes behind the last one left. Or 15 with the count 0 where the seed is 0, and every byte left.
+/// Requests from the seed, each of six bytes and well formed under the widest profile, as many whole ones as the buffer takes: 0
+/// with their count, and the bytes behind the last one left. Or 15 with the count 0 where the seed is 0, and every byte left.
 pub fn load(seed: u32, requests: &mut [u8]) -> Counted {
     // Safety: the pointer comes with the length of its slice.
     Counted::new(unsafe { raw::circmon_load(seed, requests.as_mut_ptr(), size(requests)) })

@@ -1,5 +1,5 @@
-//! What the tests share: both monitors on one run, dominance, pairs of modes, orders of requests, the fields of a request, what the
-//! rows of a unit say, the program `circmon`, C programs over the header, and a program with bytes on its standard input.
+//! What the tests share: both monitors on one run, dominance, pairs of modes, orders of requests, profiles, the fields of a request, what
+//! the rows of a unit say, the program `circmon`, C programs over the header, and a program with bytes on its standard input.
 
 mod fields;
 pub mod level;
