@@ -7,12 +7,12 @@
  * NULL, with length 0. No function keeps a pointer, allocates, or has a state of its own: calls that share nothing
  * that one of them writes may run at once.
  *
- * Numbers: 0 granted and changed, or accepted, or written; 1 granted and so already; 2 malformed, of a page: the object is
- * above 63; 3 not enrolled; 4 object not live; 5 create on a live object; 6 right or ownership missing, of an image: an
- * access is held without the right; 7 no label, of an image: r, w or a is held on an object without one; 8 the simple
- * property would break, of an image: is broken; 9 the star property would break, of an image: is broken; 10 another length;
- * 11 a stray bit in what is absent; 12 an absent subject owns, has a right or holds; 13 the buffer is too short; 14 the new
- * label does not dominate the one that the object has; 15 the seed of a load is 0; 16 a profile outside its ranges, or a
+ * Numbers: 0 granted and changed, or accepted, or written; 1 granted and so already; 2 malformed or outside the profile, of a
+ * page: the object is above 63; 3 not enrolled; 4 object not live; 5 create on a live object; 6 right or ownership missing, of
+ * an image: an access is held without the right; 7 no label, of an image: r, w or a is held on an object without one; 8 the
+ * simple property would break, of an image: is broken; 9 the star property would break, of an image: is broken; 10 another
+ * length; 11 a stray bit in what is absent; 12 an absent subject owns, has a right or holds; 13 the buffer is too short; 14 the
+ * new label does not dominate the one that the object has; 15 the seed of a load is 0; 16 a profile outside its ranges, or a
  * clearance or label outside the profile.
  * circmon_compare has four numbers of its own, and circmon_clash has four codes of its own. docs/FORMATS.md has the bytes.
  *
@@ -118,8 +118,9 @@ uint8_t circmon_save(const circmon_unit *unit, uint8_t *image, circmon_size imag
 /* Writes the access page of an object into the first 258 bytes of the buffer and leaves any later byte: a line for each
  * subject with its rights and the accesses that it holds, and a last line with the numbers of holders; text, with a newline
  * behind each line and no 0 behind the last.
- * Returns 2 where the object is above 63; then 4 where it is not live, and no object beyond the profile is; then 13 where the
- * buffer has under 258 bytes; else 0. A refusal leaves every byte of the buffer. The unit is only read. */
+ * Returns 2 where the object is above 63; then 4 where it is not live; then 13 where the buffer has under 258 bytes; else 0.
+ * A refusal leaves every byte of the buffer. The unit is only read. In a unit that was begun and only asked no object beyond the
+ * profile is live. */
 uint8_t circmon_page(const circmon_unit *unit, uint8_t object, uint8_t *page, circmon_size page_len);
 
 /* ---- Start order: whether it matters in which order tasks take their accesses */
@@ -128,8 +129,8 @@ uint8_t circmon_page(const circmon_unit *unit, uint8_t object, uint8_t *page, ci
  * states, carried out on this unit? The same get may stand in it twice. Replies may differ between orders and do not count.
  * Returns a code in the low byte, with the places of pieces above it, which count from 0:
  * 3 CIRCMON_ORDERS_TOO_MANY: there are more than 4,096 pieces; no piece is looked at.
- * 2 CIRCMON_ORDERS_NO_GET: the piece at place FIRST is no well-formed get, as one outside the profile of the unit is not, and
- *   every one before it is.
+ * 2 CIRCMON_ORDERS_NO_GET: the piece at place FIRST is no well-formed get inside the profile of the unit, and every one before
+ *   it is.
  * 1 CIRCMON_ORDERS_CLASH: the gets at the places FIRST and SECOND are each granted if it came alone, and would together break
  *   the star property: no order grants both, and not all orders leave equal states. FIRST is the lower place, the least that
  *   there is, and SECOND the least for it.

@@ -35,8 +35,8 @@ pub fn steps(unit: &mut Unit, requests: &[u8]) -> Vec<Step> {
     requests.chunks(REQUEST_BYTES).map(|piece| step(unit, piece)).collect()
 }
 
-/// The whole text: the profile where it is not the widest, the subjects, a row for each step with its reason below, and a count. Where the requests come from a
-/// script, the line of each stands beside the step; else there are no lines.
+/// The whole text: the profile where it is not the widest, the subjects, a row for each step with its reason below, and a count.
+/// Where the requests come from a script, the line of each stands beside the step; else there are no lines.
 pub fn explain(unit: &mut Unit, requests: &[u8], lines: &[usize], paint: Paint) -> String {
     let before = View::of(unit);
     let steps = steps(unit, requests);
