@@ -184,7 +184,7 @@ pub fn released(monitor: &Monitor) -> Monitor {
     released
 }
 
-/// Up to six gets of one actor, who has the right to most of them.
+/// Six gets of one actor, who has the right to most of them where it has any.
 pub fn likely_gets(random: &mut Random, monitor: &Monitor) -> Vec<Get> {
     let actor = random.below(monitor.profile.subjects.clamp(1, SUBJECTS as u8).into());
     let all = (0..OBJECTS).flat_map(|object| Mode::ALL.map(|mode| Get { actor, object, mode }));

@@ -64,10 +64,10 @@ fn live<'a>(random: &mut Random, monitor: &'a mut Monitor) -> Option<&'a mut Obj
     monitor.objects.iter_mut().flatten().nth(random.below(count.max(1)))
 }
 
-/// One thing that makes a state one that no monitor of its profile has.
+/// One thing that is changed in a state, after which it may be one that no monitor of its profile has. Nothing where it cannot be.
 type Change = fn(&mut Random, &mut Monitor) -> Option<()>;
 
-const CHANGES: [(&str, Change); 11] = [
+const CHANGES: [(&str, Change); 12] = [
     ("a clearance outside", |random, it| {
         let level = level_outside(random, it.profile)?;
         it.subjects[enrolled(random, it)?] = Some(level);
@@ -90,6 +90,11 @@ const CHANGES: [(&str, Change); 11] = [
     ("a right of a subject beyond", |random, it| {
         let subject = subject_beyond(random, it.profile)?;
         live(random, it)?.rights[subject] |= random.mode().bit();
+        Some(())
+    }),
+    ("an access of a subject beyond", |random, it| {
+        let subject = subject_beyond(random, it.profile)?;
+        live(random, it)?.held[subject] |= random.mode().bit();
         Some(())
     }),
     ("an owner beyond", |random, it| {
@@ -128,7 +133,7 @@ const CHANGES: [(&str, Change); 11] = [
     }),
 ];
 
-/// Two bits of the form: the enrolled bit of a subject beyond the profile and the live bit of an object beyond it, each alone.
+/// Sets the enrolled bit of a subject beyond the profile or the live bit of an object beyond it, and names it.
 fn first_bit_beyond(random: &mut Random, profile: Profile, bytes: &mut [u8]) -> Option<&'static str> {
     let (bit, name) = match (subject_beyond(random, profile), object_beyond(random, profile)) {
         (Some(subject), _) if random.once_in(2) => (21 * subject, "the enrolled bit beyond"),
@@ -161,6 +166,18 @@ fn changed(random: &mut Random, monitor: &mut Monitor, met: &mut Met) {
     }
 }
 
+/// Which levels of a state are outside its profile.
+fn note_levels(monitor: &Monitor, met: &mut Met) {
+    let outside = |level: &Level| !monitor.profile.has_level(level);
+    let clearances = monitor.subjects.iter().flatten().any(outside);
+    let labels = monitor.objects.iter().flatten().filter_map(|it| it.label.as_ref()).any(outside);
+    match (clearances, labels) {
+        (true, false) => met.note("16 by a clearance alone"),
+        (false, true) => met.note("16 by a label alone"),
+        _ => {}
+    }
+}
+
 #[test]
 fn images_under_profiles() {
     let mut met = Met::default();
@@ -176,10 +193,16 @@ fn images_under_profiles() {
         damaged(random, &mut bytes);
         let number = opened(random, profile, &bytes, &format!("seed {seed}"));
         met.note(format!("image {number}"));
+        if number == reply::PROFILE {
+            note_levels(&monitor, &mut met);
+        }
     }
     println!("{met:#?}");
     met.check(50, &CHANGES.map(|(name, _)| name));
-    met.check(50, &["the enrolled bit beyond", "the live bit beyond"]);
+    met.check(
+        50,
+        &["the enrolled bit beyond", "the live bit beyond", "16 by a clearance alone", "16 by a label alone"],
+    );
     let numbers = [0, 10, 11, 16, 12, 6, 7, 8, 9].map(|number| format!("image {number}"));
     met.check(30, &numbers.each_ref().map(String::as_str));
 }

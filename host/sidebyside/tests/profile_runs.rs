@@ -134,16 +134,19 @@ fn a_million_requests_under_profiles() {
 
 #[test]
 fn more_pieces_than_are_looked_at_and_a_get_outside_at_the_last_place() {
+    let mut beyond = 0;
     for seed in 0..20 {
         let both = Run::new(seed, Met::default()).both;
         let inside = Get { actor: 0, object: 0, mode: reference::Mode::Read };
         let mut requests = bytes(&vec![inside; MOST_GETS]);
         assert_eq!(answer(&both, &requests), StartOrder::Agree, "seed {seed}");
-        if let Some(beyond) = (both.monitor.profile.subjects < 16).then_some(Get { actor: 15, ..inside }) {
-            requests[6 * (MOST_GETS - 1)..].copy_from_slice(&beyond.encode());
+        if both.monitor.profile.subjects < 16 {
+            requests[6 * (MOST_GETS - 1)..].copy_from_slice(&Get { actor: 15, ..inside }.encode());
             assert_eq!(answer(&both, &requests), StartOrder::NoGet { at: MOST_GETS - 1 }, "seed {seed}");
+            beyond += 1;
         }
         requests.push(0);
         assert_eq!(answer(&both, &requests), StartOrder::TooMany, "seed {seed}");
     }
+    assert!(beyond > 5, "{beyond}");
 }
