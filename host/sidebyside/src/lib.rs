@@ -5,6 +5,7 @@ mod fields;
 pub mod level;
 pub mod orders;
 pub mod pair;
+pub mod profile_changes;
 pub mod profiles;
 pub mod rights_lists;
 pub mod rows;
