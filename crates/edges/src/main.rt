@@ -8,7 +8,7 @@ use unit::ROWS;
 fn main() {
     let table = saying::enrolment();
     let mut fresh = [[0u8; 16]; ROWS];
-    image::start(&mut fresh, &table[0..42]);
+    image::start_widest(&mut fresh, &table[0..42]);
     let one = requests::subjects(fresh);
     requests::objects(fresh);
     requests::modes(one);

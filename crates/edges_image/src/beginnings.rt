@@ -31,7 +31,7 @@ fn table(length: usize, bit: usize)
     let bytes = turned(enrolment(), bit);
     describe(b"table of ", length, bit);
     let mut unit = [[0u8; 16]; ROWS];
-    answer(image::start(&mut unit, &bytes[0..length]));
+    answer(image::start_widest(&mut unit, &bytes[0..length]));
 }
 
 // Tables of three lengths, and one with a bit in an absent record.
@@ -51,7 +51,7 @@ fn image(unit: &[[u8; 16]; ROWS], length: usize, bit: usize)
     let bytes = turned(written, bit);
     describe(b"image of ", length, bit);
     let mut opened = [[0u8; 16]; ROWS];
-    answer(image::open(&mut opened, &bytes[0..length]));
+    answer(image::open_widest(&mut opened, &bytes[0..length]));
 }
 
 // Object 0 is live and owned by subject 0, and no other object is live.

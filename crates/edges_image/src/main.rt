@@ -17,7 +17,7 @@ fn main() {
     beginnings::tables();
     let table = saying::enrolment();
     let mut unit = [[0u8; 16]; ROWS];
-    image::start(&mut unit, &table[0..42]);
+    image::start_widest(&mut unit, &table[0..42]);
     read_one(&mut unit);
     beginnings::images(&unit);
     buffers::buffers(&unit);
