@@ -6,35 +6,9 @@ ghost use Rattle.edges.specs.Trials.{left};
 use encoding::pack;
 use encoding::without_level;
 use model::Fields;
+use saying::describe;
 use saying::end;
-use saying::say;
-use saying::say_set;
 use unit::ROWS;
-
-// What the kind is called.
-fn name(kind: u8) {
-    let number = kind as u64;
-    match kind {
-        1 => say(b"get, kind ", number),
-        2 => say(b"release, kind ", number),
-        3 => say(b"give, kind ", number),
-        5 => say(b"create, kind ", number),
-        7 => say(b"change level, kind ", number),
-        _ => say(b"kind ", number),
-    }
-}
-
-// The line up to its number. Of the fields that not every kind uses only those are said that are not 0.
-fn describe(f: Fields) {
-    name(f.kind);
-    say(b", by subject ", f.actor as u64);
-    say_set(b", other subject ", f.other as u64);
-    say(b", object ", f.object as u64);
-    say(b", mode ", f.mode as u64);
-    say_set(b", class ", f.class as u64);
-    say_set(b", needs ", f.needs as u64);
-    say_set(b", spare ", f.spare as u64);
-}
 
 // Asks, prints the line, and hands back the unit after the request.
 pub fn ask(unit: [[u8; 16]; ROWS], f: Fields) -> [[u8; 16]; ROWS]

@@ -2,6 +2,7 @@
 ghost use mathlib.Core.Path.{_≡_};
 ghost use Rattle.saying.specs.Enrolment.{enrolled};
 use model::Decision;
+use model::Fields;
 
 // Some words and a number.
 pub fn say(words: &[u8], n: u64) {
@@ -31,6 +32,31 @@ pub fn end(n: u64) {
 // The end of a line: the number of an answer.
 pub fn answer(d: Decision) {
     end(labels::number(d) as u64);
+}
+
+// What the kind is called.
+fn name(kind: u8) {
+    let number = kind as u64;
+    match kind {
+        1 => say(b"get, kind ", number),
+        2 => say(b"release, kind ", number),
+        3 => say(b"give, kind ", number),
+        5 => say(b"create, kind ", number),
+        7 => say(b"change level, kind ", number),
+        _ => say(b"kind ", number),
+    }
+}
+
+// The line of a request up to its number. Of the fields that not every kind uses only those are said that are not 0.
+pub fn describe(f: Fields) {
+    name(f.kind);
+    say(b", by subject ", f.actor as u64);
+    say_set(b", other subject ", f.other as u64);
+    say(b", object ", f.object as u64);
+    say(b", mode ", f.mode as u64);
+    say_set(b", class ", f.class as u64);
+    say_set(b", needs ", f.needs as u64);
+    say_set(b", spare ", f.spare as u64);
 }
 
 // A table in which subject 0 has (1, 0001), subject 1 (3, 0003), subject 2 (0, 0000), as in table W, and subject 15 (15, FFFF); zeros

@@ -1,0 +1,2 @@
+-- The tables that the edges of a profile begin with.
+pub mod Tables

@@ -1,0 +1,27 @@
+// Executes the edges of a site profile with the proved functions, and prints a line for each: what was tried, and the number that came.
+// The numbers in the file stdout were worked out from change request §8 and the scope by hand; the comments say why.
+mod ranges;
+mod requests;
+mod tables;
+
+use profiles::site;
+use unit::ROWS;
+
+fn main() {
+    ranges::numbers();
+    ranges::lengths();
+    io::write_all(1, b"under subjects 4, objects 10, class 3, needs 3\n");
+    tables::tables();
+    let table = tables::two_enrolled();
+    let mut fresh = [[0u8; 16]; ROWS];
+    image::start(&mut fresh, site(4, 10, 3, 3), &table);
+    requests::subjects(fresh);
+    requests::objects(fresh);
+    asking::ask(&mut fresh, &[0x50, 0, 0, 0, 0, 0]); // subject 0 creates object 0
+    requests::others(fresh);
+    requests::levels(fresh);
+    io::write_all(1, b"after a table that was refused there\n");
+    let mut empty = [[0u8; 16]; ROWS];
+    image::start(&mut empty, site(4, 10, 3, 3), &[0u8; 41]);
+    requests::refused(empty);
+}
