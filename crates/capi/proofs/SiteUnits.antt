@@ -1,23 +1,34 @@
 -- Beginnings and two images under a profile (change request §8): the numbers of `circmon_distinguish_in`, and two units of one profile told apart.
 -- Assumes nothing.
 use Prim.Native.Nat.{ℕ, _≤_}
-use mathlib.Core.Path.{_≡_, sym, ap, ap₂, _∙_, subst}
+use mathlib.Core.Path.{_≡_, refl, sym, ap, ap₂, _∙_, subst}
 use mathlib.Core.Logic.{_≢_}
-use mathlib.Core.Bool.{false}
+use mathlib.Core.Bool.{true, false}
 use mathlib.Core.List.{List}
 use lib.ListN.{length}
 use Rattle.bits.specs.Bits.{Bytes, cut}
 use Rattle.model.specs.declared.Profile.{Profile}
-use Rattle.model.specs.Profiles.{ProfileFits, profileFits}
+use Rattle.model.specs.State.{widest}
+use Rattle.model.specs.Profiles.{ProfileFits, profileFits, levelInside}
 use Rattle.model.specs.Beginnings.{image, Accepted}
 use Rattle.model.proofs.Tests.{split, cond-true, cond-false}
 use Rattle.model.proofs.Profiles.{profile-decides}
 use Rattle.asking.specs.Asked.{repliesOf}
+use Rattle.profiles.specs.Site.{site}
 use Rattle.images_apart.specs.Apart.{distinguishNumber, distinguishBytes}
 use Rattle.capi.specs.SiteAnswers.{apartNumber, apartBytes}
 use Rattle.capi.specs.UnitRuns.{begunUnit}
 use Rattle.capi.proofs.UnitRuns.{unit-replies}
 use Rattle.capi.proofs.Calls.{distinguish-replies}
+
+-- the four numbers in their order: the last that is in its range and the first that is not; a class, and a need; all of them at their highest are
+-- the widest profile
+pub four-numbers : (profileFits (site 16 64 15 0) ≡ true) × (profileFits (site 17 64 15 0) ≡ false) × (profileFits (site 16 65 15 0) ≡ false)
+    × (profileFits (site 16 64 16 0) ≡ false) × (profileFits (site 0 1 0 0) ≡ false) × (profileFits (site 1 0 0 0) ≡ false)
+    × (levelInside (site 1 1 4 2) (record { class = 4; needs = 2 }) ≡ true) × (levelInside (site 1 1 4 2) (record { class = 2; needs = 4 }) ≡ false)
+    × (site 16 64 15 65535 ≡ widest)
+unfolding profileFits
+four-numbers = (refl, refl, refl, refl, refl, refl, refl, refl, refl)
 
 -- "16, a profile outside these ranges, before anything else is read": whatever the images are, and every byte left
 pub apart-16 : (p : Profile) (a b buffer : List ℕ) → (ProfileFits p → ⊥) → (apartNumber p a b buffer ≡ 16) × (apartBytes p a b buffer ≡ buffer)

@@ -11,6 +11,7 @@ use Rattle.model.specs.declared.Request.{Request}
 use Rattle.model.specs.declared.Decision.the-variants.{Granted}
 use Rattle.model.specs.declared.Response.{Response}
 use Rattle.model.specs.State.{WellFormed}
+use Rattle.model.specs.Profiles.{Inside}
 use Rattle.model.specs.Properties.{Secure}
 use Rattle.model.specs.Decisions.{number}
 use Rattle.model.specs.Requests.{encode}
@@ -21,7 +22,7 @@ use Rattle.model.specs.Writing.{writing, written}
 use Rattle.model.specs.Beginnings.{Beginning, begun, Accepted, left, AllBytes}
 use Rattle.telling.specs.Distinguish.{distinguish}
 use Rattle.images.specs.Tables.{profileOf}
-use Rattle.images.proofs.Reached.{reached-left, sound-left, left-profile, fills}
+use Rattle.images.proofs.Reached.{reached-left, sound-left, left-profile, reached-inside, fills}
 use Rattle.effects.proofs.Demand2.{always-secure}
 use Rattle.equal_images.proofs.Demand3.{distinguishes, distinguishes-not, demand-3}
 use Rattle.images.proofs.RoundTrips.{read-written}
@@ -64,6 +65,13 @@ module _ (b : Beginning) where
     -- begun with 0, the state is well formed and secure
     pub unit-secure : Accepted b → WellFormed (stateIn (unitAfter b bs)) × Secure (stateIn (unitAfter b bs))
     unit-secure e = subst (λ (m : Monitor). WellFormed m × Secure m) (sym after-says) (always-secure (left b bs) (reached-left b e bs))
+
+    -- its profile is that which it was begun under, and every enrolled subject, live object, clearance and label is inside it
+    pub unit-inside : Accepted b → (stateIn (unitAfter b bs) .profile ≡ profileOf b) × Inside (stateIn (unitAfter b bs))
+    unit-inside e = (
+      ap (λ (m : Monitor). m .profile) after-says ∙ left-profile b e bs,
+      subst Inside (sym after-says) (reached-inside (left b bs) (reached-left b e bs)),
+    )
 
     -- what was saved is accepted under the profile of the unit, and opened it is that state
     pub saved-opens : Accepted b → (buffer : List ℕ) → number (writing buffer) ≡ 0
