@@ -63,7 +63,7 @@ pub fn start(unit: &mut [[u8; 16]], profile: Profile, table: &[u8]) -> Decision
     ensures { λ r. ⌜ (r ≡ readTable profile (now (table .entry)) .decision) × (now (unit .exit) ≡ unitOf (readTable profile (now (table .entry)) .monitor)) ⌝ }
 {
     if !fits(profile) {
-        return refused(unit, Decision::OutsideProfile); // before the table
+        return refused(unit, Decision::OutsideProfile); // before the table is read
     }
     if table.len() != Monitor::TABLE_BYTES {
         return refused(unit, Decision::WrongLength);
@@ -80,7 +80,7 @@ pub fn open(unit: &mut [[u8; 16]], profile: Profile, image: &[u8]) -> Decision
     ensures { λ r. ⌜ (r ≡ readImage profile (now (image .entry)) .decision) × (now (unit .exit) ≡ unitOf (readImage profile (now (image .entry)) .monitor)) ⌝ }
 {
     if !fits(profile) {
-        return refused(unit, Decision::OutsideProfile); // before the image
+        return refused(unit, Decision::OutsideProfile); // before the image is read
     }
     if image.len() != Monitor::IMAGE_BYTES {
         return refused(unit, Decision::WrongLength);
