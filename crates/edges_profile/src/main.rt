@@ -8,15 +8,14 @@ use profiles::site;
 use unit::ROWS;
 
 fn main() {
-    ranges::numbers();
-    ranges::lengths();
+    ranges::ranges();
     io::write_all(1, b"under subjects 4, objects 10, class 3, needs 3\n");
     tables::tables();
-    let table = tables::two_enrolled();
+    // subject 0 has class 3 and the needs 0 and 1, subject 3 class 0 and no needs
+    let table = tables::with_bytes(0x98, 0x18, 0x01, 0);
     let mut fresh = [[0u8; 16]; ROWS];
     image::start(&mut fresh, site(4, 10, 3, 3), &table);
-    requests::subjects(fresh);
-    requests::objects(fresh);
+    requests::creates(fresh);
     asking::ask(&mut fresh, &[0x50, 0, 0, 0, 0, 0]); // subject 0 creates object 0
     requests::others(fresh);
     requests::levels(fresh);

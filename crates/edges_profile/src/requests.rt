@@ -21,15 +21,11 @@ fn create(unit: [[u8; 16]; ROWS], actor: u8, object: u8) {
     ask(unit, without_level(5, actor, 0, object, 0));
 }
 
-// The actor, on a unit without a live object.
-pub fn subjects(fresh: [[u8; 16]; ROWS]) {
+// The actor and the object, on a unit without a live object.
+pub fn creates(fresh: [[u8; 16]; ROWS]) {
     create(fresh, 3, 0); // 0: the last of 4 subjects, and enrolled
     create(fresh, 4, 0); // 2: a subject outside the profile; that it is not enrolled would be 3, later
     create(fresh, 2, 0); // 3: inside the profile, but not enrolled
-}
-
-// The object, on the same unit.
-pub fn objects(fresh: [[u8; 16]; ROWS]) {
     create(fresh, 0, 9); // 0: the last of 10 objects
     create(fresh, 0, 10); // 2: an object outside the profile
     create(fresh, 2, 10); // 2: the same, before 3

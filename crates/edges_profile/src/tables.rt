@@ -2,6 +2,7 @@
 // gives it, and why.
 ghost use mathlib.Core.Path.{_≡_};
 ghost use Rattle.edges_profile.specs.Tables.{withBytes};
+use model::Profile;
 use profiles::site;
 use saying::answer;
 use unit::ROWS;
@@ -9,7 +10,7 @@ use unit::ROWS;
 // A table whose bytes are 0 but for these. Subject 0's record is bits 0 to 20: enrolled and the class are 80 and 8 for each class in
 // byte 0, needs 0, 1 and 2 are 08, 10 and 20 in byte 2. Subject 1's is bits 21 to 41. Subject 3's is bits 63 to 83: enrolled is 01 in
 // byte 7. Subject 4's is bits 84 to 104: enrolled is 08 in byte 10.
-fn with_bytes(byte0: u8, byte2: u8, byte7: u8, byte10: u8) -> [u8; 42]
+pub fn with_bytes(byte0: u8, byte2: u8, byte7: u8, byte10: u8) -> [u8; 42]
     ensures { λ r. ⌜ r ≡ withBytes byte0 byte2 byte7 byte10 ⌝ }
 {
     let mut table = [0u8; 42];
@@ -20,11 +21,10 @@ fn with_bytes(byte0: u8, byte2: u8, byte7: u8, byte10: u8) -> [u8; 42]
     table
 }
 
-// Subject 0 has class 3 and the needs 0 and 1, subject 3 class 0 and no needs.
-pub fn two_enrolled() -> [u8; 42]
-    ensures { λ r. ⌜ r ≡ withBytes 0x98 0x18 0x01 0 ⌝ }
-{
-    with_bytes(0x98, 0x18, 0x01, 0)
+// Begins from a table under a profile, and ends the line.
+pub fn start(profile: Profile, table: &[u8]) {
+    let mut unit = [[0u8; 16]; ROWS];
+    answer(image::start(&mut unit, profile, table));
 }
 
 // Begins from such a table.
@@ -32,8 +32,7 @@ fn begin(words: &[u8], byte0: u8, byte2: u8, byte7: u8, byte10: u8) {
     io::write_all(1, b"table, ");
     io::write_all(1, words);
     let table = with_bytes(byte0, byte2, byte7, byte10);
-    let mut unit = [[0u8; 16]; ROWS];
-    answer(image::start(&mut unit, site(4, 10, 3, 3), &table));
+    start(site(4, 10, 3, 3), &table);
 }
 
 // Subjects, classes and needs: the last that is inside and the first that is not. Then two causes at once: 16 is checked after 11.
