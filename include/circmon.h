@@ -52,11 +52,12 @@ typedef uint64_t circmon_size;
 
 /* ---- The profile of a site: how much of the tables is in use
  *
- * A profile is four numbers: subjects, 1 to 16, and objects, 1 to 64, that are in use, from 0 on; highest_class, 0 to 15; and
- * needs, a set in which need k weighs 2^k, every one of which will do. A subject, object, class or need outside it in a request
- * is malformed and gets 2. Tables and images keep their size and do not say their profile: whoever reads one says under which.
- * A bit in the record of a subject or of an object beyond the profile gets 11, and a clearance or label outside it 16. The
- * widest profile is 16 subjects, 64 objects, class 15 and needs 0xFFFF: under it nothing is outside.
+ * A profile is four numbers: subjects, 1 to 16, and objects, 1 to 64, that are in use, from 0 on; highest_class, 0 to 15;
+ * and needs, a set in which need k weighs 2^k, every one of which will do. A number that does not fit its type is cut
+ * before the call: 272 subjects arrive as 16. A subject, object, class or need outside it in a request is malformed and
+ * gets 2. Tables and images keep their size and do not say their profile: whoever reads one says under which. A bit in the
+ * record of a subject or of an object beyond the profile gets 11, and a clearance or label outside it 16. The widest
+ * profile is 16 subjects, 64 objects, class 15 and needs 0xFFFF: under it nothing is outside.
  * A unit has the profile under which it was begun, and every function on it follows that. Functions on images alone run
  * under the widest, all but circmon_distinguish_in. */
 

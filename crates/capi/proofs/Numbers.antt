@@ -124,7 +124,7 @@ replay-0-short t qs short out A h some less room =
     replay-pieces t (join qs ++ short) out (qs ++ (short ∷ [])) A (pieces-short qs h short some less)
     (omega (arith, n, length-append (join qs) short, whole-length qs h)) (omega (arith, n, room))
 
--- ---- circmon_distinguish, under any profile
+-- ---- circmon_distinguish under the widest profile, and circmon_distinguish_in under the one that it is given
 
 -- image a is refused with n: 128 + n; then image b with n: 192 + n; every byte left
 pub distinguish-128 : (p : Profile) (a b buffer : List ℕ) → 2 ≤ number (readImage p a .decision)

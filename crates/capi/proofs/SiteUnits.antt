@@ -4,17 +4,19 @@ use Prim.Native.Nat.{ℕ, _≤_}
 use mathlib.Core.Path.{_≡_, refl, sym, ap, ap₂, _∙_, subst}
 use mathlib.Core.Logic.{_≢_}
 use mathlib.Core.Bool.{true, false}
-use mathlib.Core.List.{List}
+use mathlib.Core.List.{List, []}
 use lib.ListN.{length}
 use Rattle.bits.specs.Bits.{Bytes, cut}
 use Rattle.model.specs.declared.Profile.{Profile}
 use Rattle.model.specs.State.{widest}
-use Rattle.model.specs.Profiles.{ProfileFits, profileFits, levelInside}
+use Rattle.model.specs.Profiles.{ProfileFits, site, profileFits, levelInside}
 use Rattle.model.specs.Beginnings.{image, Accepted}
 use Rattle.model.proofs.Tests.{split, cond-true, cond-false}
 use Rattle.model.proofs.Profiles.{profile-decides}
+use Rattle.images.proofs.Reached.{left-inside}
+use Rattle.refusals.specs.Causes.{ProfileOutside}
+use Rattle.refusals.proofs.ProfileCauses.{profile-not-outside}
 use Rattle.asking.specs.Asked.{repliesOf}
-use Rattle.profiles.specs.Site.{site}
 use Rattle.images_apart.specs.Apart.{distinguishNumber, distinguishBytes}
 use Rattle.capi.specs.SiteAnswers.{apartNumber, apartBytes}
 use Rattle.capi.specs.UnitRuns.{begunUnit}
@@ -31,10 +33,10 @@ unfolding profileFits
 four-numbers = (refl, refl, refl, refl, refl, refl, refl, refl, refl)
 
 -- "16, a profile outside these ranges, before anything else is read": whatever the images are, and every byte left
-pub apart-16 : (p : Profile) (a b buffer : List ℕ) → (ProfileFits p → ⊥) → (apartNumber p a b buffer ≡ 16) × (apartBytes p a b buffer ≡ buffer)
+pub apart-16 : (p : Profile) (a b buffer : List ℕ) → ProfileOutside p → (apartNumber p a b buffer ≡ 16) × (apartBytes p a b buffer ≡ buffer)
 unfolding apartNumber apartBytes
 apart-16 p a b buffer h =
-    let off : profileFits p ≡ false = split (profileFits p) (λ e. absurd (h (profile-decides p .0 e))) (λ e. e) in
+    let off : profileFits p ≡ false = split (profileFits p) (λ e. absurd (profile-not-outside p e h)) (λ e. e) in
     (cond-false (profileFits p) _ _ off, cond-false (profileFits p) _ _ off)
 
 -- else what is told under it
@@ -47,12 +49,12 @@ apart-told p a b buffer h =
 
 -- of two units that were opened with 0 under one profile: no request where their images are equal; where they differ 1 to 4, to which the two
 -- units reply differently
-pub sites-told : (p : Profile) (a b buffer : List ℕ) → ProfileFits p → Bytes a → Bytes b → Accepted (image p a) → Accepted (image p b) → 24 ≤ length buffer
+pub sites-told : (p : Profile) (a b buffer : List ℕ) → Bytes a → Bytes b → Accepted (image p a) → Accepted (image p b) → 24 ≤ length buffer
     → let n = apartNumber p a b buffer in
     let qs = cut n 6 (apartBytes p a b buffer) in
     (a ≡ b → n ≡ 0) × (a ≢ b → (1 ≤ n) × (n ≤ 4) × (repliesOf qs (begunUnit (image p a)) ≢ repliesOf qs (begunUnit (image p b))))
-sites-told p a b buffer fits ha hb A B room =
-    let told = apart-told p a b buffer fits in
+sites-told p a b buffer ha hb A B room =
+    let told = apart-told p a b buffer (left-inside (image p a) A [] .0) in
     let d = distinguish-replies p a b buffer ha hb A B room in
     let qs = cut (distinguishNumber p a b buffer) 6 (distinguishBytes p a b buffer) in
     let same : cut (apartNumber p a b buffer) 6 (apartBytes p a b buffer) ≡ qs = ap₂ (λ (n : ℕ) (l : List ℕ). cut n 6 l) (told .0) (told .1) in (

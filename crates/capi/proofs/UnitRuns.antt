@@ -21,7 +21,7 @@ use Rattle.model.specs.Reading.{readImage}
 use Rattle.model.specs.Writing.{writing, written}
 use Rattle.model.specs.Beginnings.{Beginning, begun, Accepted, left, AllBytes}
 use Rattle.telling.specs.Distinguish.{distinguish}
-use Rattle.images.specs.Tables.{profileOf}
+use Rattle.images.specs.Tables.{beginningProfile}
 use Rattle.images.proofs.Reached.{reached-left, sound-left, left-profile, reached-inside, fills}
 use Rattle.effects.proofs.Demand2.{always-secure}
 use Rattle.equal_images.proofs.Demand3.{distinguishes, distinguishes-not, demand-3}
@@ -67,7 +67,7 @@ module _ (b : Beginning) where
     unit-secure e = subst (λ (m : Monitor). WellFormed m × Secure m) (sym after-says) (always-secure (left b bs) (reached-left b e bs))
 
     -- its profile is that which it was begun under, and every enrolled subject, live object, clearance and label is inside it
-    pub unit-inside : Accepted b → (stateIn (unitAfter b bs) .profile ≡ profileOf b) × Inside (stateIn (unitAfter b bs))
+    pub unit-inside : Accepted b → (stateIn (unitAfter b bs) .profile ≡ beginningProfile b) × Inside (stateIn (unitAfter b bs))
     unit-inside e = (
       ap (λ (m : Monitor). m .profile) after-says ∙ left-profile b e bs,
       subst Inside (sym after-says) (reached-inside (left b bs) (reached-left b e bs)),
@@ -75,7 +75,7 @@ module _ (b : Beginning) where
 
     -- what was saved is accepted under the profile of the unit, and opened it is that state
     pub saved-opens : Accepted b → (buffer : List ℕ) → number (writing buffer) ≡ 0
-        → readImage (profileOf b) (take imageSize (saved (unitAfter b bs) buffer)) ≡ record { decision = Granted; monitor = stateIn (unitAfter b bs) }
+        → readImage (beginningProfile b) (take imageSize (saved (unitAfter b bs) buffer)) ≡ record { decision = Granted; monitor = stateIn (unitAfter b bs) }
     saved-opens e buffer w =
         ap₂ (λ (p : Profile) (l : List ℕ). readImage p (take imageSize l)) (sym (left-profile b e bs)) (unit-saved buffer)
         ∙ read-written (left b bs) (reached-left b e bs) buffer w
@@ -83,7 +83,7 @@ module _ (b : Beginning) where
 
 -- ---- two units of one profile
 
-module _ (b c : Beginning) (e : Accepted b) (f : Accepted c) (one : profileOf b ≡ profileOf c) (qs rs : List (List ℕ)) (buffer other : List ℕ) (v : number (writing buffer) ≡ 0) (w : number (writing other) ≡ 0) where
+module _ (b c : Beginning) (e : Accepted b) (f : Accepted c) (one : beginningProfile b ≡ beginningProfile c) (qs rs : List (List ℕ)) (buffer other : List ℕ) (v : number (writing buffer) ≡ 0) (w : number (writing other) ≡ 0) where
   -- demand 3: the images saved are equal in every byte exactly when every further list draws the same replies from both units
   pub unit-demand-3 :
       (take imageSize (saved (unitAfter b qs) buffer) ≡ take imageSize (saved (unitAfter c rs) other))
@@ -102,7 +102,7 @@ module _ (b c : Beginning) (e : Accepted b) (f : Accepted c) (one : profileOf b 
 
   -- the requests that `circmon_distinguish` gives for the two images saved
   told : List Request
-  told = distinguish (readImage (profileOf b) (take imageSize (saved (unitAfter b qs) buffer)) .monitor) (readImage (profileOf c) (take imageSize (saved (unitAfter c rs) other)) .monitor)
+  told = distinguish (readImage (beginningProfile b) (take imageSize (saved (unitAfter b qs) buffer)) .monitor) (readImage (beginningProfile c) (take imageSize (saved (unitAfter c rs) other)) .monitor)
 
   told-of : told ≡ distinguish (left b qs) (left c rs)
   unfolding told
@@ -111,7 +111,7 @@ module _ (b c : Beginning) (e : Accepted b) (f : Accepted c) (one : profileOf b 
 
   -- none where these are equal
   pub same-units-told : take imageSize (saved (unitAfter b qs) buffer) ≡ take imageSize (saved (unitAfter c rs) other)
-      → distinguish (readImage (profileOf b) (take imageSize (saved (unitAfter b qs) buffer)) .monitor) (readImage (profileOf c) (take imageSize (saved (unitAfter c rs) other)) .monitor) ≡ []
+      → distinguish (readImage (beginningProfile b) (take imageSize (saved (unitAfter b qs) buffer)) .monitor) (readImage (beginningProfile c) (take imageSize (saved (unitAfter c rs) other)) .monitor) ≡ []
   unfolding told
   same-units-told p =
       told-of ∙ distinguishes-not (left b qs) (left c rs) (sound-left b e qs) (sound-left c f rs)
@@ -119,9 +119,9 @@ module _ (b c : Beginning) (e : Accepted b) (f : Accepted c) (one : profileOf b 
 
   -- at most four where they differ, and the two units reply differently to them
   pub different-units-told : (take imageSize (saved (unitAfter b qs) buffer) ≢ take imageSize (saved (unitAfter c rs) other))
-      → (length (distinguish (readImage (profileOf b) (take imageSize (saved (unitAfter b qs) buffer)) .monitor) (readImage (profileOf c) (take imageSize (saved (unitAfter c rs) other)) .monitor)) ≤ 4)
-      × (repliesOf (map encode (distinguish (readImage (profileOf b) (take imageSize (saved (unitAfter b qs) buffer)) .monitor) (readImage (profileOf c) (take imageSize (saved (unitAfter c rs) other)) .monitor))) (unitAfter b qs)
-      ≢ repliesOf (map encode (distinguish (readImage (profileOf b) (take imageSize (saved (unitAfter b qs) buffer)) .monitor) (readImage (profileOf c) (take imageSize (saved (unitAfter c rs) other)) .monitor))) (unitAfter c rs))
+      → (length (distinguish (readImage (beginningProfile b) (take imageSize (saved (unitAfter b qs) buffer)) .monitor) (readImage (beginningProfile c) (take imageSize (saved (unitAfter c rs) other)) .monitor)) ≤ 4)
+      × (repliesOf (map encode (distinguish (readImage (beginningProfile b) (take imageSize (saved (unitAfter b qs) buffer)) .monitor) (readImage (beginningProfile c) (take imageSize (saved (unitAfter c rs) other)) .monitor))) (unitAfter b qs)
+      ≢ repliesOf (map encode (distinguish (readImage (beginningProfile b) (take imageSize (saved (unitAfter b qs) buffer)) .monitor) (readImage (beginningProfile c) (take imageSize (saved (unitAfter c rs) other)) .monitor))) (unitAfter c rs))
   unfolding told
   different-units-told h =
       let m = left b qs in

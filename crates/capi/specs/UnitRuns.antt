@@ -8,7 +8,7 @@ use Rattle.unit.specs.Rows.{Rows, stateIn}
 use Rattle.unit.specs.Stored.{unitOf}
 use Rattle.asking.specs.Asked.{askedAll}
 
--- what `circmon_start` or `circmon_open` leaves
+-- what `circmon_start_in` or `circmon_open_in` leaves, under the widest profile also `circmon_start` or `circmon_open`
 abbrev pub begunUnit : Beginning → Rows
 begunUnit b = unitOf (begun b .monitor)
 

@@ -3,7 +3,7 @@ ghost use mathlib.Core.Path.{_≡_};
 ghost use Rattle.model.specs.Decisions.{number};
 ghost use Rattle.model.specs.Reading.{readTable, readImage};
 ghost use Rattle.unit.specs.Stored.{unitOf};
-ghost use Rattle.profiles.specs.Site.{site};
+ghost use Rattle.model.specs.Profiles.{site};
 ghost use Rattle.capi.specs.SiteAnswers.{apartNumber, apartBytes};
 use image::open;
 use image::start;

@@ -1,4 +1,4 @@
--- The parts of `distinguish` as the code computes them: from two records and not from two states.
+-- The parts of `distinguish` as the code computes them: from two records and not from two states; the place of a new object from one state.
 -- Assumes nothing.
 use Prim.Native.Nat.{ℕ}
 use mathlib.Core.Bool.{Bool, true, false, cond, not}

@@ -21,7 +21,7 @@ use Rattle.model.proofs.Equal.{state-same}
 use Rattle.telling.specs.Distinguish.{search, byEnrolment, byObject, byClearance, distinguish}
 use Rattle.invariants.specs.Sound.{Sound}
 use Rattle.images.proofs.Trips.{image-tells}
-use Rattle.images.specs.Tables.{profileOf}
+use Rattle.images.specs.Tables.{beginningProfile}
 use Rattle.images.proofs.Reached.{sound-reached, fills, reached-left, left-profile}
 use Rattle.equal_images.specs.Inputs.{AllFormed}
 use Rattle.equal_images.proofs.Under.{Under}
@@ -86,7 +86,7 @@ module _ (m n : Monitor) (R : Reached m) (Q : Reached n) (one : m .profile ≡ n
   )
 
 -- the same with the beginnings and the lists written out: two beginnings under one profile
-pub demand-3 : (b c : Beginning) → Accepted b → Accepted c → profileOf b ≡ profileOf c → (qs rs : List (List ℕ))
+pub demand-3 : (b c : Beginning) → Accepted b → Accepted c → beginningProfile b ≡ beginningProfile c → (qs rs : List (List ℕ))
     → (buffer other : List ℕ) → number (writing buffer) ≡ 0 → number (writing other) ≡ 0
     → (take imageSize (written (left b qs) buffer) ≡ take imageSize (written (left c rs) other))
     ↔ ((further : List (List ℕ)) → AllBytes further → replies further (left b qs) ≡ replies further (left c rs))

@@ -18,7 +18,7 @@ use Rattle.model.specs.declared.Request.the-variants.{Get, Create, Delete, Chan
 use Rattle.model.specs.Tests.{implies, unless}
 use Rattle.model.specs.Levels.{compare, levelDominates, dominates, sameLabel}
 use Rattle.model.specs.Modes.{has, add}
-use Rattle.model.specs.Profiles.{profileFits, labelInside, absentBeyond, levelsInside}
+use Rattle.model.specs.Profiles.{site, profileFits, labelInside, absentBeyond, levelsInside}
 use Rattle.model.specs.Requests.{fields, modeAllowed, unusedZero, fieldsFormed, within, wellFormed, request, creation, decodeFields, decode, pack, encode}
 use Rattle.model.specs.Rules.{simpleAll, starPair, starFrom, starFor, starAll, notLowered, changed, already, checks, answer, step}
 use Rattle.model.specs.Runs.{respond, after, replies}
@@ -30,9 +30,9 @@ use Rattle.telling.specs.Distinguish.{orElse, search, when, byEnrolment, byLife
 abbrev level : ℕ → Level
 level class = record { class = class; needs = 0 }
 
--- a site with one subject, so many objects, and no need in use
-abbrev site : ℕ → ℕ → Profile
-site objects class = record { subjects = 1; objects = objects; highest = level class }
+-- one subject, so many objects, a highest class, and no need in use
+abbrev oneSubject : ℕ → ℕ → Profile
+oneSubject objects class = site 1 objects class 0
 
 -- tables with subject 0 alone, of class 0 and of class 1
 pub low : List ℕ
@@ -50,18 +50,18 @@ unfolding imageOf imageBits
 image-parts m n subjects objects = ap₂ (λ (a : List Subject) (b : List Object). bitsToBytes imageSize (tableBits a ++ objectsBits b)) subjects objects
 
 -- one object in use, and two: get r of object 1 draws 2 from the one and 4 from the other
-pub objects-in-use : Accepted (table (site 1 0) low) × Accepted (table (site 2 0) low)
-    × (imageOf (begunLow (site 1 0) []) ≡ imageOf (begunLow (site 2 0) []))
-    × (replies (map encode (Get 0 1 Read ∷ [])) (begunLow (site 1 0) []) ≡ 2 ∷ [])
-    × (replies (map encode (Get 0 1 Read ∷ [])) (begunLow (site 2 0) []) ≡ 4 ∷ [])
+pub objects-in-use : Accepted (table (oneSubject 1 0) low) × Accepted (table (oneSubject 2 0) low)
+    × (imageOf (begunLow (oneSubject 1 0) []) ≡ imageOf (begunLow (oneSubject 2 0) []))
+    × (replies (map encode (Get 0 1 Read ∷ [])) (begunLow (oneSubject 1 0) []) ≡ 2 ∷ [])
+    × (replies (map encode (Get 0 1 Read ∷ [])) (begunLow (oneSubject 2 0) []) ≡ 4 ∷ [])
 unfolding low bitsToBytes pack tableFrom tableForm labelForm labelFrom tableChecks profileFits absentBeyond levelsInside labelInside begin readTable allZero bytesToBits toBits odd cut fromBits field decode decodeFields fields wellFormed fieldsFormed within modeAllowed unusedZero request respond step replies after checks already changed starAll starFor starFrom starPair implies unless answer simpleAll has add notLowered sameLabel dominates levelDominates compare
 objects-in-use = (refl, refl, image-parts _ _ refl refl, refl, refl)
 
 -- highest class 0, and 1: after a create, a change of level to class 1 draws 2 from the one and 0 from the other
-pub class-in-use : Accepted (table (site 1 0) low) × Accepted (table (site 1 1) low)
-    × (imageOf (begunLow (site 1 0) (Create 0 0 (creation false) ∷ [])) ≡ imageOf (begunLow (site 1 1) (Create 0 0 (creation false) ∷ [])))
-    × (replies (map encode (ChangeLevel 0 0 (level 1) ∷ [])) (begunLow (site 1 0) (Create 0 0 (creation false) ∷ [])) ≡ 2 ∷ [])
-    × (replies (map encode (ChangeLevel 0 0 (level 1) ∷ [])) (begunLow (site 1 1) (Create 0 0 (creation false) ∷ [])) ≡ 0 ∷ [])
+pub class-in-use : Accepted (table (oneSubject 1 0) low) × Accepted (table (oneSubject 1 1) low)
+    × (imageOf (begunLow (oneSubject 1 0) (Create 0 0 (creation false) ∷ [])) ≡ imageOf (begunLow (oneSubject 1 1) (Create 0 0 (creation false) ∷ [])))
+    × (replies (map encode (ChangeLevel 0 0 (level 1) ∷ [])) (begunLow (oneSubject 1 0) (Create 0 0 (creation false) ∷ [])) ≡ 2 ∷ [])
+    × (replies (map encode (ChangeLevel 0 0 (level 1) ∷ [])) (begunLow (oneSubject 1 1) (Create 0 0 (creation false) ∷ [])) ≡ 0 ∷ [])
 unfolding low bitsToBytes pack tableFrom tableForm labelForm labelFrom tableChecks profileFits absentBeyond levelsInside labelInside begin readTable allZero bytesToBits toBits odd cut fromBits field decode decodeFields fields wellFormed fieldsFormed within modeAllowed unusedZero request respond step replies after checks already changed starAll starFor starFrom starPair implies unless answer simpleAll has add notLowered sameLabel dominates levelDominates compare
 class-in-use = (refl, refl, image-parts _ _ refl refl, refl, refl)
 
@@ -71,10 +71,10 @@ reading = Create 0 0 (creation false) ∷ ChangeLevel 0 0 (level 1) ∷ Get 0 0 
 
 -- one subject and one object, and two clearances: three requests where the only slot is free, and four where it is live
 pub told-in-one-slot :
-    (distinguish (left (table (site 1 1) low) []) (left (table (site 1 1) high) []) ≡ reading)
-    × (distinguish (left (table (site 1 1) low) (encode (Create 0 0 (creation false)) ∷ [])) (left (table (site 1 1) high) (encode (Create 0 0 (creation false)) ∷ []))
+    (distinguish (left (table (oneSubject 1 1) low) []) (left (table (oneSubject 1 1) high) []) ≡ reading)
+    × (distinguish (left (table (oneSubject 1 1) low) (encode (Create 0 0 (creation false)) ∷ [])) (left (table (oneSubject 1 1) high) (encode (Create 0 0 (creation false)) ∷ []))
     ≡ Delete 0 0 ∷ reading)
-    × (replies (map encode reading) (left (table (site 1 1) low) []) ≡ 0 ∷ 0 ∷ 8 ∷ [])
-    × (replies (map encode reading) (left (table (site 1 1) high) []) ≡ 0 ∷ 0 ∷ 0 ∷ [])
+    × (replies (map encode reading) (left (table (oneSubject 1 1) low) []) ≡ 0 ∷ 0 ∷ 8 ∷ [])
+    × (replies (map encode reading) (left (table (oneSubject 1 1) high) []) ≡ 0 ∷ 0 ∷ 0 ∷ [])
 unfolding low high orElse search when byEnrolment byLife byOwner toLabel byLabel byRight byAccess byObject freeBelow readAt toClearance byClearance distinguish bitsToBytes pack tableFrom tableForm labelForm labelFrom tableChecks profileFits absentBeyond levelsInside labelInside begin readTable allZero bytesToBits toBits odd cut fromBits field decode decodeFields fields wellFormed fieldsFormed within modeAllowed unusedZero request respond step replies after checks already changed starAll starFor starFrom starPair implies unless answer simpleAll has add notLowered sameLabel dominates levelDominates compare
 told-in-one-slot = (refl, refl, refl, refl)

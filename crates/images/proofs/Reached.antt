@@ -32,7 +32,7 @@ use Rattle.model.proofs.Lists.{after-append}
 use Rattle.model.proofs.Buffers.{has-room, filled-front, front-new}
 use Rattle.invariants.specs.Sound.{Sound}
 use Rattle.invariants.proofs.Steps.{sound-after, profile-kept}
-use Rattle.images.specs.Tables.{profileOf}
+use Rattle.images.specs.Tables.{beginningProfile}
 use Rattle.images.proofs.Images.{table-passed, image-passed}
 
 -- what an accepted table or image and any list leave is reached
@@ -62,15 +62,15 @@ sound-reached m r = subst Sound (r .reaches) (sound-left (r .beginning) (r .acce
 -- ---- the profile of what is reached
 
 -- an accepted beginning has the profile under which it is read, and no request changes that
-pub begun-profile : (b : Beginning) → Accepted b → begun b .monitor .profile ≡ profileOf b
+pub begun-profile : (b : Beginning) → Accepted b → begun b .monitor .profile ≡ beginningProfile b
 unfolding readTable readImage begin monitorFrom
 begun-profile (table p b) e = ap (λ (m : Monitor). m .profile) (cond-false (refuses (tableChecks p b)) _ _ (ap refuses e))
 begun-profile (image p b) e = ap (λ (m : Monitor). m .profile) (cond-false (refuses (imageChecks p b)) _ _ (ap refuses e))
 
-pub left-profile : (b : Beginning) → Accepted b → (qs : List (List ℕ)) → left b qs .profile ≡ profileOf b
+pub left-profile : (b : Beginning) → Accepted b → (qs : List (List ℕ)) → left b qs .profile ≡ beginningProfile b
 left-profile b e qs = profile-kept qs (begun b .monitor) ∙ begun-profile b e
 
-pub reached-profile : (m : Monitor) (R : Reached m) → m .profile ≡ profileOf (R .beginning)
+pub reached-profile : (m : Monitor) (R : Reached m) → m .profile ≡ beginningProfile (R .beginning)
 reached-profile m R = ap (λ (n : Monitor). n .profile) (sym (R .reaches)) ∙ left-profile (R .beginning) (R .accepted) (R .requests)
 
 -- "the empty monitor that a refusal returns has it": the widest profile
@@ -85,11 +85,11 @@ reached-inside m R = sound-reached m R .inside
 
 -- the same in words: every enrolled subject, live object, clearance and label of what any list leaves is inside the profile of the beginning,
 -- and that profile is in its ranges
-pub left-inside : (b : Beginning) → Accepted b → (qs : List (List ℕ)) → ProfileFits (profileOf b)
-    × ((s : ℕ) → enrolled (left b qs) s ≡ true → s < profileOf b .subjects)
-    × ((o : ℕ) → object (left b qs) o .live ≡ true → o < profileOf b .objects)
-    × ((s : ℕ) (l : Level) → clearance (left b qs) s ≡ Present l → LevelInside (profileOf b) l)
-    × ((o : ℕ) (l : Level) → object (left b qs) o .label ≡ Present l → LevelInside (profileOf b) l)
+pub left-inside : (b : Beginning) → Accepted b → (qs : List (List ℕ)) → ProfileFits (beginningProfile b)
+    × ((s : ℕ) → enrolled (left b qs) s ≡ true → s < beginningProfile b .subjects)
+    × ((o : ℕ) → object (left b qs) o .live ≡ true → o < beginningProfile b .objects)
+    × ((s : ℕ) (l : Level) → clearance (left b qs) s ≡ Present l → LevelInside (beginningProfile b) l)
+    × ((o : ℕ) (l : Level) → object (left b qs) o .label ≡ Present l → LevelInside (beginningProfile b) l)
 left-inside b e qs =
     let I = sound-left b e qs .inside in
     let p = left-profile b e qs in (

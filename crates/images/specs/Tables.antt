@@ -30,6 +30,6 @@ pub record TableInside (p : Profile) (l : List Subject) : Type 0 where
   pub clearances-inside : (s : ℕ) → LabelInside p (clearanceAt l s)
 
 -- the profile under which a monitor is begun
-abbrev pub profileOf : Beginning → Profile
-profileOf (table p b) = p
-profileOf (image p b) = p
+abbrev pub beginningProfile : Beginning → Profile
+beginningProfile (table p b) = p
+beginningProfile (image p b) = p

@@ -21,6 +21,10 @@ pub record ProfileFits (p : Profile) : Type 0 where
   pub objects-fit : p .objects ≤ objectCount
   pub class-fits : p .highest .class < 16
 
+-- a profile by its four numbers, in the order in which the request names them
+abbrev pub site : ℕ → ℕ → ℕ → ℕ → Profile
+site subjects objects class needs = record { subjects = subjects; objects = objects; highest = record { class = class; needs = needs } }
+
 -- the test of these ranges
 unfoldable pub profileFits : Profile → Bool
 profileFits p =

@@ -137,11 +137,11 @@ beginningList long formed m later =
     ∷ (levelsInside m, OutsideProfile)
     ∷ later
 
--- "Tables are checked 10, 11"
+-- "Tables are checked 10, 11", and 16 before and behind these
 unfoldable pub tableChecks : Profile → List ℕ → Decision
 tableChecks p b = firstFailing (beginningList (eqb (length b) tableSize) (tableForm b) (fresh p (tableFrom b)) [])
 
--- "images 10, 11, 12, 6, 7, 8, 9"
+-- "images 10, 11, 12, 6, 7, 8, 9", and 16 before 10 and behind 11
 unfoldable pub imageChecks : Profile → List ℕ → Decision
 imageChecks p b =
     firstFailing (beginningList (eqb (length b) imageSize) (imageForm b) (monitorFrom p b) (stateList (monitorFrom p b)))

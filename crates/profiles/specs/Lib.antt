@@ -1,3 +1,2 @@
--- A profile by its numbers, and what was found of a state beside its profile.
-pub mod Site
+-- What was found of a state beside its profile.
 pub mod Kept

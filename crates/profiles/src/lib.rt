@@ -1,10 +1,9 @@
 // What a site profile asks of a beginning: that it is in its ranges, that no record stands beyond it, and that every level is inside it.
 ghost use mathlib.Core.Path.{_≡_};
 ghost use Rattle.model.specs.State.{subjectCount, objectCount};
-ghost use Rattle.model.specs.Profiles.{profileFits, labelInside};
+ghost use Rattle.model.specs.Profiles.{site, profileFits, labelInside};
 ghost use Rattle.unit.specs.Rows.{rowCount, stateIn};
 ghost use Rattle.profiles.specs.Kept.{subjectsKept, objectsKept, kept};
-ghost use Rattle.profiles.specs.Site.{site};
 use labels::at_least;
 use labels::is_present;
 use model::Label;

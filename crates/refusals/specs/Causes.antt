@@ -173,7 +173,7 @@ AbsentActs m =
     (s : ℕ) × (o : ℕ) × (NotIn m s × (((object m o .live ≡ true) × (object m o .owner ≡ s))
     ⊎ ((rightsOf (object m o) s ≢ 0) ⊎ (heldBy (object m o) s ≢ 0))))
 
--- the same of the table or of the objects of an image
+-- a stray bit, or one beyond the profile, in the table or in the object records of an image
 abbrev pub StrayInImage : Profile → List ℕ → Type 0
 StrayInImage p b = StrayInTable p (take tableSize b) ⊎ StrayInObjects p (drop tableSize b)
 

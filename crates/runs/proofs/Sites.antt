@@ -18,7 +18,7 @@ use Rattle.model.specs.Tests.{implies, unless}
 use Rattle.model.specs.Levels.{need, compare, levelDominates, dominates, sameLabel}
 use Rattle.model.specs.Modes.{has, add, remove}
 use Rattle.model.specs.State.{widest}
-use Rattle.model.specs.Profiles.{profileFits, labelInside, absentBeyond, levelsInside, Inside}
+use Rattle.model.specs.Profiles.{site, profileFits, labelInside, absentBeyond, levelsInside, Inside}
 use Rattle.model.specs.Decisions.{number}
 use Rattle.model.specs.Requests.{fields, modeAllowed, unusedZero, fieldsFormed, within, wellFormed, request, creation, decodeFields, decode, pack, encode, InRange, Within}
 use Rattle.model.specs.Rules.{simpleAll, starPair, starFrom, starFor, starAll, notLowered, changed, already, checks, answer, step}
@@ -34,47 +34,43 @@ use Rattle.refusals.specs.Causes.{ProfileOutside}
 use Rattle.runs.specs.MarkedRun.{level, subjectsW, tableW, Row, rows}
 use Rattle.runs.proofs.Witnesses.{markedBytes, table-says}
 
--- so many subjects and objects, a highest class and needs
-abbrev profile : ℕ → ℕ → ℕ → ℕ → Profile
-profile subjects objects class needs = record { subjects = subjects; objects = objects; highest = level class needs }
-
 -- three subjects, two objects, class 3 and needs 0 and 1: what table W and the marked run use
-abbrev pub site : Profile
-site = profile 3 2 3 0x0003
+abbrev pub plant : Profile
+plant = site 3 2 3 0x0003
 
 -- ---- a reached monitor of a profile that is not the widest
 
-pub site-run : Accepted (table site tableW)
-    × (replies markedBytes (left (table site tableW) []) ≡ map (λ (r : Row). r .reply) rows)
+pub site-run : Accepted (table plant tableW)
+    × (replies markedBytes (left (table plant tableW) []) ≡ map (λ (r : Row). r .reply) rows)
 unfolding markedBytes rows tableW tableFrom tableForm labelForm labelFrom tableChecks profileFits absentBeyond levelsInside labelInside begin readTable allZero bytesToBits toBits odd cut fromBits field decode decodeFields fields wellFormed fieldsFormed within modeAllowed unusedZero request respond step replies after checks already changed starAll starFor starFrom starPair implies unless answer simpleAll has add remove notLowered sameLabel dominates levelDominates compare
 site-run = (refl, refl)
 
-pub site-reached : Reached (left (table site tableW) markedBytes)
-site-reached = record { beginning = table site tableW; accepted = site-run .0; requests = markedBytes; reaches = refl }
+pub site-reached : Reached (left (table plant tableW) markedBytes)
+site-reached = record { beginning = table plant tableW; accepted = site-run .0; requests = markedBytes; reaches = refl }
 
-pub site-inside : Inside (left (table site tableW) markedBytes)
+pub site-inside : Inside (left (table plant tableW) markedBytes)
 site-inside = reached-inside _ site-reached
 
-pub site-not-widest : site ≢ widest
+pub site-not-widest : plant ≢ widest
 site-not-widest e = absurd (omega (arith, ap (λ (p : Profile). p .subjects) e))
 
 -- a table inside it
-pub table-inside-met : TableInside site subjectsW
+pub table-inside-met : TableInside plant subjectsW
 unfolding readTable begin
 table-inside-met =
-    let I = table-passed site tableW (site-run .0) .2 .inside in
-    subst (TableInside site) table-says
+    let I = table-passed plant tableW (site-run .0) .2 .inside in
+    subst (TableInside plant) table-says
     (record { profile-fits = I .profile-fits; subjects-inside = I .subjects-inside; clearances-inside = I .clearances-inside })
 
 -- a request inside it, and one that is in range and not inside
-pub within-met : Within site (ChangeLevel 2 1 (level 3 0x0003))
-    × (InRange (Get 3 0 Read) × (Within site (Get 3 0 Read) → ⊥))
+pub within-met : Within plant (ChangeLevel 2 1 (level 3 0x0003))
+    × (InRange (Get 3 0 Read) × (Within plant (Get 3 0 Read) → ⊥))
 unfolding need odd
 within-met = ((omega arith, omega arith, record { class = omega arith; needs = λ k h e. e }), ((omega arith, omega arith), λ w. absurd (omega (arith, w .0))))
 
 -- ---- "A subject, object, class or need outside it in a request is malformed and gets 2"
 
--- after step 1: each request with its reply under the site, and under the widest profile
+-- after step 1: each request with its reply under the profile of the plant, and under the widest profile
 abbrev Asked : Type 0
 Asked = Request × ℕ × ℕ
 
@@ -98,7 +94,7 @@ asked =
 abbrev first : Profile → Monitor
 first p = left (table p tableW) (take 1 markedBytes)
 
-pub outside-gets-2 : (map (λ (a : Asked). reply (encode (a .0)) (first site)) asked ≡ map (λ (a : Asked). a .1) asked)
+pub outside-gets-2 : (map (λ (a : Asked). reply (encode (a .0)) (first plant)) asked ≡ map (λ (a : Asked). a .1) asked)
     × (map (λ (a : Asked). reply (encode (a .0)) (first widest)) asked ≡ map (λ (a : Asked). a .2) asked)
 unfolding asked markedBytes rows tableW bitsToBytes pack tableFrom tableForm labelForm labelFrom tableChecks profileFits absentBeyond levelsInside labelInside begin readTable allZero bytesToBits toBits odd cut fromBits field decode decodeFields fields wellFormed fieldsFormed within modeAllowed unusedZero request respond step after checks already changed starAll starFor starFrom starPair implies unless answer simpleAll has add remove notLowered sameLabel dominates levelDominates compare
 outside-gets-2 = (refl, refl)
@@ -112,24 +108,24 @@ Begun = Profile × List ℕ × ℕ
 
 pub begun-tables : List Begun
 begun-tables =
-    (site, tableW, 0)
+    (plant, tableW, 0)
     -- each range, below and above, also where the length is another
-    ∷ (profile 0 2 3 0x0003, tableW, 16)
-    ∷ (profile 17 2 3 0x0003, tableW, 16)
-    ∷ (profile 3 0 3 0x0003, tableW, 16)
-    ∷ (profile 3 65 3 0x0003, tableW, 16)
-    ∷ (profile 3 2 16 0x0003, tableW, 16)
-    ∷ (profile 0 2 3 0x0003, [], 16)
-    ∷ (site, take 41 tableW, 10)
+    ∷ (site 0 2 3 0x0003, tableW, 16)
+    ∷ (site 17 2 3 0x0003, tableW, 16)
+    ∷ (site 3 0 3 0x0003, tableW, 16)
+    ∷ (site 3 65 3 0x0003, tableW, 16)
+    ∷ (site 3 2 16 0x0003, tableW, 16)
+    ∷ (site 0 2 3 0x0003, [], 16)
+    ∷ (plant, take 41 tableW, 10)
     -- subject 2 is beyond the profile: 11, and also where a clearance is outside too
-    ∷ (profile 2 2 3 0x0003, tableW, 11)
-    ∷ (profile 2 2 2 0x0003, tableW, 11)
+    ∷ (site 2 2 3 0x0003, tableW, 11)
+    ∷ (site 2 2 2 0x0003, tableW, 11)
     -- the class and the needs of subject 1
-    ∷ (profile 3 2 2 0x0003, tableW, 16)
-    ∷ (profile 3 2 3 0x0001, tableW, 16)
-    ∷ (profile 3 2 3 0x0002, tableW, 16)
+    ∷ (site 3 2 2 0x0003, tableW, 16)
+    ∷ (site 3 2 3 0x0001, tableW, 16)
+    ∷ (site 3 2 3 0x0002, tableW, 16)
     -- the widest ranges
-    ∷ (profile 16 64 15 0xFFFF, tableW, 0)
+    ∷ (site 16 64 15 0xFFFF, tableW, 0)
     ∷ []
 
 pub tables-by-profile : map (λ (t : Begun). number (readTable (t .0) (t .1) .decision)) begun-tables ≡ map (λ (t : Begun). t .2) begun-tables
@@ -142,23 +138,23 @@ abbrev labelled : Monitor
 labelled = left (table widest tableW) (map encode (Create 1 0 (creation false) ∷ ChangeLevel 1 0 (level 4 0x0003) ∷ []))
 
 abbrev imaged : Monitor
-imaged = left (table site tableW) markedBytes
+imaged = left (table plant tableW) markedBytes
 
 -- object 1 is beyond: 11; the clearance of subject 1 is outside: 16; a wider profile than that of its monitor accepts it too
-pub images-by-profile : (number (readImage site (imageOf imaged) .decision) ≡ 0)
-    × (number (readImage (profile 3 1 3 0x0003) (imageOf imaged) .decision) ≡ 11)
-    × (number (readImage (profile 3 2 2 0x0003) (imageOf imaged) .decision) ≡ 16)
+pub images-by-profile : (number (readImage plant (imageOf imaged) .decision) ≡ 0)
+    × (number (readImage (site 3 1 3 0x0003) (imageOf imaged) .decision) ≡ 11)
+    × (number (readImage (site 3 2 2 0x0003) (imageOf imaged) .decision) ≡ 16)
     × (number (readImage widest (imageOf imaged) .decision) ≡ 0)
-    × (number (readImage site (imageOf labelled) .decision) ≡ 16)
+    × (number (readImage plant (imageOf labelled) .decision) ≡ 16)
 unfolding readImage begin markedBytes rows tableW bitsToBytes pack tableFrom tableForm labelForm labelFrom tableChecks profileFits absentBeyond levelsInside labelInside readTable onlyEnrolled withinMatrix heldLabelled allZero bytesToBits toBits odd cut fromBits field decode decodeFields fields wellFormed fieldsFormed within modeAllowed unusedZero request respond step after checks already changed starAll starFor starFrom starPair implies unless answer simpleAll has add remove notLowered sameLabel dominates levelDominates compare
 images-by-profile =
-    let S = sound-left (table site tableW) (site-run .0) markedBytes in
+    let S = sound-left (table plant tableW) (site-run .0) markedBytes in
     let L = sound-left (table widest tableW) refl (map encode (Create 1 0 (creation false) ∷ ChangeLevel 1 0 (level 4 0x0003) ∷ [])) in (
-      ap number (image-checks-under imaged S site _ refl),
-      ap number (image-checks-under imaged S (profile 3 1 3 0x0003) _ refl),
-      ap number (image-checks-under imaged S (profile 3 2 2 0x0003) _ refl),
+      ap number (image-checks-under imaged S plant _ refl),
+      ap number (image-checks-under imaged S (site 3 1 3 0x0003) _ refl),
+      ap number (image-checks-under imaged S (site 3 2 2 0x0003) _ refl),
       ap number (image-checks-under imaged S widest _ refl),
-      ap number (image-checks-under labelled L site _ refl),
+      ap number (image-checks-under labelled L plant _ refl),
     )
 
 -- subject 0 alone is enrolled and in use; the record of object 0, which it owns, has r for subject 1: 12, and not 11
@@ -166,10 +162,10 @@ images-by-profile =
 pub rightBeyond : List ℕ
 rightBeyond = 0x80 ∷ (replicate 41 0 ++ (0x80 ∷ 0x00 ∷ 0x00 ∷ 0x38 ∷ 0x20 ∷ replicate 1227 0))
 
-pub right-beyond-gets-12 : number (readImage (profile 1 1 0 0x0000) rightBeyond .decision) ≡ 12
+pub right-beyond-gets-12 : number (readImage (site 1 1 0 0x0000) rightBeyond .decision) ≡ 12
 unfolding rightBeyond readImage begin imageChecks monitorFrom imageForm tableFrom tableForm objectsFrom objectsForm objectFrom objectForm labelForm labelFrom profileFits absentBeyond levelsInside labelInside onlyEnrolled allZero bytesToBits toBits odd cut fromBits implies unless
 right-beyond-gets-12 = refl
 
 -- a profile outside its ranges
-pub profile-outside-met : ProfileOutside (profile 0 2 3 0x0003) × ProfileOutside (profile 3 2 16 0x0003)
+pub profile-outside-met : ProfileOutside (site 0 2 3 0x0003) × ProfileOutside (site 3 2 16 0x0003)
 profile-outside-met = (inl (omega arith), inr (inr (inr (inr (omega arith)))))

@@ -7,8 +7,10 @@ use lib.ListN.{replicate}
 use Rattle.bits.specs.Bits.{odd, toBits, fromBits, bytesToBits, bitsToBytes, field, cut, join}
 use Rattle.model.specs.declared.Decision.the-variants.{Granted, ZeroSeed}
 use Rattle.model.specs.Tests.{unless}
+use Rattle.model.specs.declared.Profile.{Profile}
 use Rattle.model.specs.declared.Monitor.{Monitor}
 use Rattle.model.specs.State.{subjectCount, nobody, fresh}
+use Rattle.model.specs.Profiles.{site}
 use Rattle.model.specs.Requests.{requestSize, fields, modeAllowed, unusedZero, fieldsFormed, within, wellFormed, request, decodeFields, decode, pack}
 use Rattle.model.specs.Rules.{changed, already, checks, answer, step}
 use Rattle.model.specs.Runs.{respond, replies}
@@ -68,19 +70,18 @@ nothing-from-0 = (refl, refl, refl)
 -- ---- "sure to be well formed under the widest profile only"
 
 -- nobody is enrolled
-abbrev site : ℕ → ℕ → ℕ → ℕ → Monitor
-site subjects objects class needs =
-    fresh (record { subjects = subjects; objects = objects; highest = record { class = class; needs = needs } }) (replicate subjectCount nobody)
+abbrev begun : Profile → Monitor
+begun p = fresh p (replicate subjectCount nobody)
 
 -- the replies to the nine above under a profile: 3 where nothing is outside it, since nobody is enrolled, and 2 where something is
 abbrev nine : Monitor → List ℕ
 nine m = replies (cut 9 requestSize (bytesFrom 9 12275)) m
 
 -- of the widest profile; with fifteen subjects, with sixty-two objects, with the highest class 10, with all needs but 0
-pub profiles-of-nine : (nine (site 16 64 15 65535) ≡ 3 ∷ 3 ∷ 3 ∷ 3 ∷ 3 ∷ 3 ∷ 3 ∷ 3 ∷ 3 ∷ [])
-    × (nine (site 15 64 15 65535) ≡ 2 ∷ 3 ∷ 3 ∷ 3 ∷ 3 ∷ 3 ∷ 3 ∷ 3 ∷ 3 ∷ [])
-    × (nine (site 16 62 15 65535) ≡ 3 ∷ 3 ∷ 3 ∷ 2 ∷ 3 ∷ 3 ∷ 3 ∷ 3 ∷ 3 ∷ [])
-    × (nine (site 16 64 10 65535) ≡ 3 ∷ 3 ∷ 3 ∷ 3 ∷ 3 ∷ 3 ∷ 2 ∷ 3 ∷ 3 ∷ [])
-    × (nine (site 16 64 15 65534) ≡ 3 ∷ 3 ∷ 3 ∷ 3 ∷ 2 ∷ 3 ∷ 3 ∷ 3 ∷ 3 ∷ [])
+pub profiles-of-nine : (nine (begun (site 16 64 15 65535)) ≡ 3 ∷ 3 ∷ 3 ∷ 3 ∷ 3 ∷ 3 ∷ 3 ∷ 3 ∷ 3 ∷ [])
+    × (nine (begun (site 15 64 15 65535)) ≡ 2 ∷ 3 ∷ 3 ∷ 3 ∷ 3 ∷ 3 ∷ 3 ∷ 3 ∷ 3 ∷ [])
+    × (nine (begun (site 16 62 15 65535)) ≡ 3 ∷ 3 ∷ 3 ∷ 2 ∷ 3 ∷ 3 ∷ 3 ∷ 3 ∷ 3 ∷ [])
+    × (nine (begun (site 16 64 10 65535)) ≡ 3 ∷ 3 ∷ 3 ∷ 3 ∷ 3 ∷ 3 ∷ 2 ∷ 3 ∷ 3 ∷ [])
+    × (nine (begun (site 16 64 15 65534)) ≡ 3 ∷ 3 ∷ 3 ∷ 3 ∷ 2 ∷ 3 ∷ 3 ∷ 3 ∷ 3 ∷ [])
 unfolding replies respond decode decodeFields fields field bytesToBits wellFormed fieldsFormed within modeAllowed unusedZero request cut step checks answer already changed unless bytesFrom requestsFrom made draw xorshift pack join bitsToBytes fromBits toBits odd
 profiles-of-nine = (refl, refl, refl, refl, refl)

@@ -23,7 +23,7 @@ pub unit-length : (m : Monitor) → length (unitOf m) ≡ rowCount
 unfolding unitOf
 unit-length m = tabulate-length rowCount (monitorRow m)
 
--- ---- the four parts of a unit
+-- ---- the five parts of a unit
 
 module _ (m : Monitor) where
   pub row-rights : (p : ℕ) → p < 64 → monitorRow m p ≡ object m p .rights
