@@ -15,7 +15,7 @@ use Rattle.model.specs.declared.Monitor.{Monitor}
 use Rattle.model.specs.declared.Decision.{Decision}
 use Rattle.model.specs.declared.Decision.the-variants.{Granted, WrongLength, OutsideProfile}
 use Rattle.model.specs.Tests.{unless}
-use Rattle.model.specs.State.{emptyMonitor, fresh}
+use Rattle.model.specs.State.{subjectCount, emptyMonitor, fresh}
 use Rattle.model.specs.Profiles.{profileFits}
 use Rattle.model.specs.Decisions.{refuses}
 use Rattle.model.specs.Reading.{tableFrom, tableForm, objectsFrom, objectsForm, monitorFrom, imageForm, stateChecks, tableChecks, imageChecks, begin}
@@ -26,6 +26,9 @@ use Rattle.unit.proofs.Units.{stored-over}
 use Rattle.image_records.specs.declared.TableRead.{TableRead}
 use Rattle.image_records.specs.Records.{subjectsRead}
 use Rattle.image_records.proofs.Lengths.{table-read}
+use Rattle.profiles.specs.declared.Kept.{Kept}
+use Rattle.profiles.specs.Kept.{subjectsKept, kept}
+use Rattle.profiles.proofs.Fresh.{fresh-kept}
 use Rattle.image.specs.Settled.{settled}
 use Rattle.image.proofs.Sizes.{fresh-says, read-says}
 
@@ -67,11 +70,13 @@ module _ (p : Profile) (fits : profileFits p ≡ true) (s : List ℕ) (size : le
     pub table-rows : u ≡ unitOf (fresh p (tableFrom s))
     table-rows = begun ∙ ap (λ (r : TableRead). unitOf (fresh p (r .subjects))) table-is
 
-    pub table-answer : (d : Decision) → d ≡ settled (t .formed) (stateIn u) Granted → d ≡ tableChecks p s
+    pub table-answer : (k : Kept) (d : Decision) → k ≡ subjectsKept (stateIn u) subjectCount → d ≡ settled (t .formed) k Granted → d ≡ tableChecks p s
     unfolding tableChecks
-    table-answer d e =
-        right-length p fits s tableSize (settled (tableForm s) (fresh p (tableFrom s)) Granted) d size
-        (e ∙ ap₂ (λ (b : Bool) (m : Monitor). settled b m Granted) (ap (λ (r : TableRead). r .formed) table-is) (ap stateIn table-rows ∙ fresh-says p s))
+    table-answer k d f e =
+        let begun-is : stateIn u ≡ fresh p (tableFrom s) = ap stateIn table-rows ∙ fresh-says p s in
+        right-length p fits s tableSize (settled (tableForm s) (kept (fresh p (tableFrom s))) Granted) d size
+        (e ∙ ap₂ (λ (b : Bool) (x : Kept). settled b x Granted) (ap (λ (r : TableRead). r .formed) table-is)
+        (f ∙ ap (λ (m : Monitor). subjectsKept m subjectCount) begun-is ∙ fresh-kept p (tableFrom s)))
 
 -- ---- an image of the right length: the rows that its two parts leave, and the answer of its checks
 
@@ -84,18 +89,18 @@ module _ (p : Profile) (fits : profileFits p ≡ true) (s : List ℕ) (size : le
   rest = take-all (length s - tableSize) (drop tableSize s) (rw (length-drop tableSize s) (omega arith))
 
   module _ (u w : Rows) (formed : Bool) (begun : u ≡ unitOf (fresh p (t .subjects))) (formed-is : formed ≡ objectsForm (take (length s - tableSize) (drop tableSize s)))
-      (stored : ObjectsStored (objectsFrom (take (length s - tableSize) (drop tableSize s))) w 64) (kept : SameClearances u w) where
+      (stored : ObjectsStored (objectsFrom (take (length s - tableSize) (drop tableSize s))) w 64) (same : SameClearances u w) where
     pub image-rows : w ≡ unitOf (monitorFrom p s)
     unfolding monitorFrom
     image-rows =
-        stored-over (monitorFrom p s) u w (begun ∙ ap (λ (r : TableRead). unitOf (fresh p (r .subjects))) part-is) kept
+        stored-over (monitorFrom p s) u w (begun ∙ ap (λ (r : TableRead). unitOf (fresh p (r .subjects))) part-is) same
         (subst (λ (part : List ℕ). ObjectsStored (objectsFrom part) w 64) rest stored)
 
-    pub image-answer : (k d : Decision) → k ≡ stateChecks (stateIn w) → d ≡ settled (t .formed && formed) (stateIn w) k → d ≡ imageChecks p s
+    pub image-answer : (f : Kept) (k d : Decision) → f ≡ kept (stateIn w) → k ≡ stateChecks (stateIn w) → d ≡ settled (t .formed && formed) f k → d ≡ imageChecks p s
     unfolding imageForm imageChecks stateChecks monitorFrom
-    image-answer k d e f =
+    image-answer f k d g e h =
         let m : stateIn w ≡ monitorFrom p s = ap stateIn image-rows ∙ read-says p s in
-        right-length p fits s imageSize (settled (imageForm s) (monitorFrom p s) (stateChecks (monitorFrom p s))) d size
-        (f
-        ∙ ap (λ (b : Bool). settled b (stateIn w) k) (ap₂ (λ (r : TableRead) b. r .formed && b) part-is (formed-is ∙ ap objectsForm rest))
-        ∙ ap₂ (λ (n : Monitor) (later : Decision). settled (imageForm s) n later) m (e ∙ ap stateChecks m))
+        right-length p fits s imageSize (settled (imageForm s) (kept (monitorFrom p s)) (stateChecks (monitorFrom p s))) d size
+        (h
+        ∙ ap (λ (b : Bool). settled b f k) (ap₂ (λ (r : TableRead) b. r .formed && b) part-is (formed-is ∙ ap objectsForm rest))
+        ∙ ap₂ (λ (x : Kept) (later : Decision). settled (imageForm s) x later) (g ∙ ap kept m) (e ∙ ap stateChecks m))

@@ -4,7 +4,7 @@ ghost use mathlib.Core.Bool.{cond};
 ghost use Rattle.model.specs.State.{widest, fresh, emptyMonitor};
 ghost use Rattle.model.specs.Decisions.{refuses};
 ghost use Rattle.model.specs.Reading.{readTable, readImage};
-ghost use Rattle.unit.specs.Rows.{rowCount, stateIn};
+ghost use Rattle.unit.specs.Rows.{rowCount};
 ghost use Rattle.unit.specs.Stored.{unitOf};
 ghost use Rattle.image.specs.Settled.{settled};
 use checking::state_checks;
@@ -17,8 +17,10 @@ use model::Monitor;
 use model::Profile;
 use model::Subject;
 use model::widest;
+use profiles::Kept;
 use profiles::fits;
 use profiles::keeps;
+use profiles::subjects_kept;
 use unit::fill;
 
 // The rows of a monitor begun fresh under a profile, with no live object.
@@ -41,14 +43,13 @@ fn refused(unit: &mut [[u8; 16]], d: Decision) -> Decision
     d
 }
 
-// The checks behind the length, of the monitor that the rows say: 11, with any record beyond the profile, then 16 for its levels, then what the
+// The checks behind the length, by what was found of the records: 11, with any record beyond the profile, then 16 for the levels, then what the
 // later ones gave. A refusal leaves the empty monitor.
-fn settle(unit: &mut [[u8; 16]], formed: bool, later: Decision) -> Decision
+fn settle(unit: &mut [[u8; 16]], formed: bool, kept: Kept, later: Decision) -> Decision
     requires { do ⌜ (← ⟦unit.len()⟧) ≡ rowCount ⌝ }
-    ensures answer { λ r. ⌜ r ≡ settled formed (stateIn (now (unit .entry))) later ⌝ }
+    ensures answer { λ r. ⌜ r ≡ settled formed kept later ⌝ }
     ensures left { λ r. ⌜ now (unit .exit) ≡ cond (refuses r) (unitOf emptyMonitor) (now (unit .entry)) ⌝ }
 {
-    let kept = keeps(unit);
     let levels = check(kept.inside, Decision::OutsideProfile, later);
     let decision = check(formed & kept.absent, Decision::StrayBits, levels);
     if labels::refuses(decision) {
@@ -71,7 +72,8 @@ pub fn start(unit: &mut [[u8; 16]], profile: Profile, table: &[u8]) -> Decision
     let read = read_subjects(table);
     let subjects = read.subjects;
     begin(unit, profile, subjects);
-    settle(unit, read.formed, Decision::Granted)
+    let kept = subjects_kept(unit); // no object is live
+    settle(unit, read.formed, kept, Decision::Granted)
 }
 
 // Begins from an image under a profile: the checks of a table, then those of the state. The object records are a part of their own.
@@ -89,8 +91,9 @@ pub fn open(unit: &mut [[u8; 16]], profile: Profile, image: &[u8]) -> Decision
     let subjects = table.subjects;
     begin(unit, profile, subjects);
     let formed = read_objects(unit, &image[Monitor::TABLE_BYTES..]);
+    let kept = keeps(unit);
     let later = state_checks(unit);
-    settle(unit, table.formed & formed, later)
+    settle(unit, table.formed & formed, kept, later)
 }
 
 // Begins from an enrolment table under the widest profile.

@@ -51,7 +51,8 @@ pub struct Kept {
     pub inside: bool,
 }
 
-fn subjects_kept(unit: &[[u8; 16]]) -> Kept
+// The records of the subjects.
+pub fn subjects_kept(unit: &[[u8; 16]]) -> Kept
     requires { do ⌜ (← ⟦unit.len()⟧) ≡ rowCount ⌝ }
     ensures { λ r. ⌜ r ≡ subjectsKept (stateIn (now (unit .entry))) subjectCount ⌝ }
 {
@@ -69,6 +70,7 @@ fn subjects_kept(unit: &[[u8; 16]]) -> Kept
     Kept { absent, inside }
 }
 
+// The records of the objects.
 fn objects_kept(unit: &[[u8; 16]]) -> Kept
     requires { do ⌜ (← ⟦unit.len()⟧) ≡ rowCount ⌝ }
     ensures { λ r. ⌜ r ≡ objectsKept (stateIn (now (unit .entry))) objectCount ⌝ }

@@ -67,6 +67,9 @@ part-read-objects-end c = search needs
 read-objects-requires : tie.Need-read-objects-requires
 read-objects-requires c κs = search needs
 
+keeps-requires : tie.Need-keeps-requires
+keeps-requires c κs = search needs
+
 state-checks-requires : tie.Need-state-checks-requires
 state-checks-requires c κs = search needs
 
@@ -79,15 +82,16 @@ same-length-3 c = search needs
 returns-3 : tie.Need-returns-3
 unfolding readImage
 returns-3 c =
-    let start = c .before .before .before .before .before .before .before .before .before .before .before .before .before .before .before .before .before .before .before .before in
-    let fits = sym (c .before .before .before .before .before .before .before .before .before .before .before .before .before .before .before .before .before .before .fits2 .ensures) ∙ not-off _ (c .before .before .before .before .before .before .before .before .before .before .before .before .before .before .before .before .before .if1 .left) in
+    let start = c .before .before .before .before .before .before .before .before .before .before .before .before .before .before .before .before .before .before .before .before .before .before in
+    let fits = sym (c .before .before .before .before .before .before .before .before .before .before .before .before .before .before .before .before .before .before .before .before .fits2 .ensures) ∙ not-off _ (c .before .before .before .before .before .before .before .before .before .before .before .before .before .before .before .before .before .before .before .if1 .left) in
     let s = start .args .image .now in
-    let long = c .before .before .before .before .before .before .before .before .before .before .before .before .before .before .before .before .if2 .left in
-    let read = c .before .before .before .before .before .before .before .before .before .before .before .before .before .before .read-subjects .ensures in
-    let begun = c .before .before .before .before .before .before .before .before .before .before .before .begin .ensures in
-    let O = c .before .before .before .before .before .before .before .read-objects .ensures in
+    let long = c .before .before .before .before .before .before .before .before .before .before .before .before .before .before .before .before .before .before .if2 .left in
+    let read = c .before .before .before .before .before .before .before .before .before .before .before .before .before .before .before .before .read-subjects .ensures in
+    let begun = c .before .before .before .before .before .before .before .before .before .before .before .before .before .begin .ensures in
+    let O = c .before .before .before .before .before .before .before .before .before .read-objects .ensures in
     let r = c .before .settle .ensures in
-    answered _ _ _ _ (image-answer (start .args .profile) fits s long _ read _ _ _ begun (O .0) (O .1 .0) (O .1 .1) _ _ (c .before .before .before .before .state-checks .ensures) (r .0)) _
+    answered _ _ _ _
+    (image-answer (start .args .profile) fits s long _ read _ _ _ begun (O .0) (O .1 .0) (O .1 .1) _ _ _ (c .before .before .before .before .before .before .keeps .ensures) (c .before .before .before .before .state-checks .ensures) (r .0)) _
     (image-rows (start .args .profile) fits s long _ read _ _ _ begun (O .0) (O .1 .0) (O .1 .1)) (r .1)
 
 pub open-spec : {M : Type 1} → statement M
@@ -110,6 +114,7 @@ open-spec =
     part-read-objects-start
     part-read-objects-end
     read-objects-requires
+    keeps-requires
     state-checks-requires
     settle-requires
     same-length-3

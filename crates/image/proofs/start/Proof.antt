@@ -46,6 +46,9 @@ read-subjects-requires c κs = search needs
 begin-requires : tie.Need-begin-requires
 begin-requires c κs = search needs
 
+subjects-kept-requires : tie.Need-subjects-kept-requires
+subjects-kept-requires c κs = search needs
+
 settle-requires : tie.Need-settle-requires
 settle-requires c κs = search needs
 
@@ -55,14 +58,15 @@ same-length-3 c = search needs
 returns-3 : tie.Need-returns-3
 unfolding readTable
 returns-3 c =
-    let start = c .before .before .before .before .before .before .before .before .before .before .before .before in
-    let fits = sym (c .before .before .before .before .before .before .before .before .before .before .fits2 .ensures) ∙ not-off _ (c .before .before .before .before .before .before .before .before .before .if1 .left) in
+    let start = c .before .before .before .before .before .before .before .before .before .before .before .before .before .before in
+    let fits = sym (c .before .before .before .before .before .before .before .before .before .before .before .before .fits2 .ensures) ∙ not-off _ (c .before .before .before .before .before .before .before .before .before .before .before .if1 .left) in
     let s = start .args .table .now in
-    let long = c .before .before .before .before .before .before .before .before .if2 .left in
-    let read = c .before .before .before .before .before .before .before .read-subjects .ensures in
-    let begun = c .before .before .before .before .begin .ensures in
+    let long = c .before .before .before .before .before .before .before .before .before .before .if2 .left in
+    let read = c .before .before .before .before .before .before .before .before .before .read-subjects .ensures in
+    let begun = c .before .before .before .before .before .before .begin .ensures in
     let r = c .before .settle .ensures in
-    answered _ _ _ _ (table-answer (start .args .profile) fits s long _ read _ begun _ (r .0)) _ (table-rows (start .args .profile) fits s long _ read _ begun) (r .1)
+    answered _ _ _ _ (table-answer (start .args .profile) fits s long _ read _ begun _ _ (c .before .before .before .subjects-kept .ensures) (r .0)) _
+    (table-rows (start .args .profile) fits s long _ read _ begun) (r .1)
 
 pub start-spec : {M : Type 1} → statement M
 start-spec =
@@ -77,6 +81,7 @@ start-spec =
     returns-2
     read-subjects-requires
     begin-requires
+    subjects-kept-requires
     settle-requires
     same-length-3
     returns-3)
