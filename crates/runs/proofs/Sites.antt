@@ -86,8 +86,9 @@ asked =
     ∷ (ChangeLevel 1 0 (level 4 0x0000), 2, 0)
     ∷ (ChangeLevel 1 0 (level 0 0x0004), 2, 0)
     ∷ (ChangeLevel 1 0 (level 3 0x0003), 0, 0)
-    -- the last subject and the last object in use
+    -- the last subject in use, whose number is beyond the objects, as actor and as the other subject; the last object in use
     ∷ (Get 2 0 Read, 6, 6)
+    ∷ (Give 1 2 0 Read, 0, 0)
     ∷ (Create 2 1 (creation false), 0, 0)
     ∷ []
 
