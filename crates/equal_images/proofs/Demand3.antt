@@ -13,6 +13,7 @@ use Rattle.model.specs.State.{clearance, enrolled, object}
 use Rattle.model.specs.Decisions.{number}
 use Rattle.model.specs.Requests.{encode}
 use Rattle.model.specs.Runs.{replies}
+use Rattle.model.specs.Journal.{Act}
 use Rattle.model.specs.Layout.{imageSize, imageOf}
 use Rattle.model.specs.Writing.{writing, written}
 use Rattle.model.specs.Beginnings.{Beginning, Accepted, left, Reached, AllBytes}
@@ -85,8 +86,9 @@ module _ (m n : Monitor) (R : Reached m) (Q : Reached n) (one : m .profile ≡ n
     λ h. fills m buffer u ∙ ap imageOf (same-replies m n (sound-reached m R) (sound-reached n Q) one h) ∙ sym (fills n other v),
   )
 
--- the same with the beginnings and the lists written out: two beginnings under one profile
-pub demand-3 : (b c : Beginning) → Accepted b → Accepted c → beginningProfile b ≡ beginningProfile c → (qs rs : List (List ℕ))
+-- the same with the beginnings and the lists written out: two beginnings under one profile; "takings-back may stand in the list before each image,
+-- but not in the further list" (change request §9)
+pub demand-3 : (b c : Beginning) → Accepted b → Accepted c → beginningProfile b ≡ beginningProfile c → (qs rs : List Act)
     → (buffer other : List ℕ) → number (writing buffer) ≡ 0 → number (writing other) ≡ 0
     → (take imageSize (written (left b qs) buffer) ≡ take imageSize (written (left c rs) other))
     ↔ ((further : List (List ℕ)) → AllBytes further → replies further (left b qs) ≡ replies further (left c rs))

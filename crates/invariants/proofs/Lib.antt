@@ -9,3 +9,5 @@ pub mod Steps
 pub mod Outcomes
 pub mod Added
 pub mod ModePairs
+pub mod TakingBack
+pub mod RequestsAlone

@@ -143,6 +143,7 @@ pub fn number(d: Decision) -> u8
         Decision::LabelLowered => 14,
         Decision::ZeroSeed => 15,
         Decision::OutsideProfile => 16,
+        Decision::EmptyJournal => 17,
     }
 }
 

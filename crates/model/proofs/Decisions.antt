@@ -7,7 +7,7 @@ use mathlib.Core.Logic.{⊎-elim}
 use mathlib.Core.List.{List, [], _∷_}
 use lib.ListN.{getD, List·getD-eq-default}
 use Rattle.model.specs.declared.Decision.{Decision}
-use Rattle.model.specs.declared.Decision.the-variants.{Granted, Already, MalformedRequest, NotEnrolled, NotLive, AlreadyLive, NoRight, NoLabel, SimpleBroken, StarBroken, WrongLength, StrayBits, AbsentSubject, ShortBuffer, LabelLowered, ZeroSeed, OutsideProfile}
+use Rattle.model.specs.declared.Decision.the-variants.{Granted, Already, MalformedRequest, NotEnrolled, NotLive, AlreadyLive, NoRight, NoLabel, SimpleBroken, StarBroken, WrongLength, StrayBits, AbsentSubject, ShortBuffer, LabelLowered, ZeroSeed, OutsideProfile, EmptyJournal}
 use Rattle.model.specs.Decisions.{number}
 use Rattle.model.proofs.Tests.{le-or-lt}
 
@@ -31,6 +31,7 @@ decisions =
     ∷ LabelLowered
     ∷ ZeroSeed
     ∷ OutsideProfile
+    ∷ EmptyJournal
     ∷ []
 
 -- the answer of a number
@@ -56,6 +57,7 @@ of-number ShortBuffer = refl
 of-number LabelLowered = refl
 of-number ZeroSeed = refl
 of-number OutsideProfile = refl
+of-number EmptyJournal = refl
 
 pub number-inj : (d k : Decision) → number d ≡ number k → d ≡ k
 number-inj d k e = sym (of-number d) ∙ ap ofNumber e ∙ of-number k

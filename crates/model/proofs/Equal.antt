@@ -5,7 +5,7 @@ use native.Mathlib.Omega.{arith}
 use mathlib.Core.Path.{_≡_, refl, sym, ap, _∙_}
 use mathlib.Core.List.{List}
 use lib.ListN.{length, getD, set}
-use lib.Seq.{ext-getD, set-getD}
+use lib.Seq.{ext-getD, set-set, set-getD}
 use Rattle.model.specs.declared.Label.{Label}
 use Rattle.model.specs.declared.Subject.{Subject}
 use Rattle.model.specs.declared.Object.{Object}
@@ -63,3 +63,7 @@ with-label-same ob l e = object-ext (withLabel ob l) ob refl refl e refl refl
 pub with-object-same : (m : Monitor) (o : ℕ) (ob : Object) → ob ≡ object m o → withObject m o ob ≡ m
 with-object-same m o ob e =
     monitor-ext (withObject m o ob) m refl refl (ap (λ (k : Object). set (m .objects) o k) e ∙ set-getD (m .objects) o noObject)
+
+-- what was stored in place of a record, and the record put back
+pub with-object-back : (m : Monitor) (o : ℕ) (ob : Object) → withObject (withObject m o ob) o (object m o) ≡ m
+with-object-back m o ob = monitor-ext _ m refl refl (set-set (m .objects) o ob (object m o) ∙ set-getD (m .objects) o noObject)

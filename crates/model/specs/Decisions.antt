@@ -4,7 +4,7 @@ use Prim.Native.Nat.{ℕ}
 use mathlib.Core.Bool.{Bool}
 use lib.Dec.{leb}
 use Rattle.model.specs.declared.Decision.{Decision}
-use Rattle.model.specs.declared.Decision.the-variants.{Granted, Already, MalformedRequest, NotEnrolled, NotLive, AlreadyLive, NoRight, NoLabel, SimpleBroken, StarBroken, WrongLength, StrayBits, AbsentSubject, ShortBuffer, LabelLowered, ZeroSeed, OutsideProfile}
+use Rattle.model.specs.declared.Decision.the-variants.{Granted, Already, MalformedRequest, NotEnrolled, NotLive, AlreadyLive, NoRight, NoLabel, SimpleBroken, StarBroken, WrongLength, StrayBits, AbsentSubject, ShortBuffer, LabelLowered, ZeroSeed, OutsideProfile, EmptyJournal}
 
 abbrev pub number : Decision → ℕ
 -- "granted and the state changed"; "An accepted table or image returns 0", "a writing returns 0"
@@ -41,6 +41,8 @@ number LabelLowered = 14
 number ZeroSeed = 15
 -- "16, a profile outside these ranges, .. or a table or image with a clearance or label outside its profile" (change request §8)
 number OutsideProfile = 16
+-- of a taking-back: "Refused: 17, an empty journal" (change request §9)
+number EmptyJournal = 17
 
 -- every number from 2 on is a refusal
 abbrev pub refuses : Decision → Bool

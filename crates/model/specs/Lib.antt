@@ -10,6 +10,7 @@ pub mod Decisions
 pub mod Requests
 pub mod Rules
 pub mod Runs
+pub mod Journal
 pub mod Layout
 pub mod Reading
 pub mod Buffers

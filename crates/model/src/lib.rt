@@ -170,6 +170,7 @@ pub enum Decision {
     LabelLowered,
     ZeroSeed,
     OutsideProfile,
+    EmptyJournal,
 }
 
 // The answer to a request or to a beginning, and the monitor after it.

@@ -4,12 +4,13 @@ use Prim.Native.Nat.{ℕ}
 use native.Mathlib.Omega.{arith}
 use mathlib.Core.Path.{_≡_, refl}
 use mathlib.Core.Logic.{inl, inr}
-use mathlib.Core.List.{[]}
+use mathlib.Core.List.{[], map}
 use lib.ListN.{getD, take}
 use Rattle.model.specs.declared.Mode.the-variants.{Read, Append}
 use Rattle.model.specs.ModePairs.{entry, wanted, Kept, KeptByHeld}
 use Rattle.model.specs.Properties.{Holds}
 use Rattle.model.specs.State.{widest, object}
+use Rattle.model.specs.Journal.{asks}
 use Rattle.model.specs.Beginnings.{table, Reached}
 use Rattle.model.proofs.Tests.{apart}
 use Rattle.model.proofs.Levels.{dominates-decides}
@@ -18,7 +19,7 @@ use Rattle.runs.specs.MarkedRun.{tableW}
 use Rattle.runs.proofs.Witnesses.{markedBytes, stateAt, table-met, shown}
 
 reached-at : (k : ℕ) → Reached (stateAt k)
-reached-at k = record { beginning = table widest tableW; accepted = table-met; requests = take k markedBytes; reaches = refl }
+reached-at k = record { beginning = table widest tableW; accepted = table-met; list = map asks (take k markedBytes); reaches = refl }
 
 -- step 8: s1 holds r on o0 and gets a on o1, whose label is above; with each of its accesses the entry is kept
 pub step-8-kept : KeptByHeld (stateAt 7) 1 1 Append × Holds (stateAt 7) 1 0 Read × (entry Read Append ≡ wanted)

@@ -23,6 +23,7 @@ use Rattle.model.specs.Decisions.{number}
 use Rattle.model.specs.Requests.{fields, modeAllowed, unusedZero, fieldsFormed, within, wellFormed, request, creation, decodeFields, decode, pack, encode, InRange, Within}
 use Rattle.model.specs.Rules.{simpleAll, starPair, starFrom, starFor, starAll, notLowered, changed, already, checks, answer, step}
 use Rattle.model.specs.Runs.{respond, reply, after, replies}
+use Rattle.model.specs.Journal.{ask, asks, acted}
 use Rattle.model.specs.Layout.{imageOf}
 use Rattle.model.specs.Reading.{labelFrom, labelForm, tableFrom, tableForm, onlyEnrolled, withinMatrix, heldLabelled, tableChecks, begin, readTable, readImage, imageChecks, monitorFrom, imageForm, objectsFrom, objectsForm, objectFrom, objectForm}
 use Rattle.model.specs.Beginnings.{table, Accepted, left, Reached}
@@ -42,13 +43,13 @@ plant = site 3 2 3 0x0003
 
 pub site-run : Accepted (table plant tableW)
     × (replies markedBytes (left (table plant tableW) []) ≡ map (λ (r : Row). r .reply) rows)
-unfolding markedBytes rows tableW tableFrom tableForm labelForm labelFrom tableChecks profileFits absentBeyond levelsInside labelInside begin readTable allZero bytesToBits toBits odd cut fromBits field decode decodeFields fields wellFormed fieldsFormed within modeAllowed unusedZero request respond step replies after checks already changed starAll starFor starFrom starPair implies unless answer simpleAll has add remove notLowered sameLabel dominates levelDominates compare
+unfolding markedBytes rows tableW tableFrom tableForm labelForm labelFrom tableChecks profileFits absentBeyond levelsInside labelInside begin readTable allZero bytesToBits toBits odd cut fromBits field decode decodeFields fields wellFormed fieldsFormed within modeAllowed unusedZero request respond step replies acted ask checks already changed starAll starFor starFrom starPair implies unless answer simpleAll has add remove notLowered sameLabel dominates levelDominates compare
 site-run = (refl, refl)
 
-pub site-reached : Reached (left (table plant tableW) markedBytes)
-site-reached = record { beginning = table plant tableW; accepted = site-run .0; requests = markedBytes; reaches = refl }
+pub site-reached : Reached (left (table plant tableW) (map asks markedBytes))
+site-reached = record { beginning = table plant tableW; accepted = site-run .0; list = map asks markedBytes; reaches = refl }
 
-pub site-inside : Inside (left (table plant tableW) markedBytes)
+pub site-inside : Inside (left (table plant tableW) (map asks markedBytes))
 site-inside = reached-inside _ site-reached
 
 pub site-not-widest : plant ≢ widest
@@ -93,11 +94,11 @@ asked =
     ∷ []
 
 abbrev first : Profile → Monitor
-first p = left (table p tableW) (take 1 markedBytes)
+first p = left (table p tableW) (map asks (take 1 markedBytes))
 
 pub outside-gets-2 : (map (λ (a : Asked). reply (encode (a .0)) (first plant)) asked ≡ map (λ (a : Asked). a .1) asked)
     × (map (λ (a : Asked). reply (encode (a .0)) (first widest)) asked ≡ map (λ (a : Asked). a .2) asked)
-unfolding asked markedBytes rows tableW bitsToBytes pack tableFrom tableForm labelForm labelFrom tableChecks profileFits absentBeyond levelsInside labelInside begin readTable allZero bytesToBits toBits odd cut fromBits field decode decodeFields fields wellFormed fieldsFormed within modeAllowed unusedZero request respond step after checks already changed starAll starFor starFrom starPair implies unless answer simpleAll has add remove notLowered sameLabel dominates levelDominates compare
+unfolding asked markedBytes rows tableW bitsToBytes pack tableFrom tableForm labelForm labelFrom tableChecks profileFits absentBeyond levelsInside labelInside begin readTable allZero bytesToBits toBits odd cut fromBits field decode decodeFields fields wellFormed fieldsFormed within modeAllowed unusedZero request respond step acted ask checks already changed starAll starFor starFrom starPair implies unless answer simpleAll has add remove notLowered sameLabel dominates levelDominates compare
 outside-gets-2 = (refl, refl)
 
 -- ---- "16, a profile outside these ranges, before anything else is read, or a table .. with a clearance .. outside its profile, checked directly
@@ -136,10 +137,10 @@ tables-by-profile = refl
 -- ---- images: that of the marked run under other profiles than its own, and one whose label alone is outside
 
 abbrev labelled : Monitor
-labelled = left (table widest tableW) (map encode (Create 1 0 (creation false) ∷ ChangeLevel 1 0 (level 4 0x0003) ∷ []))
+labelled = left (table widest tableW) (map (λ (q : Request). asks (encode q)) (Create 1 0 (creation false) ∷ ChangeLevel 1 0 (level 4 0x0003) ∷ []))
 
 abbrev imaged : Monitor
-imaged = left (table plant tableW) markedBytes
+imaged = left (table plant tableW) (map asks markedBytes)
 
 -- object 1 is beyond: 11; the clearance of subject 1 is outside: 16; a wider profile than that of its monitor accepts it too
 pub images-by-profile : (number (readImage plant (imageOf imaged) .decision) ≡ 0)
@@ -147,10 +148,10 @@ pub images-by-profile : (number (readImage plant (imageOf imaged) .decision) ≡
     × (number (readImage (site 3 2 2 0x0003) (imageOf imaged) .decision) ≡ 16)
     × (number (readImage widest (imageOf imaged) .decision) ≡ 0)
     × (number (readImage plant (imageOf labelled) .decision) ≡ 16)
-unfolding readImage begin markedBytes rows tableW bitsToBytes pack tableFrom tableForm labelForm labelFrom tableChecks profileFits absentBeyond levelsInside labelInside readTable onlyEnrolled withinMatrix heldLabelled allZero bytesToBits toBits odd cut fromBits field decode decodeFields fields wellFormed fieldsFormed within modeAllowed unusedZero request respond step after checks already changed starAll starFor starFrom starPair implies unless answer simpleAll has add remove notLowered sameLabel dominates levelDominates compare
+unfolding readImage begin markedBytes rows tableW bitsToBytes pack tableFrom tableForm labelForm labelFrom tableChecks profileFits absentBeyond levelsInside labelInside readTable onlyEnrolled withinMatrix heldLabelled allZero bytesToBits toBits odd cut fromBits field decode decodeFields fields wellFormed fieldsFormed within modeAllowed unusedZero request respond step acted ask checks already changed starAll starFor starFrom starPair implies unless answer simpleAll has add remove notLowered sameLabel dominates levelDominates compare
 images-by-profile =
-    let S = sound-left (table plant tableW) (site-run .0) markedBytes in
-    let L = sound-left (table widest tableW) refl (map encode (Create 1 0 (creation false) ∷ ChangeLevel 1 0 (level 4 0x0003) ∷ [])) in (
+    let S = sound-left (table plant tableW) (site-run .0) (map asks markedBytes) in
+    let L = sound-left (table widest tableW) refl (map (λ (q : Request). asks (encode q)) (Create 1 0 (creation false) ∷ ChangeLevel 1 0 (level 4 0x0003) ∷ [])) in (
       ap number (image-checks-under imaged S plant _ refl),
       ap number (image-checks-under imaged S (site 3 1 3 0x0003) _ refl),
       ap number (image-checks-under imaged S (site 3 2 2 0x0003) _ refl),

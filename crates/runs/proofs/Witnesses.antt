@@ -24,6 +24,7 @@ use Rattle.model.specs.Profiles.{profileFits, labelInside, absentBeyond, levels
 use Rattle.model.specs.Requests.{fields, modeAllowed, unusedZero, fieldsFormed, within, wellFormed, request, creation, decodeFields, decode, pack, encode, InRange}
 use Rattle.model.specs.Rules.{target, simpleAll, starPair, starFrom, starFor, starAll, notLowered, changed, already, checks, answer, step}
 use Rattle.model.specs.Runs.{respond, reply, after}
+use Rattle.model.specs.Journal.{ask, Act, asks, acted}
 use Rattle.model.specs.Layout.{tableSize, tableBits, imageSize, imageBits, imageOf}
 use Rattle.model.specs.Reading.{labelFrom, labelForm, tableFrom, tableForm, tableChecks, imageChecks, monitorFrom, begin, readTable, readImage}
 use Rattle.model.specs.Buffers.{tooShort}
@@ -50,23 +51,23 @@ markedBytes = map (λ (r : Row). r .bytes) rows
 pub table-met : Accepted (table widest tableW)
 table-met = marked-run .1
 
-pub reached-met : Reached (left (table widest tableW) markedBytes)
-reached-met = record { beginning = table widest tableW; accepted = table-met; requests = markedBytes; reaches = refl }
+pub reached-met : Reached (left (table widest tableW) (map asks markedBytes))
+reached-met = record { beginning = table widest tableW; accepted = table-met; list = map asks markedBytes; reaches = refl }
 
 -- a sound state, and so one that is well formed
-pub sound-met : Sound (left (table widest tableW) markedBytes)
-sound-met = sound-left (table widest tableW) table-met markedBytes
+pub sound-met : Sound (left (table widest tableW) (map asks markedBytes))
+sound-met = sound-left (table widest tableW) table-met (map asks markedBytes)
 
 -- the image of what any list leaves of table W
-accepted-at : (qs : List (List ℕ)) → Accepted (image widest (imageOf (left (table widest tableW) qs)))
+accepted-at : (qs : List Act) → Accepted (image widest (imageOf (left (table widest tableW) qs)))
 unfolding readImage begin
 accepted-at qs =
     let m = left (table widest tableW) qs in
     subst (λ (p : Profile). imageChecks p (imageOf m) ≡ Granted) (left-profile (table widest tableW) table-met qs) (image-accepted m (sound-left (table widest tableW) table-met qs))
 
 -- an accepted image, of bytes: that of the monitor which the marked run leaves
-pub image-met : Accepted (image widest (imageOf (left (table widest tableW) markedBytes)))
-image-met = accepted-at markedBytes
+pub image-met : Accepted (image widest (imageOf (left (table widest tableW) (map asks markedBytes))))
+image-met = accepted-at (map asks markedBytes)
 
 pub image-bytes-met : (m : Monitor) → Bytes (imageOf m)
 unfolding imageOf
@@ -79,7 +80,7 @@ buffer-met m = ap number (cond-false (tooShort imageSize (imageOf m)) _ Granted 
 
 -- the state after the first k requests of the marked run
 abbrev pub stateAt : ℕ → Monitor
-stateAt k = left (table widest tableW) (take k markedBytes)
+stateAt k = left (table widest tableW) (map asks (take k markedBytes))
 
 -- what the run shows of itself, computed once
 pub record Shown : Type 0 where
@@ -107,7 +108,7 @@ pub record Shown : Type 0 where
   pub not-above : dominates (object (stateAt 12) 0 .label) (object (stateAt 12) 1 .label) ≡ false
 
 pub shown : Shown
-unfolding markedBytes rows tableW tableFrom tableForm labelForm labelFrom tableChecks profileFits absentBeyond levelsInside labelInside begin readTable allZero bytesToBits toBits odd cut fromBits field decode decodeFields fields wellFormed fieldsFormed within modeAllowed unusedZero request respond step after checks already changed starAll starFor starFrom starPair implies unless answer simpleAll has add remove notLowered sameLabel dominates levelDominates compare
+unfolding markedBytes rows tableW tableFrom tableForm labelForm labelFrom tableChecks profileFits absentBeyond levelsInside labelInside begin readTable allZero bytesToBits toBits odd cut fromBits field decode decodeFields fields wellFormed fieldsFormed within modeAllowed unusedZero request respond step acted ask checks already changed starAll starFor starFrom starPair implies unless answer simpleAll has add remove notLowered sameLabel dominates levelDominates compare
 shown =
     record {
       says = refl;
@@ -147,8 +148,8 @@ pub refusing-met : refuses NotEnrolled ≡ true
 refusing-met = refl
 
 -- two different reached states: before and after the marked run
-pub different-met : stateAt 0 ≢ left (table widest tableW) markedBytes
-unfolding markedBytes rows tableW tableFrom tableForm labelForm labelFrom tableChecks profileFits absentBeyond levelsInside labelInside begin readTable allZero bytesToBits toBits odd cut fromBits field decode decodeFields fields wellFormed fieldsFormed within modeAllowed unusedZero request respond step after checks already changed starAll starFor starFrom starPair implies unless answer simpleAll has add remove notLowered sameLabel dominates levelDominates compare
+pub different-met : stateAt 0 ≢ left (table widest tableW) (map asks markedBytes)
+unfolding markedBytes rows tableW tableFrom tableForm labelForm labelFrom tableChecks profileFits absentBeyond levelsInside labelInside begin readTable allZero bytesToBits toBits odd cut fromBits field decode decodeFields fields wellFormed fieldsFormed within modeAllowed unusedZero request respond step acted ask checks already changed starAll starFor starFrom starPair implies unless answer simpleAll has add remove notLowered sameLabel dominates levelDominates compare
 different-met e = clash (sym (ap (λ (m : Monitor). object m 0 .live) e))
 
 -- a table of bytes, whose clearances fit
@@ -190,13 +191,13 @@ unfolding tableW
 input-met = length-append tableW (replicate 24576 0) ∙ omega (arith, length-replicate {A = ℕ} 24576 0)
 
 -- and two different accepted images, of bytes: those of these two states
-pub images-met : Accepted (image widest (imageOf (stateAt 0))) × (imageOf (stateAt 0) ≢ imageOf (left (table widest tableW) markedBytes))
+pub images-met : Accepted (image widest (imageOf (stateAt 0))) × (imageOf (stateAt 0) ≢ imageOf (left (table widest tableW) (map asks markedBytes)))
 images-met =
     let before = sound-left (table widest tableW) table-met [] in
-    let behind = sound-left (table widest tableW) table-met markedBytes in
-    (accepted-at [], λ e. different-met (image-tells _ _ before behind (one [] markedBytes) e))
+    let behind = sound-left (table widest tableW) table-met (map asks markedBytes) in
+    (accepted-at [], λ e. different-met (image-tells _ _ before behind (one [] (map asks markedBytes)) e))
   where
-    one : (qs rs : List (List ℕ)) → left (table widest tableW) qs .profile ≡ left (table widest tableW) rs .profile
+    one : (qs rs : List Act) → left (table widest tableW) qs .profile ≡ left (table widest tableW) rs .profile
     one qs rs = left-profile (table widest tableW) table-met qs ∙ sym (left-profile (table widest tableW) table-met rs)
 
 -- a malformed byte string, a refused table and a refused image: the empty ones

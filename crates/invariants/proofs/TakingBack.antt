@@ -1,0 +1,199 @@
+-- Taking back (change request §9): it restores the state, n times after n requests with reply 0, and what requests and takings-back reach,
+-- requests alone reach. Of every monitor, with every journal of at most 32 entries.
+-- Assumes nothing.
+use Prim.Native.Nat.{ℕ, zero, suc, _-_, _<_, _≤_}
+use native.Mathlib.Omega.{arith}
+use native.Mathlib.Nat.{eq-or-lt-of-le}
+use mathlib.Core.Path.{_≡_, refl, sym, ap, ap₂, _∙_, subst}
+use mathlib.Core.Logic.{_≢_, ⊎-elim}
+use mathlib.Core.Bool.{Bool, cond}
+use mathlib.Core.List.{List, [], _∷_, _++_, map}
+use lib.ListN.{length, take, replicate, length-take}
+use lib.Seq.{take-all, take-take}
+use lib.Dec.{eqb}
+use borrow.Author.Tests.{eq-eqb, ne-eqb}
+use Rattle.model.specs.declared.Monitor.{Monitor}
+use Rattle.model.specs.declared.Request.{Request}
+use Rattle.model.specs.declared.Decoded.{Decoded}
+use Rattle.model.specs.declared.Decoded.the-variants.{Malformed, Says}
+use Rattle.model.specs.declared.Decision.{Decision}
+use Rattle.model.specs.declared.Decision.the-variants.{Granted}
+use Rattle.model.specs.State.{withObject}
+use Rattle.model.specs.Decisions.{number}
+use Rattle.model.specs.Requests.{decode}
+use Rattle.model.specs.Rules.{step}
+use Rattle.model.specs.Runs.{carryOut, respond, reply, after, replies}
+use Rattle.model.specs.Journal.{Entry, Journaled, journalSize, entered, withoutEntries, entryOf, journalAfter, ask, restored, takeBack, takingBack, Act, asks, takesBack, answerTo, acted, answers}
+use Rattle.model.proofs.Tests.{cond-true, cond-false}
+use Rattle.model.proofs.Lists.{after-append, after-one}
+use Rattle.model.proofs.Equal.{with-object-back}
+use Rattle.invariants.specs.TakingBack.{zeros, ByRequests}
+use Rattle.invariants.proofs.Outcomes.{step-cases}
+
+-- ---- one request
+
+-- what a reply 0 does to the journal: one entry more, which restores the monitor before it
+pub record Enters (j k : Journaled) : Type 0 where
+  pub entry : Entry
+  pub journal : k .journal ≡ entered entry (j .journal)
+  pub restores : withObject (k .monitor) (entry .place) (entry .was) ≡ j .monitor
+
+-- what is left of bytes that say this
+leaves : Decoded → Journaled → Journaled
+leaves d j = record { monitor = carryOut d (j .monitor) .monitor; journal = journalAfter d (j .monitor) (j .journal) }
+
+unchanged : (q : Request) (j : Journaled) → number (step q (j .monitor) .decision) ≢ 0 → step q (j .monitor) .monitor ≡ j .monitor → leaves (Says q) j ≡ j
+unfolding leaves
+unchanged q j n s =
+    let same = cond-false (eqb (number (step q (j .monitor) .decision)) 0) (entered (entryOf q (j .monitor)) (j .journal)) (j .journal) (ne-eqb _ 0 n) in
+    λ i. record { monitor = s i; journal = same i }
+
+said-cases : {P : Type 0} (d : Decoded) (j : Journaled) → (number (carryOut d (j .monitor) .decision) ≡ 0 → Enters j (leaves d j) → P)
+    → (number (carryOut d (j .monitor) .decision) ≢ 0 → leaves d j ≡ j → P) → P
+unfolding leaves
+said-cases Malformed j f g = g (λ e. absurd (omega (arith, e))) refl
+said-cases (Says q) j f g =
+    let m = j .monitor in
+    step-cases q m
+    (λ granted was n s. let other : number (step q m .decision) ≢ 0 = λ e. absurd (omega (arith, n, e)) in g other (unchanged q j other s))
+    (λ granted was n s. f n (record {
+      entry = entryOf q m;
+      journal = cond-true (eqb (number (step q m .decision)) 0) _ _ (eq-eqb _ 0 n);
+      restores = ap (λ (k : Monitor). withObject k (entryOf q m .place) (entryOf q m .was)) s ∙ with-object-back m _ _;
+    }))
+    (λ n refused s. let other : number (step q m .decision) ≢ 0 = λ e. absurd (omega (arith, n, e)) in g other (unchanged q j other s))
+
+-- a reply 0 enters, and another leaves monitor and journal as they were
+pub ask-cases : {P : Type 0} (b : List ℕ) (j : Journaled) → (reply b (j .monitor) ≡ 0 → Enters j (ask b j) → P) → (reply b (j .monitor) ≢ 0 → ask b j ≡ j → P) → P
+unfolding respond ask leaves
+ask-cases b j = said-cases (decode (j .monitor .profile) b) j
+
+-- "Taking back returns 0 and restores exactly the state before the latest request still in the journal, whose entry then goes"
+taken-entered : (j k : Journaled) → Enters j k
+    → (takeBack k ≡ record { monitor = j .monitor; journal = take 31 (j .journal) }) × (takingBack (k .journal) ≡ Granted)
+unfolding takeBack restored takingBack entered
+taken-entered j k E = (
+  ap (restored (k .monitor)) (E .journal) ∙ ap (λ (m : Monitor). record { monitor = m; journal = take 31 (j .journal) }) (E .restores),
+  ap takingBack (E .journal),
+)
+
+-- a journal never has more than 32 entries
+pub entered-fits : (j k : Journaled) → Enters j k → length (k .journal) ≤ journalSize
+unfolding entered
+entered-fits j k E = subst (λ (l : List Entry). length l ≤ journalSize) (sym (E .journal)) (omega (arith, length-take journalSize (E .entry ∷ j .journal)))
+
+-- taking back after a reply 0 gives back the state, and of the journal the 31 latest entries
+pub taken-back : (b : List ℕ) (j : Journaled) → reply b (j .monitor) ≡ 0
+    → (takeBack (ask b j) ≡ record { monitor = j .monitor; journal = take 31 (j .journal) }) × (answerTo takesBack (ask b j) ≡ 0)
+taken-back b j z =
+    ask-cases b j
+    (λ e E. let t = taken-entered j (ask b j) E in (t .0, ap number (t .1)))
+    (λ n e. absurd (n z))
+
+-- any other reply enters nothing
+pub nothing-entered : (b : List ℕ) (j : Journaled) → reply b (j .monitor) ≢ 0 → ask b j ≡ j
+nothing-entered b j n = ask-cases b j (λ z E. absurd (n z)) (λ n e. e)
+
+-- "Refused: 17, an empty journal, state unchanged"
+pub empty-17 : (m : Monitor) → (answerTo takesBack (withoutEntries m) ≡ 17) × (takeBack (withoutEntries m) ≡ withoutEntries m)
+unfolding takeBack restored takingBack
+empty-17 m = (refl, refl)
+
+-- ---- "future replies are compared without the journal": requests leave the state and draw the replies that they do without one
+
+pub asked-after : (bs : List (List ℕ)) (j : Journaled) → acted (map asks bs) j .monitor ≡ after bs (j .monitor)
+unfolding acted after ask
+asked-after [] j = refl
+asked-after (b ∷ bs) j = asked-after bs (ask b j)
+
+pub asked-replies : (bs : List (List ℕ)) (j : Journaled) → answers (map asks bs) j ≡ replies bs (j .monitor)
+unfolding answers replies ask
+asked-replies [] j = refl
+asked-replies (b ∷ bs) j = ap (λ (l : List ℕ). reply b (j .monitor) ∷ l) (asked-replies bs (ask b j))
+
+pub acted-append : (k l : List Act) (j : Journaled) → acted (k ++ l) j ≡ acted l (acted k j)
+unfolding acted
+acted-append [] l j = refl
+acted-append (a ∷ k) l j = acted-append k l _
+
+-- ---- n takings-back
+
+-- the last of them last
+times : ℕ → Journaled → Journaled
+times zero j = j
+times (suc n) j = takeBack (times n j)
+
+times-first : (n : ℕ) (j : Journaled) → times n (takeBack j) ≡ times (suc n) j
+unfolding times
+times-first zero j = refl
+times-first (suc n) j = ap takeBack (times-first n j)
+
+acted-times : (n : ℕ) (j : Journaled) → acted (replicate n takesBack) j ≡ times n j
+unfolding acted times
+acted-times zero j = refl
+acted-times (suc n) j = acted-times n (takeBack j) ∙ times-first n j
+
+answers-times : (n : ℕ) (j : Journaled) → ((k : ℕ) → k < n → takingBack (times k j .journal) ≡ Granted) → answers (replicate n takesBack) j ≡ replicate n 0
+unfolding answers times
+answers-times zero j g = refl
+answers-times (suc n) j g =
+    ap₂ (λ (k : ℕ) (l : List ℕ). k ∷ l) (ap number (g 0 (omega arith)))
+    (answers-times n (takeBack j) (λ k h. ap (λ (x : Journaled). takingBack (x .journal)) (times-first k j) ∙ g (suc k) (omega arith)))
+
+-- n takings-back lead from j to k, and each returns 0
+record Restores (n : ℕ) (j k : Journaled) : Type 0 where
+  left : times n j ≡ k
+  granted : (i : ℕ) → i < n → takingBack (times i j .journal) ≡ Granted
+
+-- a monitor with the latest entries of its journal, as many as n new ones leave room for
+room : ℕ → Journaled → Journaled
+room n j = record { monitor = j .monitor; journal = take (journalSize - n) (j .journal) }
+
+-- where a request entered, and n takings-back lead to the state behind it, one more leads to the state before it
+restores-more : (n : ℕ) (j k w : Journaled) → n < journalSize → Enters j k → Restores n w (room n k) → Restores (suc n) w (room (suc n) j)
+unfolding times room takeBack restored takingBack entered
+restores-more n j k w h E R =
+    let c = journalSize - suc n in
+    let more : journalSize - n ≡ suc c = omega (arith, h) in
+    let latest : take (journalSize - n) (k .journal) ≡ E .entry ∷ take c (j .journal) =
+    ap₂ take more (E .journal) ∙ take-take (suc c) journalSize (E .entry ∷ j .journal) (omega (arith, h)) in
+    let there : times n w .journal ≡ E .entry ∷ take c (j .journal) = ap (λ (x : Journaled). x .journal) (R .left) ∙ latest in
+    record {
+      left = ap takeBack (R .left) ∙ ap (restored (k .monitor)) latest
+          ∙ ap (λ (m : Monitor). record { monitor = m; journal = take c (j .journal) }) (E .restores);
+      granted = λ i l.
+          ⊎-elim (λ (e : i ≡ n). ap (λ x. takingBack (times x w .journal)) e ∙ ap takingBack there) (R .granted i)
+          (eq-or-lt-of-le {n = i} {m = n} (omega (arith, l)));
+    }
+
+restores-asked : (bs : List (List ℕ)) (j : Journaled) → length (j .journal) ≤ journalSize → (n : ℕ) → zeros (replies bs (j .monitor)) ≡ n → n ≤ journalSize
+    → Restores n (acted (map asks bs) j) (room n j)
+unfolding acted replies zeros times room ask
+restores-asked [] j fits n z h =
+    subst (λ x. Restores x j (room x j)) z
+    (record {
+      left = ap (λ (l : List Entry). record { monitor = j .monitor; journal = l }) (sym (take-all journalSize (j .journal) fits));
+      granted = λ i l. absurd (omega (arith, l));
+    })
+restores-asked (b ∷ bs) j fits n z h =
+    let k = ask b j in
+    let later = zeros (replies bs (k .monitor)) in
+    ask-cases b j
+    (λ changed E.
+    let one : suc later ≡ n = sym (cond-true (eqb (reply b (j .monitor)) 0) (suc later) later (eq-eqb _ 0 changed)) ∙ z in
+    subst (λ x. Restores x (acted (map asks bs) k) (room x j)) one
+    (restores-more later j k (acted (map asks bs) k) (omega (arith, one, h)) E (restores-asked bs k (entered-fits j k E) later refl (omega (arith, one, h)))))
+    (λ other same.
+    let none : later ≡ n = sym (cond-false (eqb (reply b (j .monitor)) 0) (suc later) later (ne-eqb _ 0 other)) ∙ z in
+    subst (λ x. Restores n (acted (map asks bs) k) (room n x)) same
+    (restores-asked bs k (subst (λ (x : Journaled). length (x .journal) ≤ journalSize) (sym same) fits) n none h))
+
+-- "after n requests with reply 0, n at most 32 and no taking-back among them, n takings-back restore the state before them all": whatever other
+-- requests stand between them and whatever the journal had before, of which the latest entries are still there; each returns 0
+pub takings-restore : (bs : List (List ℕ)) (j : Journaled) → length (j .journal) ≤ journalSize → (n : ℕ) → zeros (replies bs (j .monitor)) ≡ n → n ≤ journalSize
+    → (acted (replicate n takesBack) (acted (map asks bs) j) ≡ record { monitor = j .monitor; journal = take (journalSize - n) (j .journal) })
+    × (answers (replicate n takesBack) (acted (map asks bs) j) ≡ replicate n 0)
+unfolding room
+takings-restore bs j fits n z h =
+    let R = restores-asked bs j fits n z h in
+    (acted-times n (acted (map asks bs) j) ∙ R .left, answers-times n (acted (map asks bs) j) (R .granted))
