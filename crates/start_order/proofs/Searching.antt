@@ -7,9 +7,8 @@ use mathlib.Core.Logic.{_≢_}
 use mathlib.Core.Bool.{Bool, true, false, cond, not, _&&_}
 use mathlib.Core.List.{List, []}
 use lib.ListN.{length, getD, set, length-set}
-use lib.Seq.{getD-set-same, getD-set-other, ext-getD}
+use lib.Seq.{ext-getD}
 use lib.Dec.{ltb}
-use borrow.Author.Count.{below-more}
 use borrow.Author.Tests.{lt-ltb, le-ltb}
 use Rattle.bits.specs.Bits.{bit}
 use Rattle.model.specs.declared.Profile.{Profile}
@@ -18,19 +17,11 @@ use Rattle.model.specs.Program.{pieces}
 use Rattle.model.proofs.Tests.{split, cond-true, cond-false}
 use Rattle.turns.proofs.Runs.{length-pieces}
 use Rattle.unit.specs.Rows.{Rows, rowCount, rowAt, stateIn}
+use Rattle.unit.proofs.Tabulated.{stored-more}
 use Rattle.start_order.specs.Answers.{wanted, isAccess, alone, breaks, clashes, mostPieces, firstOther, partner, firstWith, firstClash, startOrder}
 use Rattle.start_order.specs.declared.StartOrder.the-variants.{Agree, Clash, NoGet, TooMany}
 use Rattle.start_order.specs.Tried.{Listed, Tried}
 use Rattle.start_order.proofs.First.{NoneBelow, found-first, ended-first}
-
--- ---- a list that is stored element by element
-
--- what is so of each below i, and of what is stored at i
-stored-more : {A : Type 0} (P : ℕ → A → Type 0) (l : List A) (i : ℕ) (v d : A) → i < length l → ((k : ℕ) → k < i → P k (getD l k d)) → P i v
-    → (k : ℕ) → k < i + 1 → P k (getD (set l i v) k d)
-stored-more P l i v d h old new =
-    below-more (λ k. P k (getD (set l i v) k d)) i
-    (λ k b. subst (P k) (sym (getD-set-other l i k v d (λ e. omega arith))) (old k b)) (subst (P i) (sym (getD-set-same l i v d h)) new)
 
 -- the first i rows of a unit have been copied
 pub record Copied (u : Rows) (copy : Rows) (i : ℕ) : Type 0 where

@@ -1,13 +1,14 @@
 -- A list of what a function has at each number below another, and an array that a loop fills with it.
 -- Assumes nothing.
-use Prim.Native.Nat.{ℕ, zero, suc, _≤_, _<_}
+use Prim.Native.Nat.{ℕ, zero, suc, _+_, _≤_, _<_}
 use native.Mathlib.Omega.{arith}
 use native.Mathlib.Nat.{eq-or-lt-of-le}
-use mathlib.Core.Path.{_≡_, refl, sym, ap, _∙_}
+use mathlib.Core.Path.{_≡_, refl, sym, ap, _∙_, subst}
 use mathlib.Core.Logic.{_⊎_, inl, inr, ⊎-elim, _≢_}
 use mathlib.Core.List.{List}
 use lib.ListN.{length, getD, set, length-set}
 use lib.Seq.{getD-set-same, getD-set-other, ext-getD}
+use borrow.Author.Count.{below-more}
 use Rattle.model.proofs.Tests.{le-or-lt}
 use Rattle.unit.specs.Rows.{tabulate}
 
@@ -53,3 +54,12 @@ pub tabulated : {A : Type 0} (n : ℕ) (f : ℕ → A) (d : A) (l : List A) → 
 tabulated n f d l e w =
     ext-getD d l (tabulate n f) (e ∙ sym (tabulate-length n f))
     (λ k b. let h : k < n = omega (arith, e) in w k h ∙ sym (tabulate-at n f k d h))
+
+-- ---- a list that is stored element by element
+
+-- what is so of each below i, and of what is stored at i
+pub stored-more : {A : Type 0} (P : ℕ → A → Type 0) (l : List A) (i : ℕ) (v d : A) → i < length l → ((k : ℕ) → k < i → P k (getD l k d)) → P i v
+    → (k : ℕ) → k < i + 1 → P k (getD (set l i v) k d)
+stored-more P l i v d h old new =
+    below-more (λ k. P k (getD (set l i v) k d)) i
+    (λ k b. subst (P k) (sym (getD-set-other l i k v d (λ e. omega arith))) (old k b)) (subst (P i) (sym (getD-set-same l i v d h)) new)

@@ -24,4 +24,5 @@ pub use rows::flag;
 pub use rows::row_of;
 pub use whole::fill;
 pub use whole::object_in;
+pub use whole::object_of;
 pub use whole::set_object;

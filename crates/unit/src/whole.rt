@@ -16,7 +16,8 @@ use crate::rows::row_of;
 use model::Monitor;
 use model::Object;
 
-fn object_of(rights: [u8; 16], held: [u8; 16], rest: [u8; 16]) -> Object
+// The record that three rows say.
+pub fn object_of(rights: [u8; 16], held: [u8; 16], rest: [u8; 16]) -> Object
     ensures { λ r. ⌜ r ≡ objectOf rights held rest ⌝ }
 {
     let label = label_in(rest);
