@@ -18,7 +18,7 @@ use Rattle.kinds.proofs.Plain.{carried-plain}
 use Rattle.asking.specs.Asked.{askedSaid, asked, askedAll}
 use Rattle.asking.proofs.Lists.{asked-length, all-length, all-state}
 
-asked-plain : (b : List ℕ) (u : Rows) → length u ≡ rowCount → Plain u → Plain (asked b u)
+pub asked-plain : (b : List ℕ) (u : Rows) → length u ≡ rowCount → Plain u → Plain (asked b u)
 unfolding asked
 asked-plain b u n F = go (decode (stateIn u .profile) b) refl
   where

@@ -23,10 +23,10 @@ use Rattle.model.specs.Beginnings.{Reached}
 use Rattle.model.proofs.Tests.{apart}
 use Rattle.model.proofs.Modes.{add-has, remove-has}
 use Rattle.model.proofs.Requests.{decode-range}
-use Rattle.model.proofs.After.{object-there, rights-stored, held-stored}
+use Rattle.model.proofs.After.{target-below, object-there, rights-stored, held-stored}
 use Rattle.invariants.proofs.Form.{no-modes}
 use Rattle.invariants.proofs.Steps.{step-granted}
-use Rattle.invariants.proofs.Outcomes.{target-below, reply-granted}
+use Rattle.invariants.proofs.Outcomes.{reply-granted}
 use Rattle.images.proofs.Reached.{sound-reached, respond-says}
 use Rattle.effects.specs.Effects.{Effect}
 

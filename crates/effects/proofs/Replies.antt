@@ -19,9 +19,9 @@ use Rattle.model.specs.Rules.{target, changed, already, afterwards, checks, ste
 use Rattle.model.proofs.Tests.{apart, and-both, not-on, not-off}
 use Rattle.model.proofs.Modes.{add-has, remove-has}
 use Rattle.model.proofs.Levels.{label-same}
-use Rattle.model.proofs.After.{object-there, rights-stored, held-stored}
+use Rattle.model.proofs.After.{target-below, object-there, rights-stored, held-stored}
 use Rattle.invariants.proofs.Granted.{granted-create, granted-delete}
-use Rattle.invariants.proofs.Outcomes.{target-below, step-cases}
+use Rattle.invariants.proofs.Outcomes.{step-cases}
 
 -- ---- where the state was not so already, it changes
 

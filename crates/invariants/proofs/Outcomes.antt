@@ -16,23 +16,12 @@ use Rattle.model.specs.declared.Response.{Response}
 use Rattle.model.specs.Modes.{has, remove}
 use Rattle.model.specs.State.{object, rightsOf, withRights}
 use Rattle.model.specs.Decisions.{number}
-use Rattle.model.specs.Requests.{InRange}
 use Rattle.model.specs.Rules.{target, changed, already, afterwards, checks, step}
 use Rattle.model.proofs.Tests.{split, clash, and-left, and-right, not-on}
 use Rattle.model.proofs.Modes.{add-same, remove-same}
 use Rattle.model.proofs.Levels.{same-label}
 use Rattle.model.proofs.Equal.{with-held-same, with-rights-same, with-label-same, with-object-same}
 use Rattle.invariants.proofs.Steps.{granted-or-refused, step-granted, step-refused}
-
--- the object that a request is about is one of the 64
-pub target-below : (q : Request) → InRange q → target q < 64
-target-below (Get s o x) r = r .1
-target-below (Release s o x) r = r .1
-target-below (Give s t o x) r = r .2
-target-below (Rescind s t o x) r = r .2
-target-below (Create s o c) r = r .1
-target-below (Delete s o) r = r .1
-target-below (ChangeLevel s o l) r = r .1
 
 -- ---- the state was so already
 

@@ -1,6 +1,6 @@
 -- Bytes and slots that are stored into the rows of a journal, for every content of 99 rows of sixteen bytes.
 -- Assumes nothing.
-use Prim.Native.Nat.{ℕ, _%_, _<_, min}
+use Prim.Native.Nat.{ℕ, _*_, _%_, _<_, min}
 use native.Mathlib.Omega.{arith}
 use mathlib.Core.Path.{_≡_, sym, ap, _∙_}
 use mathlib.Core.Logic.{_≢_, ⊎-elim}
@@ -42,23 +42,19 @@ module _ (j : Rows) (r i n : ℕ) (h : r < length j) where
       (λ (e : s ≢ r). ap length (row-other s e))
       (same-or-not s r)
 
--- rows of sixteen bytes stay so, where a byte or a row of sixteen is stored
+-- rows are whole after a byte is stored, or a row of a slot
 whole-byte : (j : Rows) (r i n : ℕ) → r < journalRows → Whole j → Whole (setByte j r i n)
 whole-byte j r i n h W =
     record {
       rows = length-set j r _ ∙ W .rows;
-      bytes = λ s l. row-length j r i n (omega (arith, W .rows)) s ∙ W .bytes s l;
+      bytes = λ s a b. row-length j r i n (omega (arith, W .rows)) s ∙ W .bytes s a b;
     }
 
-whole-row : (j : Rows) (r : ℕ) (row : List ℕ) → r < journalRows → length row ≡ subjectCount → Whole j → Whole (set j r row)
-whole-row j r row h l W =
+whole-row : (j : Rows) (r : ℕ) (row : List ℕ) → r < 3 * journalSize → Whole j → Whole (set j r row)
+whole-row j r row h W =
     record {
       rows = length-set j r row ∙ W .rows;
-      bytes = λ s k.
-          ⊎-elim
-          (λ (e : s ≡ r). ap (λ x. length (rowAt (set j r row) x)) e ∙ ap length (getD-set-same j r row [] (omega (arith, W .rows))) ∙ l)
-          (λ (e : s ≢ r). ap length (getD-set-other j r s row [] e) ∙ W .bytes s k)
-          (same-or-not s r);
+      bytes = λ s a b. ap length (getD-set-other j r s row [] (λ e. absurd (omega (arith, e, a, h)))) ∙ W .bytes s a b;
     }
 
 pub whole-ring : (j : Rows) (next count : ℕ) → Whole j → Whole (setRing j next count)
@@ -79,13 +75,13 @@ module _ (j : Rows) (W : Whole j) (next count : ℕ) where
   ring-next =
       ap (λ n. n % journalSize)
       (byte-other once ringRow 1 count (omega (arith, once-whole .rows)) ringRow 0 (λ e. λ z. absurd (omega (arith, z)))
-      ∙ byte-same j ringRow 0 next (omega (arith, W .rows)) (omega (arith, W .bytes ringRow (omega arith))))
+      ∙ byte-same j ringRow 0 next (omega (arith, W .rows)) (omega (arith, W .bytes ringRow (omega arith) (omega arith))))
 
   pub ring-count : entryCount (setRing j next count) ≡ min count journalSize
   unfolding once
   ring-count =
       ap (λ n. min n journalSize)
-      (byte-same once ringRow 1 count (omega (arith, once-whole .rows)) (omega (arith, once-whole .bytes ringRow (omega arith))))
+      (byte-same once ringRow 1 count (omega (arith, once-whole .rows)) (omega (arith, once-whole .bytes ringRow (omega arith) (omega arith))))
 
   -- no slot is changed by it
   pub ring-entry : (k : ℕ) → k < journalSize → entryIn (setRing j next count) k ≡ entryIn j k
@@ -121,11 +117,11 @@ module _ (j : Rows) (W : Whole j) (k o : ℕ) (rights held rest : List ℕ) (h :
   unfolding one two stored
   stored-other s a b c = getD-set-other two (restRow k) s rest [] c ∙ getD-set-other one (heldRow k) s held [] b ∙ getD-set-other j (rightsRow k) s rights [] a
 
-  pub slot-whole : length rights ≡ subjectCount → length held ≡ subjectCount → length rest ≡ subjectCount → Whole (setSlot j k o rights held rest)
+  pub slot-whole : Whole (setSlot j k o rights held rest)
   unfolding one two stored
-  slot-whole a b c =
+  slot-whole =
       whole-byte stored (placeRow k) (placeByte k) o (omega arith)
-      (whole-row two (restRow k) rest (omega arith) c (whole-row one (heldRow k) held (omega arith) b (whole-row j (rightsRow k) rights (omega arith) a W)))
+      (whole-row two (restRow k) rest (omega arith) (whole-row one (heldRow k) held (omega arith) (whole-row j (rightsRow k) rights (omega arith) W)))
 
   -- the slot has what was stored
   pub slot-same : entryIn (setSlot j k o rights held rest) k ≡ record { place = o % objectCount; was = objectOf rights held rest }
@@ -136,7 +132,7 @@ module _ (j : Rows) (W : Whole j) (k o : ℕ) (rights held rest : List ℕ) (h :
       λ s l. row-other stored (placeRow k) (placeByte k) o (omega (arith, room)) s (λ e. absurd (omega (arith, e, l))) in
       let place : byteAt (rowAt (setSlot j k o rights held rest) (placeRow k)) (placeByte k) ≡ o =
       byte-same stored (placeRow k) (placeByte k) o (omega (arith, room))
-      (omega (arith, ap length (stored-other (placeRow k) (λ e. absurd (omega (arith, e))) (λ e. absurd (omega (arith, e))) (λ e. absurd (omega (arith, e)))), W .bytes (placeRow k) (omega arith))) in
+      (omega (arith, ap length (stored-other (placeRow k) (λ e. absurd (omega (arith, e))) (λ e. absurd (omega (arith, e))) (λ e. absurd (omega (arith, e)))), W .bytes (placeRow k) (omega arith) (omega arith))) in
       let first = length-set j (rightsRow k) rights in
       let second = length-set one (heldRow k) held in
       let a : rowAt (setSlot j k o rights held rest) (rightsRow k) ≡ rights =

@@ -1,19 +1,21 @@
--- The journal that the rows say after an entry more, and after the latest has gone: for every content of 99 rows of sixteen bytes.
+-- The journal that the rows say after an entry more, and after the latest has gone, for every content of 99 rows of sixteen bytes; and that of rows
+-- which are all 0.
 -- Assumes nothing.
 use Prim.Native.Nat.{ℕ, zero, suc, _+_, _-_, _%_, _<_, _≤_, min}
 use native.Mathlib.Omega.{arith}
 use mathlib.Core.Path.{_≡_, refl, sym, ap, ap₂, _∙_, subst}
 use mathlib.Core.Logic.{_≢_, ⊎-elim}
 use mathlib.Core.List.{List, [], _∷_}
-use lib.ListN.{length, take}
+use lib.ListN.{length, take, length-replicate, getD-replicate}
 use lib.Seq.{take-all}
-use Rattle.model.specs.State.{subjectCount, objectCount, noObject}
+use Rattle.model.specs.State.{objectCount, noObject}
 use Rattle.model.specs.Journal.{Entry, journalSize, entered}
 use Rattle.model.proofs.Tests.{le-or-lt}
 use Rattle.unit.specs.Rows.{Rows, objectOf, tabulate}
 use Rattle.unit.proofs.Tabulated.{tabulate-length, tabulate-same}
-use Rattle.journal.specs.Ring.{nextSlot, entryCount, entryIn, slotOf, journalIn}
-use Rattle.journal.specs.Stored.{setRing, setSlot, enteredRows, leftRows, Whole}
+use Rattle.journal.specs.Ring.{journalRows, nextSlot, entryCount, entryIn, slotOf, journalIn}
+use Rattle.journal.specs.Stored.{setRing, setSlot, enteredRows, leftRows, noEntries, Whole}
+use Rattle.journal.proofs.Rings.{zeros}
 use Rattle.journal.proofs.Entries.{whole-ring, ring-next, ring-count, ring-entry, slot-whole, slot-same, slot-other}
 
 -- the first of a tabulated list
@@ -35,23 +37,23 @@ noEntry = record { place = 0; was = noObject }
 
 -- ---- an entry more
 
-module _ (j : Rows) (W : Whole j) (o : ℕ) (rights held rest : List ℕ) (a : length rights ≡ subjectCount) (b : length held ≡ subjectCount) (c : length rest ≡ subjectCount) where
+module _ (j : Rows) (W : Whole j) (o : ℕ) (rights held rest : List ℕ) where
   pub entered-whole : Whole (enteredRows j o rights held rest)
   unfolding enteredRows
-  entered-whole = whole-ring _ _ _ (slot-whole j W (nextSlot j) o rights held rest (omega arith) a b c)
+  entered-whole = whole-ring _ _ _ (slot-whole j W (nextSlot j) o rights held rest (omega arith))
 
   -- where the entries stand behind it
   next-moved : nextSlot (enteredRows j o rights held rest) ≡ (nextSlot j + 1) % journalSize
   unfolding enteredRows
-  next-moved = ring-next _ (slot-whole j W (nextSlot j) o rights held rest (omega arith) a b c) _ _ ∙ omega arith
+  next-moved = ring-next _ (slot-whole j W (nextSlot j) o rights held rest (omega arith)) _ _ ∙ omega arith
 
   count-more : entryCount (enteredRows j o rights held rest) ≡ min (entryCount j + 1) journalSize
   unfolding enteredRows
-  count-more = ring-count _ (slot-whole j W (nextSlot j) o rights held rest (omega arith) a b c) _ _ ∙ omega arith
+  count-more = ring-count _ (slot-whole j W (nextSlot j) o rights held rest (omega arith)) _ _ ∙ omega arith
 
   entry-more : (k : ℕ) → k < journalSize → entryIn (enteredRows j o rights held rest) k ≡ entryIn (setSlot j (nextSlot j) o rights held rest) k
   unfolding enteredRows
-  entry-more k h = ring-entry _ (slot-whole j W (nextSlot j) o rights held rest (omega arith) a b c) _ _ k h
+  entry-more k h = ring-entry _ (slot-whole j W (nextSlot j) o rights held rest (omega arith)) _ _ k h
 
   -- the journal that the rows then say: "the oldest entry gives way"
   pub entered-says : journalIn (enteredRows j o rights held rest) ≡ entered (record { place = o % objectCount; was = objectOf rights held rest }) (journalIn j)
@@ -78,6 +80,10 @@ module _ (j : Rows) (W : Whole j) (o : ℕ) (rights held rest : List ℕ) (a : l
 
 -- ---- the latest goes
 
+pub latest-said : (j : Rows) (n : ℕ) → entryCount j ≡ suc n → journalIn j ≡ entryIn j (slotOf j 0) ∷ tabulate n (λ i. entryIn j (slotOf j (suc i)))
+unfolding journalIn tabulate
+latest-said j n some = ap (λ i. tabulate i (λ k. entryIn j (slotOf j k))) some
+
 -- the slots behind it, counted from the one that is then the next
 one-back : (k i : ℕ) → k < journalSize → i < 31 → ((k + (journalSize - 1) - 0) % journalSize % journalSize + (journalSize - 1) - i) % journalSize ≡ (k + (journalSize - 1) - suc i) % journalSize
 one-back zero i h l = omega (arith, l)
@@ -87,10 +93,6 @@ module _ (j : Rows) (W : Whole j) (n : ℕ) (some : entryCount j ≡ suc n) wher
   pub left-whole : Whole (leftRows j)
   unfolding leftRows
   left-whole = whole-ring j _ _ W
-
-  pub latest-said : journalIn j ≡ entryIn j (slotOf j 0) ∷ tabulate n (λ i. entryIn j (slotOf j (suc i)))
-  unfolding journalIn tabulate
-  latest-said = ap (λ i. tabulate i (λ k. entryIn j (slotOf j k))) some
 
   pub left-says : journalIn (leftRows j) ≡ tabulate n (λ i. entryIn j (slotOf j (suc i)))
   unfolding journalIn leftRows
@@ -103,3 +105,16 @@ module _ (j : Rows) (W : Whole j) (n : ℕ) (some : entryCount j ≡ suc n) wher
       let there : slotOf w i ≡ slotOf j (suc i) =
       ap (λ k. (k + (journalSize - 1) - i) % journalSize) (ring-next j W _ _) ∙ one-back (nextSlot j) i (omega arith) (omega (arith, h, some)) in
       ap (entryIn w) there ∙ ring-entry j W _ _ (slotOf j (suc i)) (omega arith))
+
+-- ---- no entry
+
+pub none-whole : Whole noEntries
+none-whole =
+    record {
+      rows = length-replicate journalRows zeros;
+      bytes = λ i a b. ap length (getD-replicate journalRows i zeros [] b);
+    }
+
+pub none-says : journalIn noEntries ≡ []
+unfolding journalIn tabulate
+none-says = refl

@@ -17,7 +17,7 @@ use Rattle.journal.specs.Stored.{setByte, setRing, setSlot, enteredRows,
 
 -- ---- rows that are cleared one by one
 
-abbrev zeros : List ℕ
+abbrev pub zeros : List ℕ
 zeros = replicate subjectCount 0
 
 pub record Cleared (j : Rows) (i : ℕ) : Type 0 where

@@ -1,6 +1,6 @@
 -- What is stored into the rows of a journal.
 -- Assumes nothing.
-use Prim.Native.Nat.{ℕ, zero, suc, _+_, _-_, _%_, _<_, min}
+use Prim.Native.Nat.{ℕ, _+_, _-_, _*_, _%_, _<_, _≤_, min}
 use mathlib.Core.Path.{_≡_}
 use mathlib.Core.List.{List}
 use lib.ListN.{length, set, replicate}
@@ -35,7 +35,7 @@ leftRows j = setRing j (slotOf j 0) (entryCount j - 1)
 abbrev pub noEntries : Rows
 noEntries = replicate journalRows (replicate subjectCount 0)
 
--- rows of sixteen bytes, as many as a journal has
+-- as many rows as a journal has, and sixteen bytes in those of which single bytes are stored
 pub record Whole (j : Rows) : Type 0 where
   pub rows : length j ≡ journalRows
-  pub bytes : (i : ℕ) → i < journalRows → length (rowAt j i) ≡ subjectCount
+  pub bytes : (i : ℕ) → 3 * journalSize ≤ i → i < journalRows → length (rowAt j i) ≡ subjectCount

@@ -19,6 +19,8 @@ pub use parts::set_label;
 pub use parts::set_rest;
 pub use parts::set_rights;
 pub use parts::set_rows;
+pub use rows::HELD;
+pub use rows::REST;
 pub use rows::ROWS;
 pub use rows::flag;
 pub use rows::row_of;

@@ -1,0 +1,2 @@
+-- A unit: the rows of a monitor and those of its journal.
+pub mod Units
