@@ -1,4 +1,4 @@
--- For every content of a unit: the rows after a byte string, or after a list, say the state after it, and the replies are that state's.
+-- For every content of a unit: the rows after a byte string, or after a list, say the state after it.
 -- Assumes nothing.
 use Prim.Native.Nat.{ℕ}
 use mathlib.Core.Path.{_≡_, refl, sym, ap, _∙_, subst}
@@ -10,12 +10,12 @@ use Rattle.model.specs.declared.Decoded.the-variants.{Malformed, Says}
 use Rattle.model.specs.declared.Decision.the-variants.{MalformedRequest}
 use Rattle.model.specs.Decisions.{number}
 use Rattle.model.specs.Requests.{decode}
-use Rattle.model.specs.Runs.{carryOut, respond, reply, after, replies}
+use Rattle.model.specs.Runs.{carryOut, respond, reply, after}
 use Rattle.model.proofs.Requests.{decode-range}
 use Rattle.unit.specs.Rows.{Rows, rowCount, stateIn}
 use Rattle.kinds.specs.Carried.{Does}
 use Rattle.kinds.proofs.Effects.{carried-length, carried-state}
-use Rattle.asking.specs.Asked.{askedSaid, asked, askedAll, repliesOf}
+use Rattle.asking.specs.Asked.{askedSaid, asked, askedAll}
 
 -- ---- one byte string
 
@@ -37,11 +37,6 @@ asked-state b u n = go (decode (stateIn u .profile) b) refl
 
 -- ---- a list of them
 
-pub all-length : (bs : List (List ℕ)) (u : Rows) → length (askedAll bs u) ≡ length u
-unfolding askedAll
-all-length [] u = refl
-all-length (b ∷ bs) u = all-length bs (asked b u) ∙ asked-length b u
-
 pub all-append : (bs cs : List (List ℕ)) (u : Rows) → askedAll (bs ++ cs) u ≡ askedAll cs (askedAll bs u)
 unfolding askedAll
 all-append [] cs u = refl
@@ -51,11 +46,6 @@ pub all-state : (bs : List (List ℕ)) (u : Rows) → length u ≡ rowCount → 
 unfolding askedAll after
 all-state [] u n = refl
 all-state (b ∷ bs) u n = all-state bs (asked b u) (asked-length b u ∙ n) ∙ ap (after bs) (asked-state b u n)
-
-pub all-replies : (bs : List (List ℕ)) (u : Rows) → length u ≡ rowCount → repliesOf bs u ≡ replies bs (stateIn u)
-unfolding repliesOf replies
-all-replies [] u n = refl
-all-replies (b ∷ bs) u n = ap (λ l. reply b (stateIn u) ∷ l) (all-replies bs (asked b u) (asked-length b u ∙ n) ∙ ap (replies bs) (asked-state b u n))
 
 -- ---- what the code returns and leaves
 

@@ -1,11 +1,10 @@
--- The rows of a unit after a byte string and after a list of them, and the replies.
+-- The rows of a monitor after a byte string and after a list of them.
 -- Assumes nothing.
 use Prim.Native.Nat.{ℕ}
 use mathlib.Core.List.{List, [], _∷_}
 use Rattle.model.specs.declared.Decoded.{Decoded}
 use Rattle.model.specs.declared.Decoded.the-variants.{Malformed, Says}
 use Rattle.model.specs.Requests.{decode}
-use Rattle.model.specs.Runs.{reply}
 use Rattle.unit.specs.Rows.{Rows, stateIn}
 use Rattle.kinds.specs.Carried.{carried}
 
@@ -22,8 +21,3 @@ asked b u = askedSaid (decode (stateIn u .profile) b) u
 unfoldable pub askedAll : List (List ℕ) → Rows → Rows
 askedAll [] u = u
 askedAll (b ∷ bs) u = askedAll bs (asked b u)
-
--- the replies to it, each that of the monitor that the rows then say
-unfoldable pub repliesOf : List (List ℕ) → Rows → List ℕ
-repliesOf [] u = []
-repliesOf (b ∷ bs) u = reply b (stateIn u) ∷ repliesOf bs (asked b u)

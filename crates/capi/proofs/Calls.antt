@@ -27,8 +27,8 @@ use Rattle.model.proofs.Packing.{pack-length}
 use Rattle.runs.specs.Inputs.{SixEach}
 use Rattle.telling.specs.Distinguish.{distinguish}
 use Rattle.invariants.specs.Sound.{Sound}
-use Rattle.invariants.proofs.Steps.{sound-respond, sound-after, respond-profile}
-use Rattle.images.proofs.Reached.{sound-begun, begun-profile, left-profile}
+use Rattle.invariants.proofs.Steps.{sound-respond, sound-after, respond-profile, profile-kept}
+use Rattle.images.proofs.Reached.{sound-begun, begun-profile}
 use Rattle.equal_images.proofs.Demand3.{same-replies}
 use Rattle.images.proofs.RoundTrips.{image-length, write-0-fills, image-reads}
 use Rattle.equal_images.proofs.ToldApart.{written-back, equal-images-told, different-images-told}
@@ -98,8 +98,8 @@ equal-bytes-same-numbers a b ha hb A B qs rs =
     let n = after rs (readImage widest b .monitor) in
     let M = sound-after qs _ (sound-begun (image widest a) A) in
     let N = sound-after rs _ (sound-begun (image widest b) B) in
-    let p = left-profile (image widest a) A qs in
-    let q = left-profile (image widest b) B rs in
+    let p = profile-kept qs _ ∙ begun-profile (image widest a) A in
+    let q = profile-kept rs _ ∙ begun-profile (image widest b) B in
     let here : bytesLeft qs a ≡ imageOf m = calls-from-image a ha A qs .1 in
     let there : bytesLeft rs b ≡ imageOf n = calls-from-image b hb B rs .1 in (
       λ e further w. ap (numbers further) e,

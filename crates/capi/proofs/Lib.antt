@@ -10,4 +10,5 @@ pub mod Counts
 pub mod Labels
 pub mod StartOrders
 pub mod UnitOrders
+pub mod TakingBack
 pub mod RightsExamples

@@ -1,10 +1,10 @@
--- Pages of a unit that was started or opened and asked any list: they are those of the state after the list, and what they show is permitted.
+-- Pages of a unit that was started or opened, asked and taken back in any order: they are those of the state after the list, and what they show is permitted.
 -- Assumes nothing.
 use Prim.Native.Nat.{ℕ, _+_, _<_}
 use native.Mathlib.Omega.{arith}
 use mathlib.Core.Path.{_≡_, sym, ap, _∙_}
 use mathlib.Core.Bool.{true, false}
-use mathlib.Core.List.{List}
+use mathlib.Core.List.{List, map}
 use lib.ListN.{take}
 use Rattle.model.specs.declared.Mode.{Mode}
 use Rattle.model.specs.declared.Mode.the-variants.{Read}
@@ -12,6 +12,7 @@ use Rattle.model.specs.declared.Monitor.{Monitor}
 use Rattle.model.specs.Modes.{has}
 use Rattle.model.specs.State.{widest, subjectCount, object, enrolled}
 use Rattle.model.specs.Decisions.{number}
+use Rattle.model.specs.Journal.{Act, asks}
 use Rattle.model.specs.Beginnings.{Beginning, table, Accepted, left}
 use Rattle.model.proofs.Modes.{has-none}
 use Rattle.images.proofs.Reached.{reached-left}
@@ -26,7 +27,7 @@ use Rattle.runs.proofs.Witnesses.{markedBytes, stateAt, table-met, shown}
 use Rattle.capi.specs.UnitRuns.{unitAfter}
 use Rattle.capi.proofs.UnitRuns.{after-says}
 
-module _ (b : Beginning) (bs : List (List ℕ)) where
+module _ (b : Beginning) (bs : List Act) where
   -- the number that `circmon_page` returns, and what it leaves in the buffer
   pub unit-paging : (o : ℕ) (buffer : List ℕ) → number (paging (stateIn (unitAfter b bs)) o buffer) ≡ number (paging (left b bs) o buffer)
   unit-paging o buffer = ap (λ (m : Monitor). number (paging m o buffer)) (after-says b bs)
@@ -54,7 +55,7 @@ pub shown-met : accessShown (page (object (stateAt 5) 0)) 1 Read ≡ true
 shown-met = access-shown (object (stateAt 5) 0) 1 (omega arith) Read ∙ shown .held-there
 
 pub permitted-there : rightShown (page (object (stateAt 5) 0)) 1 Read ≡ true
-permitted-there = shown-permitted (table widest tableW) (take 5 markedBytes) table-met 0 1 (omega arith) Read shown-met
+permitted-there = shown-permitted (table widest tableW) (map asks (take 5 markedBytes)) table-met 0 1 (omega arith) Read shown-met
 
 pub absent-line-there : lineChar (page (object (stateAt 5) 0)) 15 3 ≡ dash
-absent-line-there = absent-line (table widest tableW) (take 5 markedBytes) table-met 0 15 (omega arith) (shown .absent-there) Read .0
+absent-line-there = absent-line (table widest tableW) (map asks (take 5 markedBytes)) table-met 0 15 (omega arith) (shown .absent-there) Read .0

@@ -16,10 +16,9 @@ use Rattle.model.proofs.Profiles.{profile-decides}
 use Rattle.images.proofs.Reached.{left-inside}
 use Rattle.refusals.specs.Causes.{ProfileOutside}
 use Rattle.refusals.proofs.ProfileCauses.{profile-not-outside}
-use Rattle.asking.specs.Asked.{repliesOf}
 use Rattle.images_apart.specs.Apart.{distinguishNumber, distinguishBytes}
 use Rattle.capi.specs.SiteAnswers.{apartNumber, apartBytes}
-use Rattle.capi.specs.UnitRuns.{begunUnit}
+use Rattle.capi.specs.UnitRuns.{begunUnit, unitReplies}
 use Rattle.capi.proofs.UnitRuns.{unit-replies}
 use Rattle.capi.proofs.Calls.{distinguish-replies}
 
@@ -52,7 +51,7 @@ apart-told p a b buffer h =
 pub sites-told : (p : Profile) (a b buffer : List ℕ) → Bytes a → Bytes b → Accepted (image p a) → Accepted (image p b) → 24 ≤ length buffer
     → let n = apartNumber p a b buffer in
     let qs = cut n 6 (apartBytes p a b buffer) in
-    (a ≡ b → n ≡ 0) × (a ≢ b → (1 ≤ n) × (n ≤ 4) × (repliesOf qs (begunUnit (image p a)) ≢ repliesOf qs (begunUnit (image p b))))
+    (a ≡ b → n ≡ 0) × (a ≢ b → (1 ≤ n) × (n ≤ 4) × (unitReplies qs (begunUnit (image p a)) ≢ unitReplies qs (begunUnit (image p b))))
 sites-told p a b buffer ha hb A B room =
     let told = apart-told p a b buffer (left-inside (image p a) A [] .0) in
     let d = distinguish-replies p a b buffer ha hb A B room in
@@ -64,7 +63,7 @@ sites-told p a b buffer ha hb A B room =
             subst (λ (k : ℕ). 1 ≤ k) (sym (told .0)) (t .0),
             subst (λ (k : ℕ). k ≤ 4) (sym (told .0)) (t .1),
             λ e. t .2 (sym (unit-replies (image p a) qs)
-                ∙ sym (ap (λ (l : List (List ℕ)). repliesOf l (begunUnit (image p a))) same) ∙ e
-                ∙ ap (λ (l : List (List ℕ)). repliesOf l (begunUnit (image p b))) same ∙ unit-replies (image p b) qs),
+                ∙ sym (ap (λ (l : List (List ℕ)). unitReplies l (begunUnit (image p a))) same) ∙ e
+                ∙ ap (λ (l : List (List ℕ)). unitReplies l (begunUnit (image p b))) same ∙ unit-replies (image p b) qs),
           ),
     )

@@ -1,11 +1,11 @@
--- What `circmon_clash` returns, and what it says of a unit that was started or opened and asked any list.
+-- What `circmon_clash` returns, and what it says of a unit that was started or opened and asked and taken back in any order.
 -- Assumes nothing.
 use Prim.Native.Nat.{ℕ, _+_, _*_, _/_, _%_, _^_, _<_}
 use native.Mathlib.Nat.{mod-eq-of-lt}
 use native.Mathlib.Omega.{arith}
 use mathlib.Core.Path.{_≡_, refl, sym, ap, ap₂, _∙_}
 use mathlib.Core.Logic.{_↔_}
-use mathlib.Core.List.{List, [], _∷_}
+use mathlib.Core.List.{List, [], _∷_, map}
 use Rattle.bits.specs.Bits.{odd, toBits, fromBits, bytesToBits, field, cut, allZero}
 use Rattle.model.specs.State.{widest}
 use Rattle.model.specs.declared.Monitor.{Monitor}
@@ -16,7 +16,8 @@ use Rattle.model.specs.ModePairs.{kept}
 use Rattle.model.specs.Profiles.{profileFits, labelInside, absentBeyond, levelsInside}
 use Rattle.model.specs.Requests.{fields, modeAllowed, unusedZero, fieldsFormed, within, wellFormed, request, decodeFields, decode}
 use Rattle.model.specs.Rules.{simpleAll, starPair, starFrom, starFor, starAll, notLowered, changed, already, checks, answer, step}
-use Rattle.model.specs.Runs.{respond, after}
+use Rattle.model.specs.Runs.{respond}
+use Rattle.model.specs.Journal.{ask, Act, asks, acted}
 use Rattle.model.specs.Reading.{labelFrom, labelForm, tableFrom, tableForm, tableChecks, begin, readTable}
 use Rattle.model.specs.Program.{pieces}
 use Rattle.model.specs.Beginnings.{Beginning, table, Accepted, left, Reached}
@@ -87,7 +88,7 @@ clash-returns u requests = number-read (startOrder (pieces requests) (stateIn u)
 
 -- of a unit that was started or opened with 0 and asked any list: an answer is returned exactly where what it says of the pieces, of the state
 -- after the list and of all orders is so
-pub unit-orders : (b : Beginning) → Accepted b → (qs : List (List ℕ)) (requests : List ℕ) (r : StartOrder)
+pub unit-orders : (b : Beginning) → Accepted b → (qs : List Act) (requests : List ℕ) (r : StartOrder)
     → (answerIn (orderNumber (startOrder (pieces requests) (stateIn (unitAfter b qs)))) ≡ r) ↔ Means (left b qs) (pieces requests) r
 unit-orders b e qs requests r =
     let said = clash-returns (unitAfter b qs) requests ∙ ap (startOrder (pieces requests)) (after-says b qs) in
@@ -98,14 +99,14 @@ unit-orders b e qs requests r =
 
 -- from table W, subject 1 makes and labels two objects
 unfoldable pub there : Monitor
-there = left (table widest tableW) made
+there = left (table widest tableW) (map asks made)
 
 pub reached-there : Reached there
 unfolding there
-reached-there = reached-left (table widest tableW) table-met made
+reached-there = reached-left (table widest tableW) table-met (map asks made)
 
 answers-there : (startOrder (read-1 ∷ read-1 ∷ append-0 ∷ []) there ≡ Clash 0 2) × (startOrder (read-1 ∷ read-1 ∷ []) there ≡ Agree)
-unfolding there tableW tableFrom tableForm labelForm labelFrom tableChecks profileFits absentBeyond levelsInside labelInside begin readTable allZero cut made read-1 append-0 firstBelow wanted isAccess alone breaks clashes firstClash startOrder kept bytesToBits toBits odd fromBits field decode decodeFields fields wellFormed fieldsFormed within modeAllowed unusedZero request respond step after checks already changed starAll starFor starFrom starPair implies unless answer simpleAll notLowered has add remove sameLabel dominates levelDominates compare
+unfolding there tableW tableFrom tableForm labelForm labelFrom tableChecks profileFits absentBeyond levelsInside labelInside begin readTable allZero cut made read-1 append-0 firstBelow wanted isAccess alone breaks clashes firstClash startOrder kept bytesToBits toBits odd fromBits field decode decodeFields fields wellFormed fieldsFormed within modeAllowed unusedZero request respond step acted ask checks already changed starAll starFor starFrom starPair implies unless answer simpleAll notLowered has add remove sameLabel dominates levelDominates compare
 answers-there = (refl, refl)
 
 -- the order of these three gets matters: those at 0 and 2 clash, and not all orders leave equal states

@@ -1,9 +1,9 @@
--- A unit that was started or opened, asked any list and saved: what it replies and what is saved are what the scope's definitions say.
+-- A unit that was started or opened, asked and taken back in any order, and saved: what it returns and what is saved are what the definitions say.
 -- Assumes nothing.
 use Prim.Native.Nat.{ℕ, _≤_}
 use mathlib.Core.Path.{_≡_, sym, ap, ap₂, _∙_, subst}
 use mathlib.Core.Logic.{_↔_, _≢_}
-use mathlib.Core.List.{List, [], map}
+use mathlib.Core.List.{List, [], _++_, map}
 use lib.ListN.{length, take}
 use Rattle.model.specs.declared.Profile.{Profile}
 use Rattle.model.specs.declared.Monitor.{Monitor}
@@ -16,47 +16,62 @@ use Rattle.model.specs.Properties.{Secure}
 use Rattle.model.specs.Decisions.{number}
 use Rattle.model.specs.Requests.{encode}
 use Rattle.model.specs.Runs.{after, replies}
+use Rattle.model.specs.Journal.{Journaled, withoutEntries, Act, asks, answers}
 use Rattle.model.specs.Layout.{imageSize, imageOf}
 use Rattle.model.specs.Reading.{readImage}
 use Rattle.model.specs.Writing.{writing, written}
-use Rattle.model.specs.Beginnings.{Beginning, begun, Accepted, left, AllBytes}
+use Rattle.model.specs.Beginnings.{Beginning, begun, Accepted, leftWith, left, AllBytes}
 use Rattle.telling.specs.Distinguish.{distinguish}
 use Rattle.images.specs.Tables.{beginningProfile}
-use Rattle.images.proofs.Reached.{reached-left, sound-left, left-profile, reached-inside, fills}
+use Rattle.images.proofs.Reached.{reached-left, left-more, sound-left, left-profile, reached-inside, fills}
 use Rattle.effects.proofs.Demand2.{always-secure}
 use Rattle.equal_images.proofs.Demand3.{distinguishes, distinguishes-not, demand-3}
 use Rattle.images.proofs.RoundTrips.{read-written}
-use Rattle.unit.specs.Rows.{rowCount, stateIn}
+use Rattle.invariants.proofs.TakingBack.{asked-replies}
+use Rattle.unit.specs.Rows.{stateIn}
 use Rattle.unit.specs.Stored.{unitOf}
-use Rattle.unit.proofs.Units.{unit-length}
 use Rattle.image.proofs.Sizes.{begun-says}
-use Rattle.asking.specs.Asked.{repliesOf}
-use Rattle.asking.proofs.Lists.{all-length, all-state, all-replies}
-use Rattle.asking.proofs.Plain.{all-rows}
-use Rattle.capi.specs.UnitRuns.{begunUnit, unitAfter, saved}
+use Rattle.journaled.specs.Units.{monitorPart, saidBy, answersOf}
+use Rattle.journaled.proofs.Said.{WholeUnit, unit-append, acted-whole, answers-said, begun-whole, begun-said}
+use Rattle.journaled.proofs.Plain.{begun-acted, begun-rows}
+use Rattle.capi.specs.UnitRuns.{begunUnit, unitAfter, unitAsked, unitReplies, saved}
 
--- ---- started or opened, asked, saved
+-- ---- started or opened, asked and taken back, saved
 
 module _ (b : Beginning) where
-  begun-length : length (begunUnit b) ≡ rowCount
-  begun-length = unit-length (begun b .monitor)
+  -- whatever is called, each number returned is the one that the definitions give
+  pub unit-answers : (l : List Act) → answersOf l (begunUnit b) ≡ answers l (withoutEntries (begun b .monitor))
+  unit-answers l =
+      answers-said l (begunUnit b) (begun-whole (begun b .monitor)) ∙ ap (answers l) (begun-said (begun b .monitor) ∙ ap withoutEntries (begun-says b))
 
   -- asked any list, it replies as the monitor does
-  pub unit-replies : (bs : List (List ℕ)) → repliesOf bs (begunUnit b) ≡ replies bs (begun b .monitor)
-  unit-replies bs = all-replies bs (begunUnit b) begun-length ∙ ap (replies bs) (begun-says b)
+  pub unit-replies : (bs : List (List ℕ)) → unitReplies bs (begunUnit b) ≡ replies bs (begun b .monitor)
+  unit-replies bs = unit-answers (map asks bs) ∙ asked-replies bs (withoutEntries (begun b .monitor))
 
-  module _ (bs : List (List ℕ)) where
-    -- and then says the state after the list
+  module _ (bs : List Act) where
+    -- and then says the monitor and the journal after the list
+    pub after-said : saidBy (unitAfter b bs) ≡ leftWith b bs
+    after-said = begun-acted bs (begun b .monitor) (begun-says b)
+
     pub after-says : stateIn (unitAfter b bs) ≡ left b bs
-    after-says = all-state bs (begunUnit b) begun-length ∙ ap (after bs) (begun-says b)
+    unfolding saidBy
+    after-says = ap (λ (j : Journaled). j .monitor) after-said
 
-    -- in every byte its rows are those of that state
-    pub unit-rows : unitAfter b bs ≡ unitOf (left b bs)
-    unit-rows = all-rows bs (begun b .monitor) (begun-says b)
+    -- in every byte the rows of the monitor are those of that state
+    pub unit-rows : monitorPart (unitAfter b bs) ≡ unitOf (left b bs)
+    unit-rows = begun-rows bs (begun b .monitor) (begun-says b)
+
+    pub after-whole : WholeUnit (unitAfter b bs)
+    after-whole = acted-whole bs (begunUnit b) (begun-whole (begun b .monitor))
 
     -- a further list draws the replies of that state
-    pub further-replies : (further : List (List ℕ)) → repliesOf further (unitAfter b bs) ≡ replies further (left b bs)
-    further-replies further = all-replies further (unitAfter b bs) (all-length bs (begunUnit b) ∙ begun-length) ∙ ap (replies further) after-says
+    pub further-replies : (further : List (List ℕ)) → unitReplies further (unitAfter b bs) ≡ replies further (left b bs)
+    further-replies further =
+        answers-said (map asks further) (unitAfter b bs) after-whole ∙ ap (answers (map asks further)) after-said ∙ asked-replies further (leftWith b bs)
+
+    -- and leaves what it leaves of that state
+    pub asked-unit : (further : List (List ℕ)) → unitAsked further (unitAfter b bs) ≡ unitAfter b (bs ++ map asks further)
+    asked-unit further = sym (unit-append bs (map asks further) (begunUnit b))
 
     -- saved, every byte of the buffer is what writing that state leaves
     pub unit-saved : (buffer : List ℕ) → saved (unitAfter b bs) buffer ≡ written (left b bs) buffer
@@ -81,13 +96,21 @@ module _ (b : Beginning) where
         ∙ read-written (left b bs) (reached-left b e bs) buffer w
         ∙ ap (λ (m : Monitor). record { decision = Granted; monitor = m }) (sym after-says)
 
+-- asked further after a list: the state, and the rows of the monitor in every byte
+module _ (b : Beginning) (bs : List Act) (further : List (List ℕ)) where
+  pub asked-says : stateIn (unitAsked further (unitAfter b bs)) ≡ after further (left b bs)
+  asked-says = ap stateIn (asked-unit b bs further) ∙ after-says b (bs ++ map asks further) ∙ left-more b bs further
+
+  pub asked-rows : monitorPart (unitAsked further (unitAfter b bs)) ≡ unitOf (after further (left b bs))
+  asked-rows = ap monitorPart (asked-unit b bs further) ∙ unit-rows b (bs ++ map asks further) ∙ ap unitOf (left-more b bs further)
+
 -- ---- two units of one profile
 
-module _ (b c : Beginning) (e : Accepted b) (f : Accepted c) (one : beginningProfile b ≡ beginningProfile c) (qs rs : List (List ℕ)) (buffer other : List ℕ) (v : number (writing buffer) ≡ 0) (w : number (writing other) ≡ 0) where
+module _ (b c : Beginning) (e : Accepted b) (f : Accepted c) (one : beginningProfile b ≡ beginningProfile c) (qs rs : List Act) (buffer other : List ℕ) (v : number (writing buffer) ≡ 0) (w : number (writing other) ≡ 0) where
   -- demand 3: the images saved are equal in every byte exactly when every further list draws the same replies from both units
   pub unit-demand-3 :
       (take imageSize (saved (unitAfter b qs) buffer) ≡ take imageSize (saved (unitAfter c rs) other))
-      ↔ ((further : List (List ℕ)) → AllBytes further → repliesOf further (unitAfter b qs) ≡ repliesOf further (unitAfter c rs))
+      ↔ ((further : List (List ℕ)) → AllBytes further → unitReplies further (unitAfter b qs) ≡ unitReplies further (unitAfter c rs))
   unit-demand-3 =
       let D = demand-3 b c e f one qs rs buffer other v w in (
         λ p further g.
@@ -120,13 +143,13 @@ module _ (b c : Beginning) (e : Accepted b) (f : Accepted c) (one : beginningPro
   -- at most four where they differ, and the two units reply differently to them
   pub different-units-told : (take imageSize (saved (unitAfter b qs) buffer) ≢ take imageSize (saved (unitAfter c rs) other))
       → (length (distinguish (readImage (beginningProfile b) (take imageSize (saved (unitAfter b qs) buffer)) .monitor) (readImage (beginningProfile c) (take imageSize (saved (unitAfter c rs) other)) .monitor)) ≤ 4)
-      × (repliesOf (map encode (distinguish (readImage (beginningProfile b) (take imageSize (saved (unitAfter b qs) buffer)) .monitor) (readImage (beginningProfile c) (take imageSize (saved (unitAfter c rs) other)) .monitor))) (unitAfter b qs)
-      ≢ repliesOf (map encode (distinguish (readImage (beginningProfile b) (take imageSize (saved (unitAfter b qs) buffer)) .monitor) (readImage (beginningProfile c) (take imageSize (saved (unitAfter c rs) other)) .monitor))) (unitAfter c rs))
+      × (unitReplies (map encode (distinguish (readImage (beginningProfile b) (take imageSize (saved (unitAfter b qs) buffer)) .monitor) (readImage (beginningProfile c) (take imageSize (saved (unitAfter c rs) other)) .monitor))) (unitAfter b qs)
+      ≢ unitReplies (map encode (distinguish (readImage (beginningProfile b) (take imageSize (saved (unitAfter b qs) buffer)) .monitor) (readImage (beginningProfile c) (take imageSize (saved (unitAfter c rs) other)) .monitor))) (unitAfter c rs))
   unfolding told
   different-units-told h =
       let m = left b qs in
       let n = left c rs in
       let apart : m ≢ n = λ p. h (ap (take imageSize) (unit-saved b qs buffer) ∙ fills m buffer v ∙ ap imageOf p ∙ sym (fills n other w) ∙ sym (ap (take imageSize) (unit-saved c rs other))) in
       let d = distinguishes m n (sound-left b e qs) (sound-left c f rs) (left-profile b e qs ∙ one ∙ sym (left-profile c f rs)) apart in
-      subst (λ (l : List Request). (length l ≤ 4) × (repliesOf (map encode l) (unitAfter b qs) ≢ repliesOf (map encode l) (unitAfter c rs))) (sym told-of)
+      subst (λ (l : List Request). (length l ≤ 4) × (unitReplies (map encode l) (unitAfter b qs) ≢ unitReplies (map encode l) (unitAfter c rs))) (sym told-of)
       (d .1, λ p. d .2 (sym (further-replies b qs _) ∙ p ∙ further-replies c rs _))

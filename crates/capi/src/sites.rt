@@ -2,17 +2,17 @@
 ghost use mathlib.Core.Path.{_≡_};
 ghost use Rattle.model.specs.Decisions.{number};
 ghost use Rattle.model.specs.Reading.{readTable, readImage};
-ghost use Rattle.unit.specs.Stored.{unitOf};
 ghost use Rattle.model.specs.Profiles.{site};
+ghost use Rattle.journaled.specs.Units.{begunRows};
 ghost use Rattle.capi.specs.SiteAnswers.{apartNumber, apartBytes};
-use image::open;
-use image::start;
 use images_apart::tell;
+use journaled::ROWS;
+use journaled::open;
+use journaled::start;
 use labels::number;
 use model::Decision;
 use profiles::fits;
 use profiles::site;
-use unit::ROWS;
 
 // Begins from a table under a profile; a refused one leaves the empty monitor in the unit.
 #[no_mangle]
@@ -24,7 +24,7 @@ pub extern "C" fn circmon_start_in(
     needs: u16,
     table: &[u8],
 ) -> u8
-    ensures { λ r. ⌜ (r ≡ number (readTable (site subjects objects class needs) (now (table .entry)) .decision)) × (now (unit .exit) ≡ unitOf (readTable (site subjects objects class needs) (now (table .entry)) .monitor)) ⌝ }
+    ensures { λ r. ⌜ (r ≡ number (readTable (site subjects objects class needs) (now (table .entry)) .decision)) × (now (unit .exit) ≡ begunRows (readTable (site subjects objects class needs) (now (table .entry)) .monitor)) ⌝ }
 {
     let started = start(unit, site(subjects, objects, class, needs), table);
     number(started)
@@ -40,7 +40,7 @@ pub extern "C" fn circmon_open_in(
     needs: u16,
     image: &[u8],
 ) -> u8
-    ensures { λ r. ⌜ (r ≡ number (readImage (site subjects objects class needs) (now (image .entry)) .decision)) × (now (unit .exit) ≡ unitOf (readImage (site subjects objects class needs) (now (image .entry)) .monitor)) ⌝ }
+    ensures { λ r. ⌜ (r ≡ number (readImage (site subjects objects class needs) (now (image .entry)) .decision)) × (now (unit .exit) ≡ begunRows (readImage (site subjects objects class needs) (now (image .entry)) .monitor)) ⌝ }
 {
     let opened = open(unit, site(subjects, objects, class, needs), image);
     number(opened)

@@ -42,14 +42,15 @@ use Rattle.images.proofs.Images.{table-passed, image-passed}
 pub reached-left : (b : Beginning) → Accepted b → (l : List Act) → Reached (left b l)
 reached-left b e l = record { beginning = b; accepted = e; list = l; reaches = refl }
 
--- and so is what any list of requests leaves of a reached monitor
+-- requests behind a list leave what they leave of its monitor
+pub left-more : (b : Beginning) (l : List Act) (qs : List (List ℕ)) → left b (l ++ map asks qs) ≡ after qs (left b l)
+left-more b l qs =
+    ap (λ (j : Journaled). j .monitor) (acted-append l (map asks qs) (withoutEntries (begun b .monitor))) ∙ asked-after qs (leftWith b l)
+
+-- so what any list of requests leaves of a reached monitor is reached
 pub reached-after : (m : Monitor) → Reached m → (qs : List (List ℕ)) → Reached (after qs m)
 reached-after m R qs =
-    let b = R .beginning in
-    subst Reached
-    (ap (λ (j : Journaled). j .monitor) (acted-append (R .list) (map asks qs) (withoutEntries (begun b .monitor)))
-    ∙ asked-after qs (leftWith b (R .list)) ∙ ap (after qs) (R .reaches))
-    (reached-left b (R .accepted) (R .list ++ map asks qs))
+    subst Reached (left-more (R .beginning) (R .list) qs ∙ ap (after qs) (R .reaches)) (reached-left (R .beginning) (R .accepted) (R .list ++ map asks qs))
 
 -- "A monitor reached by takings-back counts with those reached by requests" (change request §9): it is one of them
 pub left-by-requests : (b : Beginning) (l : List Act) → ByRequests (begun b .monitor) (left b l)

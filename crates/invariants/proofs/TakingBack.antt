@@ -77,7 +77,7 @@ taken-entered j k E = (
   ap takingBack (E .journal),
 )
 
--- a journal never has more than 32 entries
+-- "up to 32 entries"
 pub entered-fits : (j k : Journaled) → Enters j k → length (k .journal) ≤ journalSize
 unfolding entered
 entered-fits j k E = subst (λ (l : List Entry). length l ≤ journalSize) (sym (E .journal)) (omega (arith, length-take journalSize (E .entry ∷ j .journal)))
@@ -98,6 +98,19 @@ nothing-entered b j n = ask-cases b j (λ z E. absurd (n z)) (λ n e. e)
 pub empty-17 : (m : Monitor) → (answerTo takesBack (withoutEntries m) ≡ 17) × (takeBack (withoutEntries m) ≡ withoutEntries m)
 unfolding takeBack restored takingBack
 empty-17 m = (refl, refl)
+
+-- a journal never has more than 32 entries
+restored-fits : (m : Monitor) (journal : List Entry) → length journal ≤ journalSize → length (restored m journal .journal) ≤ journalSize
+unfolding restored
+restored-fits m [] h = h
+restored-fits m (e ∷ journal) h = omega (arith, h)
+
+pub acted-fits : (l : List Act) (j : Journaled) → length (j .journal) ≤ journalSize → length (acted l j .journal) ≤ journalSize
+unfolding acted takeBack
+acted-fits [] j h = h
+acted-fits (asks b ∷ l) j h =
+    acted-fits l (ask b j) (ask-cases b j (λ z E. entered-fits j (ask b j) E) (λ n e. subst (λ (x : Journaled). length (x .journal) ≤ journalSize) (sym e) h))
+acted-fits (takesBack ∷ l) j h = acted-fits l (takeBack j) (restored-fits (j .monitor) (j .journal) h)
 
 -- ---- "future replies are compared without the journal": requests leave the state and draw the replies that they do without one
 
@@ -197,3 +210,14 @@ unfolding room
 takings-restore bs j fits n z h =
     let R = restores-asked bs j fits n z h in
     (acted-times n (acted (map asks bs) j) ∙ R .left, answers-times n (acted (map asks bs) j) (R .granted))
+
+-- where 32 were taken back, nothing is left to take back: one more returns 17, and the state is that before them all
+pub then-17 : (bs : List (List ℕ)) (j : Journaled) → length (j .journal) ≤ journalSize → zeros (replies bs (j .monitor)) ≡ journalSize
+    → (answerTo takesBack (acted (replicate journalSize takesBack) (acted (map asks bs) j)) ≡ 17)
+    × (acted (replicate (suc journalSize) takesBack) (acted (map asks bs) j) .monitor ≡ j .monitor)
+unfolding takeBack takingBack restored times room
+then-17 bs j fits z =
+    let R = restores-asked bs j fits journalSize z (omega arith) in
+    let all = acted-times journalSize (acted (map asks bs) j) ∙ R .left in
+    let more = acted-times (suc journalSize) (acted (map asks bs) j) ∙ ap takeBack (R .left) in
+    (ap (λ (x : Journaled). number (takingBack (x .journal))) all, ap (λ (x : Journaled). x .monitor) more)

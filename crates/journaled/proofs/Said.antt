@@ -168,6 +168,11 @@ module _ (u : Rows) (U : WholeUnit u) where
 
 -- ---- lists of requests and takings-back
 
+pub unit-append : (k l : List Act) (u : Rows) → actedUnit (k ++ l) u ≡ actedUnit l (actedUnit k u)
+unfolding actedUnit
+unit-append [] l u = refl
+unit-append (a ∷ k) l u = unit-append k l (actUnit a u)
+
 pub acted-whole : (l : List Act) (u : Rows) → WholeUnit u → WholeUnit (actedUnit l u)
 unfolding actedUnit
 acted-whole [] u U = U

@@ -4,7 +4,7 @@ use mathlib.Core.Path.{ap, _∙_}
 use Rattle.model.specs.declared.Profile.{Profile}
 use Rattle.model.specs.Decisions.{number}
 use Rattle.model.specs.Reading.{readImage}
-use Rattle.unit.specs.Stored.{unitOf}
+use Rattle.journaled.specs.Units.{begunRows}
 use borrow.Author.Needs.{needs}
 use Rattle.capi.proofs.sites.circmon_open_in.Statement.{statement}
 use Rattle.capi.proofs.sites.circmon_open_in.Tie as tie
@@ -24,7 +24,7 @@ returns c =
     let p = c .before .before .site .ensures in
     let r = c .before .«open» .ensures in (
       c .number .ensures ∙ ap number (r .0 ∙ ap (λ (k : Profile). readImage k s .decision) p),
-      r .1 ∙ ap (λ (k : Profile). unitOf (readImage k s .monitor)) p,
+      r .1 ∙ ap (λ (k : Profile). begunRows (readImage k s .monitor)) p,
     )
 
 pub circmon-open-in-spec : {M : Type 1} → statement M
