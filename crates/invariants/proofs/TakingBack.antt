@@ -5,7 +5,7 @@ use Prim.Native.Nat.{ℕ, zero, suc, _-_, _<_, _≤_}
 use native.Mathlib.Omega.{arith}
 use native.Mathlib.Nat.{eq-or-lt-of-le}
 use mathlib.Core.Path.{_≡_, refl, sym, ap, ap₂, _∙_, subst}
-use mathlib.Core.Logic.{_≢_, ⊎-elim}
+use mathlib.Core.Logic.{_↔_, _≢_, ⊎-elim}
 use mathlib.Core.Bool.{Bool, cond}
 use mathlib.Core.List.{List, [], _∷_, _++_, map}
 use lib.ListN.{length, take, replicate, length-take}
@@ -98,6 +98,26 @@ nothing-entered b j n = ask-cases b j (λ z E. absurd (n z)) (λ n e. e)
 pub empty-17 : (m : Monitor) → (answerTo takesBack (withoutEntries m) ≡ 17) × (takeBack (withoutEntries m) ≡ withoutEntries m)
 unfolding takeBack restored takingBack
 empty-17 m = (refl, refl)
+
+-- exactly then; else it returns 0
+pub back-17-exactly : (j : Journaled) → (answerTo takesBack j ≡ 17) ↔ (j .journal ≡ [])
+unfolding takingBack
+back-17-exactly j = (go (j .journal), λ e. ap (λ (l : List Entry). number (takingBack l)) e)
+  where
+    go : (l : List Entry) → number (takingBack l) ≡ 17 → l ≡ []
+    go [] e = refl
+    go (x ∷ l) e = absurd (omega (arith, e))
+
+pub back-0-exactly : (j : Journaled) → (answerTo takesBack j ≡ 0) ↔ (j .journal ≢ [])
+unfolding takingBack
+back-0-exactly j = (
+  λ z e. absurd (omega (arith, z, ap (λ (l : List Entry). number (takingBack l)) e)),
+  go (j .journal),
+)
+  where
+    go : (l : List Entry) → l ≢ [] → number (takingBack l) ≡ 0
+    go [] h = absurd (h refl)
+    go (x ∷ l) h = refl
 
 -- a journal never has more than 32 entries
 restored-fits : (m : Monitor) (journal : List Entry) → length journal ≤ journalSize → length (restored m journal .journal) ≤ journalSize

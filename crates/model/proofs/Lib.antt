@@ -20,5 +20,6 @@ pub mod RuleExamples
 pub mod Lowering
 pub mod ByteExamples
 pub mod StateExamples
+pub mod JournalExamples
 pub mod Arrays
 pub mod Buffers

@@ -5,3 +5,4 @@ pub mod Programs
 pub mod Witnesses
 pub mod ModePairs
 pub mod Sites
+pub mod TakingBack
