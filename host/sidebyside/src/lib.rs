@@ -162,7 +162,8 @@ impl Both {
         let reply = self.monitor.request(bytes);
         assert_eq!(self.unit.ask(bytes), reply, "{bytes:02x?}");
         assert_eq!(self.unit.image()[..], image(&self.monitor)[..], "{bytes:02x?}");
-        assert!(reply == 0 || self.unit == before, "{bytes:02x?} gets {reply}, and a byte of the unit is changed");
+        let left = self.unit.rows() == before.rows();
+        assert!(reply == 0 || left, "{bytes:02x?} gets {reply}, and a byte of the unit is changed");
         reply
     }
 }

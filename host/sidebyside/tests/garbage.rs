@@ -82,7 +82,7 @@ fn saving_writes_what_the_rows_say_and_nothing_behind_it() {
         let mut buffer = vec![LEFT; IMAGE_BYTES + random.below(20)];
         let kept = unit.clone();
         assert_eq!(unit.save(&mut buffer), 0, "seed {seed}");
-        assert!(unit == kept, "seed {seed}: the unit is only read");
+        assert!(unit.rows() == kept.rows(), "seed {seed}: the unit is only read");
         assert_eq!(buffer[..IMAGE_BYTES], image_said(unit.rows())[..], "seed {seed}");
         assert!(buffer[IMAGE_BYTES..].iter().all(|&byte| byte == LEFT), "seed {seed}: later bytes are left");
         for length in [random.below(IMAGE_BYTES), IMAGE_BYTES - 1] {
@@ -107,7 +107,7 @@ fn a_refusal_leaves_every_byte_and_a_1_the_state() {
             let reply = unit.ask(&request);
             count.note(reply);
             let what = format!("seed {seed}, request {at}: {request:02x?} gets {reply}");
-            assert!(reply < 2 || unit == before, "{what}, and a byte is changed");
+            assert!(reply < 2 || unit.rows() == before.rows(), "{what}, and a byte is changed");
             assert!(reply != 1 || unit.image() == before.image(), "{what}, and the state is changed");
         }
     }

@@ -221,6 +221,7 @@ fn the_sizes_of_the_header_are_those_of_the_bindings() {
         ("REQUEST_BYTES", circmon::REQUEST_BYTES),
         ("DISTINGUISH_BYTES", circmon::DISTINGUISH_BYTES),
         ("UNIT_BYTES", circmon::UNIT_BYTES),
+        ("MONITOR_BYTES", circmon::MONITOR_BYTES),
         ("PAGE_BYTES", circmon::PAGE_BYTES),
     ];
     assert_eq!(numbers(&text, CODES, false), BTreeMap::from(expected));
@@ -231,6 +232,7 @@ fn the_sizes_of_the_header_are_those_of_the_bindings() {
     assert_eq!(reference::PAGE_BYTES, circmon::PAGE_BYTES);
     assert_eq!((reference::SUBJECTS, reference::OBJECTS), (circmon::SUBJECTS, circmon::OBJECTS));
     assert_eq!(reference::MOST_GETS, circmon::MOST_GETS);
+    assert_eq!(reference::MOST_ENTRIES, circmon::JOURNAL_ENTRIES);
     assert!(text.contains("3 CIRCMON_ORDERS_TOO_MANY: there are more than 4,096 pieces") && circmon::MOST_GETS == 4096);
 }
 
@@ -268,6 +270,10 @@ fn what_is_not_so_would_be_seen() {
             ("_save", "_store"),
             ("uint8_t circmon_", "uint64_t circmon_"),
         ],
+    );
+    check_edits(
+        "uint8_t circmon_take_back(circmon_unit *unit);",
+        &[("circmon_unit", "const circmon_unit"), ("_take_back", "_take"), ("*unit", "*unit, uint8_t object")],
     );
     check_edits(
         "uint8_t circmon_page(const circmon_unit *unit, uint8_t object, uint8_t *page, circmon_size page_len);",
