@@ -2,6 +2,7 @@
 //! of gets comes from the proved library through the crate `circmon`; what stands here reads bytes and scripts, finds the words
 //! for them, and prints.
 
+pub mod action;
 mod arguments;
 pub mod assemble;
 mod begin;
@@ -32,5 +33,6 @@ pub mod request;
 mod save;
 pub mod script;
 pub mod show;
+pub mod taking_back;
 pub mod view;
 pub mod words;
