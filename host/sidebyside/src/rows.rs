@@ -71,7 +71,7 @@ pub fn of(monitor: &Monitor) -> Rows {
     rows
 }
 
-fn level_row(level: Option<Level>) -> [u8; ROW_BYTES] {
+pub fn level_row(level: Option<Level>) -> [u8; ROW_BYTES] {
     let mut row = [0; ROW_BYTES];
     if let Some(Level { class, needs }) = level {
         let [high, low] = needs.to_be_bytes();

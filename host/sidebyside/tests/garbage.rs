@@ -4,7 +4,7 @@ use circmon::{Rows, Unit, IMAGE_BYTES, OBJECTS, SUBJECTS};
 use load::Random;
 use reference::{reply, Level};
 use sidebyside::rows::{level_in, monitor_said, CLEARANCES, HELD, PROFILE, REST};
-use sidebyside::{image, random_rows, shape, Count, REPLIES};
+use sidebyside::{image, random_rows, rows_with_subjects, shape, Count, REPLIES};
 
 const LEFT: u8 = 0xEE;
 
@@ -46,20 +46,7 @@ fn image_said(rows: &Rows) -> Vec<u8> {
     bits.bytes()
 }
 
-/// Any bytes, but most subjects are enrolled, and mostly the profile has more than all subjects, objects and classes: else nearly
-/// every request gets 3 or 2.
-fn rows_with_subjects(random: &mut Random) -> Rows {
-    let mut rows = random_rows(random);
-    for row in &mut rows[CLEARANCES..PROFILE] {
-        row[2] = if random.once_in(4) { row[2] } else { 1 };
-    }
-    if !random.once_in(8) {
-        rows[PROFILE].iter_mut().for_each(|byte| *byte |= 0xC0);
-    }
-    rows
-}
-
-/// The same, but where an object is not live the bytes say no owner, label, right or access.
+/// Most subjects are enrolled, and where an object is not live the bytes say no owner, label, right or access.
 fn rows_of_a_monitor(random: &mut Random) -> Rows {
     let mut rows = rows_with_subjects(random);
     for object in 0..OBJECTS {
