@@ -8,10 +8,10 @@ use sidebyside::orders::Met;
 use sidebyside::{profiles, shape, RUNS, RUN_REQUESTS, SHAPES};
 
 /// Once in how many requests one is taken back.
-const RATES: [usize; 5] = [2, 3, 8, 40, 2000];
+const RATES: [usize; 5] = [2, 4, 12, 60, 2000];
 /// Once in how many requests several are taken back, and once in how many the run goes on from its image.
-const SEVERAL: usize = 150;
-const AGAIN: usize = 400;
+const SEVERAL: usize = 200;
+const AGAIN: usize = 500;
 
 struct Run {
     random: Random,
@@ -45,10 +45,11 @@ impl Run {
         }
     }
 
-    /// As many as there may be, or more.
+    /// Some, or more than there may be.
     fn several(&mut self, met: &mut Met) {
         let full = self.followed.entries() == MOST;
-        for _ in 0..1 + self.random.below(MOST + 8) {
+        let most = if self.random.once_in(2) { MOST + 1 } else { self.random.below(MOST) };
+        for _ in 0..most {
             if self.followed.take_back(met) == EMPTY {
                 met.note(if full { "a full journal emptied" } else { "a journal emptied" });
                 return;
