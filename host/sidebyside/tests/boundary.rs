@@ -64,7 +64,9 @@ fn a_cpp_program_over_the_header() {
 fn a_null_pointer_with_length_0_is_an_empty_buffer() {
     for words in [&["-O0"][..], &["-O2"]] {
         let output = Command::new(compiled_here("empty", FOLDER, words)).output().unwrap();
-        let expected = "open 10\nstart 10 0\nopen_in 10 16\nstart_in 10 16\nask 2\ntake_back 17\nsave 13\npage 2 4 13\nclash 0\nbegin 10 13 0\nread 10\nrequest 138 2\nreplay 10 0 13\ndistinguish 138 202 13\n\
+        let expected =
+            "open 10\nstart 10 0\nopen_in 10 16\nstart_in 10 16\nask 2\ntake_back 17\nsave 13\npage 2 4 13\n\
+            clash 0\nbegin 10 13 0\nread 10\nrequest 138 2\nreplay 10 0 13\ndistinguish 138 202 13\n\
             distinguish_in 138 202 16 13\nload 0 15\n";
         assert_eq!(String::from_utf8_lossy(&output.stdout), expected);
     }

@@ -272,10 +272,6 @@ fn what_is_not_so_would_be_seen() {
         ],
     );
     check_edits(
-        "uint8_t circmon_take_back(circmon_unit *unit);",
-        &[("circmon_unit", "const circmon_unit"), ("_take_back", "_take"), ("*unit", "*unit, uint8_t object")],
-    );
-    check_edits(
         "uint8_t circmon_page(const circmon_unit *unit, uint8_t object, uint8_t *page, circmon_size page_len);",
         &[("uint8_t object", "circmon_size object")],
     );
