@@ -17,24 +17,30 @@ struct List {
     requests: Vec<u8>,
 }
 
-/// The objects are created and labelled, and then the two kinds come in turns on each of them, of which the second undoes the first.
-fn list(name: &'static str, first: Kind, second: Kind) -> List {
+/// The objects are created and labelled, and then two kinds, which the owner says, come in turns on each of them; the second undoes
+/// the first.
+fn list(name: &'static str, two: impl Fn(usize) -> [Kind; 2]) -> List {
     let top = Level { class: 15, needs: u16::MAX };
-    let begin = [Kind::Create { execute: true }, Kind::ChangeLevel(top)];
-    let kinds = begin.into_iter().chain((0..TIMES).flat_map(|_| [first, second]));
-    let requests =
-        kinds.flat_map(|kind| (0..OBJECTS).map(move |object| Request { actor: object % SUBJECTS, object, kind }));
-    List {
-        name,
-        table: Monitor::begin([Some(top); SUBJECTS]).table(),
-        requests: requests.flat_map(|request| request.encode()).collect(),
-    }
+    let begin = |_| [Kind::Create { execute: true }, Kind::ChangeLevel(top)];
+    let mut requests = Vec::new();
+    let mut add = |kinds: &dyn Fn(usize) -> [Kind; 2]| {
+        for (at, object) in (0..2).flat_map(|at| (0..OBJECTS).map(move |object| (at, object))) {
+            let actor = object % SUBJECTS;
+            requests.extend(Request { actor, object, kind: kinds(actor)[at] }.encode());
+        }
+    };
+    add(&begin);
+    (0..TIMES).for_each(|_| add(&two));
+    List { name, table: Monitor::begin([Some(top); SUBJECTS]).table(), requests }
 }
 
 fn lists() -> [List; 2] {
     [
-        list("give and rescind", Kind::Give(9, Mode::Execute), Kind::Rescind(9, Mode::Execute)),
-        list("delete and create", Kind::Delete, Kind::Create { execute: true }),
+        list("give and rescind", |owner| {
+            let other = (owner + 1) % SUBJECTS;
+            [Kind::Give(other, Mode::Execute), Kind::Rescind(other, Mode::Execute)]
+        }),
+        list("delete and create", |_| [Kind::Delete, Kind::Create { execute: true }]),
     ]
 }
 

@@ -20,7 +20,8 @@ Usage: circtool SUBCOMMAND [OPTIONS] [FILE]
 Where no file or '-' is given, standard input is read; 'page' with objects needs the image or '-' before them, and
 'load' reads only what --table names. No image says the profile of its site: where that is not the widest, '--profile'
 gives it to 'show', 'page', 'compare' and 'orders', and for bytes to 'run' and 'explain'.
-Every reply, acceptance, page, load, comparison of two levels and answer on orders comes from the proved library.
+Every reply, taking-back, acceptance, page, load, comparison of two levels and answer on orders comes from the proved
+library.
 
 Exit status: 0 fine; 1 a table, image or load is refused, an object is not live, two images differ, or the order of gets
 matters; 2 usage, or input that cannot be read.

@@ -1,5 +1,5 @@
-//! What the command `circtool` is made of. Every reply, acceptance, page, load, comparison of two levels and answer on the order
-//! of gets comes from the proved library through the crate `circmon`; what stands here reads bytes and scripts, finds the words
+//! What the command `circtool` is made of. Every reply, taking-back, acceptance, page, load, comparison of two levels and answer
+//! on the order of gets comes from the proved library through the crate `circmon`; what stands here reads bytes and scripts, finds the words
 //! for them, and prints.
 
 pub mod action;

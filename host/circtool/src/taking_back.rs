@@ -54,8 +54,8 @@ impl Journal {
 
 fn empty_words() -> String {
     format!(
-        "the journal is empty: it has the last {JOURNAL_ENTRIES} requests with reply 0, without those taken back, and a monitor \
-         begins, from a table or an image, with none"
+        "the journal is empty: it keeps the last {JOURNAL_ENTRIES} requests with reply 0, without those taken back, and a monitor \
+         begun from a table or an image has none"
     )
 }
 
@@ -65,18 +65,18 @@ impl Entry {
         let object = self.request.object;
         let start = format!("step {}, {}", self.step, self.request.sentence());
         match (&present.objects[object], &self.before.objects[object]) {
-            (_, None) => format!("{start}: o{object} is not live, as before it"),
+            (_, None) => format!("{start}: o{object} is not live, as it was before it"),
             (Some(now), Some(restored)) if now.label != restored.label => {
                 let label = |level: Option<_>| level.map_or("no label".to_string(), level_words);
                 let verb = if restored.label.is_some() { "lower" } else { "end" };
                 format!(
-                    "{start}: the record of o{object} is as before it, with {} and no longer {}; taking back is no request and may \
+                    "{start}: the record of o{object} is as it was before it, with {} and no longer {}; taking back is no request and may \
                      {verb} a label",
                     label(restored.label),
                     label(now.label)
                 )
             }
-            _ => format!("{start}: the record of o{object} is as before it"),
+            _ => format!("{start}: the record of o{object} is as it was before it"),
         }
     }
 }

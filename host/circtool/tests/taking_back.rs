@@ -29,27 +29,27 @@ fn last(requests: &str) -> (String, String, String) {
 #[test]
 fn what_was_taken_back_is_named_with_its_step() {
     for (requests, numbers, below) in [
-        ("s1 create o0\ntake back\n", "0 0", "step 1, s1 creates o0: o0 is not live, as before it"),
+        ("s1 create o0\ntake back\n", "0 0", "step 1, s1 creates o0: o0 is not live, as it was before it"),
         (
             "s1 create o0\ns1 give s0 r o0\ns0 get a o0\ns1 give s0 r o0\ntake back\n",
             "0 0 6 1 0",
-            "step 2, s1 gives s0 r on o0: the record of o0 is as before it",
+            "step 2, s1 gives s0 r on o0: the record of o0 is as it was before it",
         ),
         (
             "s1 create o7\ns1 level o7 class 2 needs {}\ns1 delete o7\ntake back\n",
             "0 0 0 0",
-            "step 3, s1 deletes o7: the record of o7 is as before it",
+            "step 3, s1 deletes o7: the record of o7 is as it was before it",
         ),
         (
             "s1 create o7\ns1 level o7 class 2 needs {}\ntake back\n",
             "0 0 0",
-            "step 2, s1 changes the level of o7 to class 2 needs {}: the record of o7 is as before it, with no label and no longer \
+            "step 2, s1 changes the level of o7 to class 2 needs {}: the record of o7 is as it was before it, with no label and no longer \
              class 2 needs {}; taking back is no request and may end a label",
         ),
         (
             "s1 create o7\ns1 level o7 class 1 needs {0}\ns1 level o7 class 2 needs {0}\ns1 delete o7\ntake back\ntake back\n",
             "0 0 0 0 0 0",
-            "step 3, s1 changes the level of o7 to class 2 needs {0}: the record of o7 is as before it, with class 1 needs {0} and no \
+            "step 3, s1 changes the level of o7 to class 2 needs {0}: the record of o7 is as it was before it, with class 1 needs {0} and no \
              longer class 2 needs {0}; taking back is no request and may lower a label",
         ),
     ] {
@@ -60,8 +60,8 @@ fn what_was_taken_back_is_named_with_its_step() {
 
 #[test]
 fn an_empty_journal_is_17_and_says_why() {
-    let why = "the journal is empty: it has the last 32 requests with reply 0, without those taken back, and a monitor begins, \
-               from a table or an image, with none";
+    let why = "the journal is empty: it keeps the last 32 requests with reply 0, without those taken back, and a monitor begun \
+               from a table or an image has none";
     for (requests, numbers, summary) in [
         (
             "take back\n",
