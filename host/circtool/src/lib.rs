@@ -1,6 +1,6 @@
 //! What the command `circtool` is made of. Every reply, taking-back, acceptance, page, load, comparison of two levels and answer
-//! on the order of gets comes from the proved library through the crate `circmon`; what stands here reads bytes and scripts, finds the words
-//! for them, and prints.
+//! on the order of gets comes from the proved library through the crate `circmon`; what stands here reads bytes and scripts,
+//! finds the words for them, and prints.
 
 pub mod action;
 mod arguments;
