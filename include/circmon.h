@@ -119,10 +119,12 @@ uint8_t circmon_start_in(circmon_unit *unit, uint8_t subjects, uint8_t objects, 
 uint8_t circmon_ask(circmon_unit *unit, const uint8_t *request, circmon_size request_len);
 
 /* Takes back the latest request that is in the journal.
- * Returns 0, and the state is exactly the one before that request, whose entry is gone; or 17 where the journal is empty, and
- * every byte of the unit is left. So n calls after n requests with reply 0, at most 32, restore the state before them all. It is
- * no request: it has no bytes, it enters nothing, and it may lower or end the label of an object, as no request does. What is
- * restored is the record that the object had: its rights, the accesses held, its owner and its label, or that it was not live. */
+ * Returns 0, and the object of the latest entry has the record that the entry keeps: rights, accesses held, owner and label, or
+ * that it was not live; the entry is gone. Or 17 where the journal is empty, and every byte of the unit is left.
+ * Of a unit that was opened or started with 0 and then only asked and taken back, 0 restores exactly the state before the latest
+ * request still in the journal, and n calls after n requests with reply 0, at most 32, the state before them all.
+ * It is no request: it has no bytes and enters nothing, and it may lower a label or leave an object without the one that it had,
+ * which no request does. */
 uint8_t circmon_take_back(circmon_unit *unit);
 
 /* Writes the image of the state into the first 1,274 bytes of the buffer and leaves any later byte.
