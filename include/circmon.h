@@ -13,7 +13,7 @@
  * simple property would break, of an image: is broken; 9 the star property would break, of an image: is broken; 10 another
  * length; 11 a stray bit in what is absent; 12 an absent subject owns, has a right or holds; 13 the buffer is too short; 14 the
  * new label does not dominate the one that the object has; 15 the seed of a load is 0; 16 a profile outside its ranges, or a
- * clearance or label outside the profile.
+ * clearance or label outside the profile; 17 nothing to take back.
  * circmon_compare has four numbers of its own, and circmon_clash has four codes of its own. docs/FORMATS.md has the bytes.
  *
  * A function that returns a number with a count beside it returns both in 64 bits: the number in the low byte and the count,
@@ -31,7 +31,9 @@ extern "C" {
 #define CIRCMON_IMAGE_BYTES 1274
 #define CIRCMON_REQUEST_BYTES 6
 #define CIRCMON_DISTINGUISH_BYTES 24
-#define CIRCMON_UNIT_BYTES 3344
+#define CIRCMON_UNIT_BYTES 4928
+/* The first bytes of a unit, which are the monitor; behind them is the journal. */
+#define CIRCMON_MONITOR_BYTES 3344
 #define CIRCMON_PAGE_BYTES 258
 
 /* The two parts of a number with a count beside it. */
@@ -61,17 +63,20 @@ typedef uint64_t circmon_size;
  * A unit has the profile under which it was begun, and every function on it follows that. Functions on images alone run
  * under the widest, all but circmon_distinguish_in. */
 
-/* ---- A unit: one monitor that stays in memory which the caller owns */
+/* ---- A unit: one monitor with its journal, which stays in memory that the caller owns */
 
-/* 209 rows of sixteen bytes: rows 0 to 63 the rights of the objects, 64 to 127 the accesses held, 128 to 191 the rest of
- * each object's record, 192 to 207 the clearances of the subjects, 208 the profile; docs/FORMATS.md says what each byte is.
+/* 308 rows of sixteen bytes. Rows 0 to 208 are the monitor: rows 0 to 63 the rights of the objects, 64 to 127 the accesses held,
+ * 128 to 191 the rest of each object's record, 192 to 207 the clearances of the subjects, 208 the profile. Rows 209 to 307 are
+ * the journal, from which up to 32 requests can be taken back: rows 209 to 304 the records as they were, three rows for each
+ * entry, 305 and 306 the objects that they are of, 307 where the next entry goes and how many there are. docs/FORMATS.md says
+ * what each byte is. Two units are the same monitor where their first CIRCMON_MONITOR_BYTES bytes are the same.
  * There is no pointer and no padding in it, and its alignment is 1: it may be copied as it stands, also between machines.
- * Every content of these bytes is a state, and what the functions below do with it is defined and proved: no content makes
- * them do anything undefined, read or write elsewhere, or not end. Where all bytes are 0, no subject is in use, and every
- * request gets 2. That a unit is secure is proved where it was opened or started with 0 and then only asked; so keep it where
- * nobody else writes. */
+ * Every content of these bytes is a state and a journal, and what the functions below do with it is defined and proved: no
+ * content makes them do anything undefined, read or write elsewhere, or not end. Where all bytes are 0, no subject is in use,
+ * every request gets 2, and there is nothing to take back. That a unit is secure is proved where it was opened or started with 0
+ * and then only asked and taken back; so keep it where nobody else writes. */
 typedef struct {
-    uint8_t row[209][16];
+    uint8_t row[308][16];
 } circmon_unit;
 
 #ifdef __cplusplus
@@ -82,7 +87,8 @@ _Static_assert(sizeof(circmon_unit) == CIRCMON_UNIT_BYTES, "a unit has no paddin
 
 /* Begins from an image under the widest profile.
  * Returns 0, and the unit is the monitor of the image; or the first refusal of 10, 11, 12, 6, 7, 8, 9, and the unit is the
- * empty monitor, nobody enrolled. Every byte of the unit is written; what was in it before does not matter. */
+ * empty monitor, nobody enrolled. Of this and of the three below: the journal is empty, also where the image was saved from a
+ * unit that had entries. Every byte of the unit is written; what was in it before does not matter. */
 uint8_t circmon_open(circmon_unit *unit, const uint8_t *image, circmon_size image_len);
 
 /* Begins from an enrolment table, with no live object, under the widest profile.
@@ -108,20 +114,30 @@ uint8_t circmon_start_in(circmon_unit *unit, uint8_t subjects, uint8_t objects, 
 
 /* Carries out a request: bytes of any length and content; what is no request, or is outside the profile of the unit, gets 2.
  * Returns the reply. Below 2 it is granted: 0 and the state changed, 1 and it was so already. 2 to 9 or 14 is the first check
- * that refuses, and every byte of the unit is left. */
+ * that refuses, and every byte of the unit is left. With reply 0 the record of the object as it was is entered in the journal;
+ * where that has 32 entries, the oldest gives way. With any other reply no byte of the journal changes. */
 uint8_t circmon_ask(circmon_unit *unit, const uint8_t *request, circmon_size request_len);
+
+/* Takes back the latest request that is in the journal.
+ * Returns 0, and the object of the latest entry has the record that the entry keeps: rights, accesses held, owner and label, or
+ * that it was not live; the entry is gone. Or 17 where the journal is empty, and every byte of the unit is left.
+ * Of a unit that was opened or started with 0 and then only asked and taken back, 0 restores exactly the state before the latest
+ * request still in the journal, and n calls after n requests with reply 0, at most 32, the state before them all.
+ * It is no request: it has no bytes and enters nothing, and it may lower a label or leave an object without the one that it had,
+ * which no request does. */
+uint8_t circmon_take_back(circmon_unit *unit);
 
 /* Writes the image of the state into the first 1,274 bytes of the buffer and leaves any later byte.
  * Returns 0; or 13 where the buffer has under 1,274 bytes, and leaves every byte of it. The unit is only read. The image does
- * not say the profile: it is opened again under the profile of this unit. */
+ * not say the profile: it is opened again under the profile of this unit. Nor is the journal in it. */
 uint8_t circmon_save(const circmon_unit *unit, uint8_t *image, circmon_size image_len);
 
 /* Writes the access page of an object into the first 258 bytes of the buffer and leaves any later byte: a line for each
  * subject with its rights and the accesses that it holds, and a last line with the numbers of holders; text, with a newline
  * behind each line and no 0 behind the last.
  * Returns 2 where the object is above 63; then 4 where it is not live; then 13 where the buffer has under 258 bytes; else 0.
- * A refusal leaves every byte of the buffer. The unit is only read. In a unit that was begun and only asked no object beyond the
- * profile is live. */
+ * A refusal leaves every byte of the buffer. The unit is only read. In a unit that was begun and only asked and taken back no
+ * object beyond the profile is live. */
 uint8_t circmon_page(const circmon_unit *unit, uint8_t object, uint8_t *page, circmon_size page_len);
 
 /* ---- Start order: whether it matters in which order tasks take their accesses */
@@ -137,8 +153,8 @@ uint8_t circmon_page(const circmon_unit *unit, uint8_t object, uint8_t *page, ci
  *   there is, and SECOND the least for it.
  * 0 CIRCMON_ORDERS_AGREE: none of these; all orders of the list leave equal states, and each get is granted in all of them, with
  *   0 or 1, or refused in all.
- * What 0 and 1 say of orders is proved of a unit that was opened or started with 0 and then only asked; which code is returned
- * is proved of every unit. The unit is only read. */
+ * What 0 and 1 say of orders is proved of a unit that was opened or started with 0 and then only asked and taken back; which code
+ * is returned is proved of every unit. The unit is only read. */
 uint64_t circmon_clash(const circmon_unit *unit, const uint8_t *requests, circmon_size requests_len);
 
 /* ---- Calls without a unit: on tables, images and lists of requests, under the widest profile but for circmon_distinguish_in */

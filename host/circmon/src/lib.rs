@@ -15,7 +15,7 @@ pub use counted::Counted;
 pub use level::{compare, Comparison, Level};
 pub use profile::Profile;
 pub use start_order::{StartOrder, MOST_GETS};
-pub use unit::{Rows, Unit, ROWS, ROW_BYTES, UNIT_BYTES};
+pub use unit::{Rows, Unit, JOURNAL_ENTRIES, MONITOR_BYTES, MONITOR_ROWS, ROWS, ROW_BYTES, UNIT_BYTES};
 
 /// The proved library that is linked here, for programs in C over include/circmon.h. The build script puts it there.
 pub const ARCHIVE: &str = concat!(env!("OUT_DIR"), "/libcapi.a");

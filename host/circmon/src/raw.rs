@@ -25,6 +25,7 @@ extern "C" {
         table_len: u64,
     ) -> u8;
     pub fn circmon_ask(unit: *mut Rows, request: *const u8, request_len: u64) -> u8;
+    pub fn circmon_take_back(unit: *mut Rows) -> u8;
     pub fn circmon_save(unit: *const Rows, image: *mut u8, image_len: u64) -> u8;
     pub fn circmon_page(unit: *const Rows, object: u8, page: *mut u8, page_len: u64) -> u8;
     pub fn circmon_clash(unit: *const Rows, requests: *const u8, requests_len: u64) -> u64;

@@ -1,22 +1,40 @@
-//! A unit: the monitor that stays in memory.
+//! A unit: the monitor that stays in memory, with its journal.
 
 use crate::{raw, size, Profile, StartOrder, IMAGE_BYTES, OBJECTS, SUBJECTS};
 
 /// Bytes of a row: one for each subject.
 pub const ROW_BYTES: usize = SUBJECTS;
-/// Three rows for each object, one for each subject, and that of the profile.
-pub const ROWS: usize = 3 * OBJECTS + SUBJECTS + 1;
+/// The row of the profile, the last one of the monitor.
+const PROFILE_ROW: usize = 3 * OBJECTS + SUBJECTS;
+/// The rows of the monitor: three for each object, one for each subject, and that of the profile.
+pub const MONITOR_ROWS: usize = PROFILE_ROW + 1;
+/// As many requests as can be taken back.
+pub const JOURNAL_ENTRIES: usize = 32;
+/// The rows of the journal, behind those of the monitor: three for each entry, a byte for its object, and a row that counts them.
+const JOURNAL_ROWS: usize = 3 * JOURNAL_ENTRIES + JOURNAL_ENTRIES / ROW_BYTES + 1;
+pub const ROWS: usize = MONITOR_ROWS + JOURNAL_ROWS;
 pub const UNIT_BYTES: usize = ROWS * ROW_BYTES;
+/// The first bytes of a unit, which are the monitor.
+pub const MONITOR_BYTES: usize = MONITOR_ROWS * ROW_BYTES;
 
-/// What a unit is made of; docs/FORMATS.md says what each byte is. Every content is a state.
+/// What a unit is made of; docs/FORMATS.md says what each byte is. Every content is a state and a journal.
 pub type Rows = [[u8; ROW_BYTES]; ROWS];
 
-/// One monitor in memory. Units of one profile that were begun and then only asked are equal exactly where their images are.
+/// One monitor in memory with its journal. Units are compared without the journal: those of one profile that were begun and then
+/// only asked and taken back are equal exactly where their images are. `rows` has every byte.
 #[repr(transparent)]
-#[derive(Clone, PartialEq, Eq, Debug)]
+#[derive(Clone, Debug)]
 pub struct Unit {
     rows: Rows,
 }
+
+impl PartialEq for Unit {
+    fn eq(&self, other: &Unit) -> bool {
+        self.rows[..MONITOR_ROWS] == other.rows[..MONITOR_ROWS]
+    }
+}
+
+impl Eq for Unit {}
 
 impl Unit {
     /// Begun from an enrolment table under the widest profile, or refused with a number.
@@ -47,7 +65,7 @@ impl Unit {
         }
     }
 
-    /// The state that these rows say, which need not be secure.
+    /// The state and the journal that these rows say; the state need not be secure.
     pub fn from_rows(rows: Rows) -> Unit {
         Unit { rows }
     }
@@ -56,10 +74,10 @@ impl Unit {
         &self.rows
     }
 
-    /// The profile that the last row says. Nothing where its numbers are outside their ranges, which a unit that was begun never
+    /// The profile that its row says. Nothing where its numbers are outside their ranges, which a unit that was begun never
     /// has.
     pub fn profile(&self) -> Option<Profile> {
-        let [subjects, objects, _, highest_class, high, low, ..] = self.rows[ROWS - 1];
+        let [subjects, objects, _, highest_class, high, low, ..] = self.rows[PROFILE_ROW];
         Profile::new(subjects, objects, highest_class, u16::from_be_bytes([high, low]))
     }
 
@@ -110,10 +128,18 @@ impl Unit {
         }
     }
 
-    /// The reply to a byte string of any length and content, below 2 where it is granted; this is the state after it.
+    /// The reply to a byte string of any length and content, below 2 where it is granted; this is the state after it. A request with
+    /// reply 0 can be taken back.
     pub fn ask(&mut self, request: &[u8]) -> u8 {
         // Safety: the unit is whole and apart from the slice, whose pointer comes with its length.
         unsafe { raw::circmon_ask(&mut self.rows, request.as_ptr(), size(request)) }
+    }
+
+    /// Takes back the latest request with reply 0 that is in the journal: 0, and this is the state before that request. Or 17 where
+    /// there is none, and every byte is left. It is no request, and it cannot be taken back itself.
+    pub fn take_back(&mut self) -> u8 {
+        // Safety: the unit is whole.
+        unsafe { raw::circmon_take_back(&mut self.rows) }
     }
 
     /// The image into the first 1,274 bytes of the buffer: 0, or 13 and every byte left where it is shorter.
@@ -137,7 +163,7 @@ impl Unit {
     }
 
     /// Whether the order of these gets matters for the state that is left: pieces of six bytes, a short last one counted. What is
-    /// said of orders holds for a unit that was begun and then only asked.
+    /// said of orders holds for a unit that was begun and then only asked and taken back.
     pub fn clash(&self, requests: &[u8]) -> StartOrder {
         // Safety: the unit is whole, nothing is written, and the pointer comes with the length of its slice.
         StartOrder::new(unsafe { raw::circmon_clash(&self.rows, requests.as_ptr(), size(requests)) })

@@ -1,5 +1,7 @@
-//! A script to the bytes that the program `circmon` reads: 42 bytes of table, then six for each request.
+//! A script to its table and actions, and to the bytes that the program `circmon` reads: 42 bytes of table, then six for each
+//! request.
 
+use crate::action::Action;
 use crate::kinds::{Row, Takes};
 use crate::level::Level;
 use crate::mode::Mode;
@@ -10,12 +12,20 @@ use crate::script::{number, Line, ScriptError, MARK};
 use crate::view::{View, SUBJECTS};
 use circmon::{REQUEST_BYTES, TABLE_BYTES};
 
-/// The bytes of a script, and where in it they stand.
+/// An action with the place of its line.
+#[derive(Clone, Debug, PartialEq, Eq)]
+pub struct Placed {
+    pub action: Action,
+    pub line: usize,
+    column: usize,
+}
+
+/// What a script says, and where in it.
 #[derive(Clone, Debug, PartialEq, Eq)]
 pub struct Assembled {
-    pub bytes: Vec<u8>,
-    /// the line of each request
-    pub lines: Vec<usize>,
+    pub table: Vec<u8>,
+    /// one for each line behind the table
+    pub actions: Vec<Placed>,
     /// the profile, which has no bytes
     pub profile: Option<Stated>,
     /// the line that gives the table by its bytes
@@ -33,19 +43,46 @@ struct Assembly {
     /// the table by its bytes
     table: Option<Vec<u8>>,
     table_line: Option<usize>,
-    requests: Vec<u8>,
-    lines: Vec<usize>,
-    any_request: bool,
+    actions: Vec<Placed>,
+    /// whether a line behind the table was met, also one with an error
+    any_action: bool,
     /// where a piece stood that only the last line may have: nothing may follow it
     last: Option<ScriptError>,
 }
 
 /// The bytes of a script alone.
 pub fn assemble(script: &str) -> Result<Vec<u8>, Vec<ScriptError>> {
-    assembled(script).map(|it| it.bytes)
+    assembled(script)?.bytes()
 }
 
-/// The bytes of a script, or every error in it, in the order of its lines. A byte-order mark before it is left out.
+impl Assembled {
+    /// The table and the requests.
+    pub fn bytes(&self) -> Result<Vec<u8>, Vec<ScriptError>> {
+        Ok([&self.table[..], &self.requests()?].concat())
+    }
+
+    /// The requests one behind the other, or an error for each line that is none.
+    pub fn requests(&self) -> Result<Vec<u8>, Vec<ScriptError>> {
+        let (mut requests, mut errors) = (Vec::new(), Vec::new());
+        for Placed { action, line, column } in &self.actions {
+            match action {
+                Action::Request(bytes) => requests.extend(bytes),
+                Action::TakeBack => {
+                    errors.push(ScriptError { line: *line, column: *column, message: NO_BYTES.to_string() })
+                }
+            }
+        }
+        if errors.is_empty() {
+            Ok(requests)
+        } else {
+            Err(errors)
+        }
+    }
+}
+
+const NO_BYTES: &str = "taking back is no request and has no bytes; 'circtool run' and 'circtool explain' carry it out";
+
+/// What a script says, or every error in it, in the order of its lines. A byte-order mark before it is left out.
 pub fn assembled(script: &str) -> Result<Assembled, Vec<ScriptError>> {
     let mut assembly = Assembly::default();
     let mut errors = Vec::new();
@@ -68,15 +105,13 @@ pub fn assembled(script: &str) -> Result<Assembled, Vec<ScriptError>> {
 
 impl Assembly {
     fn whole(self) -> Assembled {
-        let Assembly { subjects, table, requests, lines, profile, table_line, subject_line, .. } = self;
-        let mut bytes = table.unwrap_or_else(|| View::table(&subjects).to_vec());
-        bytes.extend(requests);
-        Assembled { bytes, lines, profile, table_line, subject_line }
+        let Assembly { subjects, table, actions, profile, table_line, subject_line, .. } = self;
+        let table = table.unwrap_or_else(|| View::table(&subjects).to_vec());
+        Assembled { table, actions, profile, table_line, subject_line }
     }
 
-    fn add(&mut self, line: &Line, bytes: &[u8]) {
-        self.requests.extend(bytes);
-        self.lines.push(line.number);
+    fn add(&mut self, line: &Line, action: Action) {
+        self.actions.push(Placed { action, line: line.number, column: line.start() });
     }
 
     fn line(&mut self, line: &mut Line) -> Result<(), ScriptError> {
@@ -85,11 +120,12 @@ impl Assembly {
             Some("subject") => self.subject(line),
             Some("table-bytes") => self.table_bytes(line),
             Some("bytes") => self.raw(line),
+            Some("take") => self.take_back(line),
             _ => {
                 // a line with an error further on is a request too: the subjects stand before it
-                self.any_request |= line.peek().is_some_and(|word| numbered(word.text, 's', SUBJECTS).is_some());
+                self.any_action |= line.peek().is_some_and(|word| numbered(word.text, 's', SUBJECTS).is_some());
                 let bytes = request(line)?.encode();
-                self.add(line, &bytes);
+                self.add(line, Action::Request(bytes.to_vec()));
                 Ok(())
             }
         }
@@ -99,8 +135,8 @@ impl Assembly {
         if self.profile.is_some() {
             return Err(line.error("the profile stands once".to_string()));
         }
-        if self.subject_line.is_some() || self.table.is_some() || self.any_request {
-            return Err(line.error("the profile stands before the subjects and the requests".to_string()));
+        if self.subject_line.is_some() || self.table.is_some() || self.any_action {
+            return Err(line.error("the profile stands before the subjects, the requests and takings-back".to_string()));
         }
         line.keyword("profile")?;
         self.profile = Some(Stated { line: line.number, profile: profile(line)? });
@@ -108,8 +144,8 @@ impl Assembly {
     }
 
     fn subject(&mut self, line: &mut Line) -> Result<(), ScriptError> {
-        if self.any_request {
-            return Err(line.error("the subjects stand before the first request".to_string()));
+        if self.any_action {
+            return Err(line.error("the subjects stand before the first request or taking-back".to_string()));
         }
         if self.table.is_some() {
             return Err(line.error("expected no subject, since table-bytes gives the whole table".to_string()));
@@ -126,7 +162,7 @@ impl Assembly {
     }
 
     fn table_bytes(&mut self, line: &mut Line) -> Result<(), ScriptError> {
-        if self.subject_line.is_some() || self.any_request || self.table.is_some() {
+        if self.subject_line.is_some() || self.any_action || self.table.is_some() {
             return Err(line.error("table-bytes gives the whole table and stands first, once".to_string()));
         }
         self.table = Some(Vec::new());
@@ -152,7 +188,7 @@ impl Assembly {
     }
 
     fn raw(&mut self, line: &mut Line) -> Result<(), ScriptError> {
-        self.any_request = true;
+        self.any_action = true;
         line.keyword("bytes")?;
         let bytes = hex_bytes(line, REQUEST_BYTES)?;
         if bytes.len() < REQUEST_BYTES {
@@ -162,7 +198,16 @@ impl Assembly {
                 bytes.len()
             )));
         }
-        self.add(line, &bytes);
+        self.add(line, Action::Request(bytes));
+        Ok(())
+    }
+
+    fn take_back(&mut self, line: &mut Line) -> Result<(), ScriptError> {
+        self.any_action = true;
+        line.keyword("take")?;
+        line.keyword("back")?;
+        line.finish()?;
+        self.add(line, Action::TakeBack);
         Ok(())
     }
 }
@@ -188,7 +233,7 @@ const VERBS: &str = "a request (create, get, release, give, rescind, delete or l
 
 /// `s1 get r o0` and the others: the parts that the kind uses, each in its place.
 fn request(line: &mut Line) -> Result<Request, ScriptError> {
-    let first = "a subject (s0 to s15), 'profile', 'subject', 'bytes' or 'table-bytes'";
+    let first = "a subject (s0 to s15), 'take back', 'profile', 'subject', 'bytes' or 'table-bytes'";
     let actor = line.take(first, |word| numbered(word, 's', SUBJECTS))?;
     let row = line.take(VERBS, Row::of_name)?;
     let mut parts = Parts::NONE;

@@ -1,16 +1,17 @@
 //! A unit begun from an input: a script, or bytes as the program `circmon` reads them.
 
+use crate::action::Action;
 use crate::input::{assembled, form, is_text, Form, Input};
 use crate::outcome::{refused, trouble, Step};
 use crate::profile::{one_of, Profile};
 use crate::refusal;
 use circmon::{Unit, IMAGE_BYTES, TABLE_BYTES};
 
-/// A unit begun from the table of a script or of bytes, and the requests behind it.
+/// A unit begun from the table of a script or of bytes, and the actions behind it.
 pub struct Begun {
     pub unit: Unit,
-    pub requests: Vec<u8>,
-    /// the line of each request in the script; none where the input is bytes
+    pub actions: Vec<Action>,
+    /// the line of each action in the script; none where the input is bytes
     pub lines: Vec<usize>,
 }
 
@@ -21,8 +22,9 @@ pub fn begin(input: &Input, asked: Option<Form>, given: Option<Profile>) -> Step
         Form::Script => begin_script(input, given),
         Form::Bytes if asked.is_none() && is_image(&input.bytes) => Err(trouble(image_message(&input.name))),
         Form::Bytes => {
-            let (unit, requests) = begin_table(given.unwrap_or(Profile::WIDEST), &input.name, &input.bytes)?;
-            Ok(Begun { unit, requests, lines: Vec::new() })
+            let (table, requests) = input.bytes.split_at(input.bytes.len().min(TABLE_BYTES));
+            let unit = begin_table(given.unwrap_or(Profile::WIDEST), &input.name, table)?;
+            Ok(Begun { unit, actions: Action::all_in(requests), lines: Vec::new() })
         }
     }
 }
@@ -32,16 +34,13 @@ fn begin_script(input: &Input, given: Option<Profile>) -> Step<Begun> {
     let script = assembled(input).map_err(trouble)?;
     let profile = one_of(given, script.profile, &input.name).map_err(trouble)?;
     let name = script.table_line.map_or(input.name.clone(), |line| format!("{}:{line}", input.name));
-    let (unit, requests) = begin_table(profile, &name, &script.bytes)?;
-    Ok(Begun { unit, requests, lines: script.lines })
+    let unit = begin_table(profile, &name, &script.table)?;
+    let (actions, lines) = script.actions.into_iter().map(|it| (it.action, it.line)).unzip();
+    Ok(Begun { unit, actions, lines })
 }
 
-fn begin_table(profile: Profile, name: &str, bytes: &[u8]) -> Step<(Unit, Vec<u8>)> {
-    let (table, requests) = bytes.split_at(bytes.len().min(TABLE_BYTES));
-    match Unit::from_table_in(profile, table) {
-        Ok(unit) => Ok((unit, requests.to_vec())),
-        Err(number) => Err(refused(refusal::of_table(profile, name, table, number))),
-    }
+fn begin_table(profile: Profile, name: &str, table: &[u8]) -> Step<Unit> {
+    Unit::from_table_in(profile, table).map_err(|number| refused(refusal::of_table(profile, name, table, number)))
 }
 
 /// 1,274 bytes are 42 of a table, 205 requests and two bytes too many: a whole run never has them.

@@ -5,7 +5,7 @@ use crate::begin::{begin, image_message, is_image, Begun};
 use crate::compare::{compare, Comparison, Named};
 use crate::disassemble::disassemble;
 use crate::explain::explain;
-use crate::input::{assembled, form, is_text, read, Form, Input};
+use crate::input::{assembled, error_lines, form, is_text, read, Form, Input};
 use crate::orders::{orders, Gets, Orders};
 use crate::outcome::{bad_usage, refused, trouble, Outcome, Step, REFUSED, TROUBLE};
 use crate::paint::Paint;
@@ -13,7 +13,7 @@ use crate::profile::{self, one_of, Profile};
 use crate::show::show;
 use crate::view::View;
 use crate::{help, load, page, refusal, save};
-use circmon::{Unit, IMAGE_BYTES, REQUEST_BYTES};
+use circmon::{Unit, IMAGE_BYTES};
 use std::ffi::{OsStr, OsString};
 use std::io::{ErrorKind, Read, Write};
 
@@ -104,7 +104,8 @@ fn given(name: &str, arguments: &Arguments) -> Step<Option<Profile>> {
     profile::asked(arguments).map_err(|message| bad_usage(name, message))
 }
 
-/// The bytes of a script. A profile is not in them, and only the widest one is that under which `circmon` runs them.
+/// The bytes of a script. A profile is not in them, and only the widest one is that under which `circmon` runs them; nor is a
+/// taking-back.
 fn asm(arguments: &Arguments, standard_input: &mut dyn Read) -> Step<Outcome> {
     let input = read(arguments.file(), standard_input).map_err(trouble)?;
     let script = assembled(&input).map_err(trouble)?;
@@ -114,7 +115,7 @@ fn asm(arguments: &Arguments, standard_input: &mut dyn Read) -> Step<Outcome> {
              'circtool run' and 'circtool explain' run this script\n",
             input.name, stated.line
         ))),
-        _ => Ok(Outcome::fine(script.bytes)),
+        _ => Ok(Outcome::fine(script.bytes().map_err(|errors| trouble(error_lines(&input.name, &errors)))?)),
     }
 }
 
@@ -160,7 +161,7 @@ fn other_form(input: &Input, asked: Option<Form>) -> &'static str {
 
 fn explain_run(arguments: &Arguments, standard_input: &mut dyn Read, paint: Paint) -> Step<Outcome> {
     let mut begun = begin_run("explain", arguments, standard_input)?;
-    Ok(Outcome::fine(explain(&mut begun.unit, &begun.requests, &begun.lines, paint)))
+    Ok(Outcome::fine(explain(&mut begun.unit, &begun.actions, &begun.lines, paint)))
 }
 
 fn run(arguments: &Arguments, standard_input: &mut dyn Read) -> Step<Outcome> {
@@ -168,15 +169,15 @@ fn run(arguments: &Arguments, standard_input: &mut dyn Read) -> Step<Outcome> {
     if let Some(out) = out {
         may_write(out, arguments.file())?;
     }
-    let Begun { mut unit, requests, .. } = begin_run("run", arguments, standard_input)?;
-    let replies: String = requests.chunks(REQUEST_BYTES).map(|piece| format!("{}\n", unit.ask(piece))).collect();
+    let Begun { mut unit, actions, .. } = begin_run("run", arguments, standard_input)?;
+    let numbers: String = actions.iter().map(|action| format!("{}\n", action.carry_out(&mut unit))).collect();
     if let Some(out) = out {
         save::whole(out, &unit.image()).map_err(|error| {
             let name = out.to_string_lossy();
             trouble(format!("circtool: cannot write {name}: {error}\n"))
         })?;
     }
-    Ok(Outcome::fine(replies))
+    Ok(Outcome::fine(numbers))
 }
 
 /// An image is not mixed into the replies on standard output, and does not take the place of its own input.

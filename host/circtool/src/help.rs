@@ -8,7 +8,7 @@ Usage: circtool SUBCOMMAND [OPTIONS] [FILE]
   asm      a script to the bytes that the program circmon reads
   dis      bytes back to a script, exactly
   explain  a run: each request and reply in words, and why it was refused
-  run      a run: one reply for each request; can write the image after it
+  run      a run: one number for each request and taking-back; can write the image after it
   show     the state in an image
   page     the access page of an object in an image
   load     a test load from a seed, as a script or as bytes
@@ -20,7 +20,8 @@ Usage: circtool SUBCOMMAND [OPTIONS] [FILE]
 Where no file or '-' is given, standard input is read; 'page' with objects needs the image or '-' before them, and
 'load' reads only what --table names. No image says the profile of its site: where that is not the widest, '--profile'
 gives it to 'show', 'page', 'compare' and 'orders', and for bytes to 'run' and 'explain'.
-Every reply, acceptance, page, load, comparison of two levels and answer on orders comes from the proved library.
+Every reply, taking-back, acceptance, page, load, comparison of two levels and answer on orders comes from the proved
+library.
 
 Exit status: 0 fine; 1 a table, image or load is refused, an object is not live, two images differ, or the order of gets
 matters; 2 usage, or input that cannot be read.
@@ -43,6 +44,7 @@ the needs. What is outside it in a request gets 2.
   s1 get r o0                      s1 release r o0
   s1 give s0 r o1                  s1 rescind s0 r o1
   s1 delete o0
+  take back                        takes back the latest request with reply 0; for 'run' and 'explain'
   bytes 50 80 00 00 00 01          six raw bytes in hexadecimal; fewer only in the last line
   table-bytes 88 00 ..             the table by its 42 bytes, in place of the subjects; fewer (or 'none') only where
                                    no request follows
@@ -52,7 +54,7 @@ Subjects are 0 to 15, objects 0 to 63, classes and needs 0 to 15, modes r, w, a,
 is left out.
 
 A profile has no bytes, and circmon runs under the widest one, which a script without a profile has too: a script with
-another is not written.
+another is not written. Nor is one with 'take back': taking back is no request and has no bytes.
 
 Example: circtool asm examples/marked-run.circ | target/bin/circmon
 ('rt check circmon', in the root of the repository, proves and builds the program circmon.)
@@ -81,6 +83,9 @@ three it says how the one level compares with the other, 'below' (only the other
 does), and what is missing: the class, needs, or both. A level that is equal to the other or above it dominates it, and
 that is not refused. Of what is outside the profile it says what is in use.
 
+A script may take back requests, with the line 'take back'. It says which request that was and what its object is again;
+or, with 17, that there is none to take back. Up to 32 requests with reply 0 can be taken back, the latest first.
+
 The input is a script or bytes as circmon reads them. Without a flag the first byte decides: 00, 80 to FF, or no byte at
 all is bytes, any other a script, and so is what begins with a byte-order mark. An accepted table is never taken for a
 script. 1,274 bytes are an image and are not run. circmon stops after 4,096 requests, circtool does not. Where the input
@@ -98,8 +103,9 @@ errors in the script.
 pub const RUN: &str = "\
 Usage: circtool run [--script | --bytes] [--profile PROFILE] [--image OUT] [FILE]
 
-Runs the requests and prints one reply for each, as circmon does. With --image the image after the run is written to the
-file OUT, whole or not at all, for 'circtool show' and 'circtool compare'. Where the input is bad, OUT is as it was.
+Runs the requests and prints one reply for each, as circmon does; for a line 'take back' of a script 0, or 17 where
+there is nothing to take back. With --image the image after the run is written to the file OUT, whole or not at all, for
+'circtool show' and 'circtool compare'. What was taken back is not in it. Where the input is bad, OUT is as it was.
 
 The input is a script or bytes as circmon reads them. Without a flag the first byte decides: 00, 80 to FF, or no byte at
 all is bytes, any other a script, and so is what begins with a byte-order mark. 1,274 bytes are an image and not run.
@@ -160,8 +166,8 @@ same seed gives the same requests everywhere, and a longer load begins with a sh
 request is well formed under the widest profile, and a script with another is no table for it; most are refused, since
 every field is drawn.
 
-  --table FILE   puts the subjects of FILE in front: those of a script, whose requests are left out, or those of a table
-                 in bytes; '-' is standard input
+  --table FILE   puts the subjects of FILE in front: those of a script, whose other lines are left out, or those of a
+                 table in bytes; '-' is standard input
   --bytes        writes bytes: with --table what circmon reads, 42 bytes of table, then six bytes for each request;
                  without it the requests alone, to be put behind a table
 
@@ -201,8 +207,8 @@ break the star property. It says which label would have to dominate which and ho
 that begin with these gets their replies and where the states that they leave differ. Where there are no two such gets,
 all orders leave equal states. Both are proved.
 
-SCRIPT has one get on a line, as 's1 get r o0', and no subject, since the image says who is enrolled. It may state the
-profile of the monitor that wrote the image.
+SCRIPT has one get on a line, as 's1 get r o0', and no subject, since the image says who is enrolled. It takes nothing
+back. It may state the profile of the monitor that wrote the image.
 
   --bytes             SCRIPT is bytes, six for each get, without a table
   --profile PROFILE   the profile, where the script does not state it: as in a script, in one word of the command line,

@@ -75,7 +75,7 @@ fn not_text(bytes: &[u8], at: usize) -> ScriptError {
     ScriptError { line, column, message: format!("expected UTF-8 text, found the byte {:02X}", bytes[at]) }
 }
 
-fn error_lines(name: &str, errors: &[ScriptError]) -> String {
+pub fn error_lines(name: &str, errors: &[ScriptError]) -> String {
     let mut lines: String = errors.iter().take(MOST_ERRORS).map(|error| format!("{name}:{error}\n")).collect();
     if errors.len() > MOST_ERRORS {
         lines.push_str(&format!("{name}: and {} more errors\n", errors.len() - MOST_ERRORS));

@@ -1,7 +1,8 @@
-//! What the command `circtool` is made of. Every reply, acceptance, page, load, comparison of two levels and answer on the order
-//! of gets comes from the proved library through the crate `circmon`; what stands here reads bytes and scripts, finds the words
-//! for them, and prints.
+//! What the command `circtool` is made of. Every reply, taking-back, acceptance, page, load, comparison of two levels and answer
+//! on the order of gets comes from the proved library through the crate `circmon`; what stands here reads bytes and scripts,
+//! finds the words for them, and prints.
 
+pub mod action;
 mod arguments;
 pub mod assemble;
 mod begin;
@@ -32,5 +33,6 @@ pub mod request;
 mod save;
 pub mod script;
 pub mod show;
+pub mod taking_back;
 pub mod view;
 pub mod words;

@@ -5,7 +5,7 @@ use crate::cause::after;
 use crate::compare::Named;
 use crate::difference::differences;
 use crate::explain::{step, Step};
-use crate::input::{assembled, Input};
+use crate::input::{assembled, error_lines, Input};
 use crate::paint::Paint;
 use crate::profile::{Profile, Stated};
 use crate::properties::{self, Pair};
@@ -13,7 +13,7 @@ use crate::refusal;
 use crate::request::{reasons_words, Malformed, Request};
 use crate::view::View;
 use crate::words::{bytes_words, count, reply_words, wrapped};
-use circmon::{StartOrder, Unit, MOST_GETS, REQUEST_BYTES, TABLE_BYTES};
+use circmon::{StartOrder, Unit, MOST_GETS, REQUEST_BYTES};
 
 /// The name of the theorem in docs/THEOREMS.md, as `compare` cites its own.
 const PROVED: &str = "This is proved: docs/THEOREMS.md, start order of tasks.";
@@ -42,8 +42,9 @@ impl Gets {
                 Err(format!("{name}:{line}: expected gets alone, found {what}: the image says who is enrolled\n"))
             }
             None => {
-                let requests = script.bytes[TABLE_BYTES..].to_vec();
-                Ok(Gets { name, requests, lines: script.lines, profile: script.profile })
+                let requests = script.requests().map_err(|errors| error_lines(&name, &errors))?;
+                let lines = script.actions.iter().map(|it| it.line).collect();
+                Ok(Gets { name, requests, lines, profile: script.profile })
             }
         }
     }

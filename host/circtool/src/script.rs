@@ -119,10 +119,14 @@ impl<'a> Line<'a> {
         ScriptError { line: self.number, column, message }
     }
 
+    /// The column of the first word of the line.
+    pub fn start(&self) -> usize {
+        self.words.first().map_or(1, |word| word.column)
+    }
+
     /// An error at the first word of the line.
     pub fn error_at_start(&self, message: String) -> ScriptError {
-        let column = self.words.first().map_or(1, |word| word.column);
-        ScriptError { line: self.number, column, message }
+        ScriptError { line: self.number, column: self.start(), message }
     }
 }
 

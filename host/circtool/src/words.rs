@@ -21,28 +21,29 @@ pub fn hex(bytes: &[u8]) -> String {
     bytes.iter().map(|byte| format!("{byte:02X}")).collect::<Vec<_>>().join(" ")
 }
 
-/// A number, its words as the reply to a request, as that of a refused table or image, and as that of a refused load; nothing
-/// where it is none.
-type Row = (u8, &'static str, &'static str, &'static str);
+/// A number, its words as the reply to a request, as that of a refused table or image, as that of a refused load, and as that of a
+/// taking-back; nothing where it is none.
+type Row = (u8, &'static str, &'static str, &'static str, &'static str);
 
-const NUMBERS: [Row; 17] = [
-    (0, "granted, the state changed", "", ""),
-    (1, "granted, it was so already", "", ""),
-    (2, "refused: malformed", "", ""),
-    (3, "refused: not enrolled", "", ""),
-    (4, "refused: the object is not live", "", ""),
-    (5, "refused: the object is live already", "", ""),
-    (6, "refused: right or ownership missing", "an access is held outside the matrix", ""),
-    (7, "refused: no label", "r, w or a is held on an object without a label", ""),
-    (8, "refused: the simple property would break", "the simple property is broken", ""),
-    (9, "refused: the star property would break", "the star property is broken", ""),
-    (10, "", "another length", ""),
-    (11, "", "a bit is set in what is absent", ""),
-    (12, "", "an absent subject owns, has a right or holds", ""),
-    (13, "", "the buffer is too short", ""),
-    (14, "refused: the new label does not dominate the old", "", ""),
-    (15, "", "", "the seed is 0"),
-    (16, "", "a clearance or label is outside the profile", ""),
+const NUMBERS: [Row; 18] = [
+    (0, "granted, the state changed", "", "", "taken back"),
+    (1, "granted, it was so already", "", "", ""),
+    (2, "refused: malformed", "", "", ""),
+    (3, "refused: not enrolled", "", "", ""),
+    (4, "refused: the object is not live", "", "", ""),
+    (5, "refused: the object is live already", "", "", ""),
+    (6, "refused: right or ownership missing", "an access is held outside the matrix", "", ""),
+    (7, "refused: no label", "r, w or a is held on an object without a label", "", ""),
+    (8, "refused: the simple property would break", "the simple property is broken", "", ""),
+    (9, "refused: the star property would break", "the star property is broken", "", ""),
+    (10, "", "another length", "", ""),
+    (11, "", "a bit is set in what is absent", "", ""),
+    (12, "", "an absent subject owns, has a right or holds", "", ""),
+    (13, "", "the buffer is too short", "", ""),
+    (14, "refused: the new label does not dominate the old", "", "", ""),
+    (15, "", "", "the seed is 0", ""),
+    (16, "", "a clearance or label is outside the profile", "", ""),
+    (17, "", "", "", "refused: the journal is empty"),
 ];
 
 /// The words of a number in one column of the table.
@@ -63,6 +64,11 @@ pub fn refusal_words(number: u8) -> String {
 /// The cause of a refused load with its number: `15 (the seed is 0)`.
 pub fn load_words(number: u8) -> String {
     format!("{number} ({})", words_of(number, |row| row.3).unwrap_or("a number that no load gets"))
+}
+
+/// The number of a taking-back: `17 refused: the journal is empty`.
+pub fn taken_back_words(number: u8) -> String {
+    format!("{number} {}", words_of(number, |row| row.4).unwrap_or("a number that no taking-back gets"))
 }
 
 /// `1 object`, `2 objects`.
@@ -108,5 +114,6 @@ mod tests {
         assert_eq!(numbers(reply_words), (0..=9).chain([14]).collect::<Vec<u8>>());
         assert_eq!(numbers(refusal_words), (6..=13).chain([16]).collect::<Vec<u8>>());
         assert_eq!(numbers(load_words), [15]);
+        assert_eq!(numbers(taken_back_words), [0, 17]);
     }
 }

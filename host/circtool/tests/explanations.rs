@@ -4,6 +4,7 @@ mod shared;
 
 use circmon::Level;
 use circmon::Unit;
+use circtool::action::Action;
 use circtool::cause::{after, judge, By, Cause, Missing, Verdict};
 use circtool::explain::{explain, step};
 use circtool::mode::Modes;
@@ -141,8 +142,8 @@ fn causes_found_along_runs_are_the_library_s_and_are_so() {
 fn steps(script: &str) -> Vec<(u8, String)> {
     let bytes = circtool::assemble::assemble(script).unwrap();
     let mut unit = Unit::from_table(&bytes[..42]).unwrap();
-    let steps = circtool::explain::steps(&mut unit, &bytes[42..]);
-    steps.into_iter().map(|step| (step.reply, step.reason.unwrap_or_default())).collect()
+    let steps = bytes[42..].chunks(6).map(|piece| step(&mut unit, piece));
+    steps.map(|step| (step.reply, step.reason.unwrap_or_default())).collect()
 }
 
 const SUBJECTS: &str = "subject 0 class 1 needs {0}\nsubject 1 class 3 needs {0,1}\nsubject 2 class 3 needs {}\n";
@@ -222,7 +223,7 @@ fn star_names_the_subject_and_both_objects() {
 fn a_lowered_label_is_named_with_the_old_one() {
     let labelled = "s1 create o0\ns1 level o0 class 2 needs {0}\ns1 get r o0\n";
     let old = "the label of o0 (class 2 needs {0})";
-    let end = "a label only rises, and of all requests only a delete ends it";
+    let end = "a label only rises, and of all requests only a delete ends it; taking back is no request";
     for (level, why) in [
         (
             "class 0 needs {}",
@@ -244,7 +245,8 @@ fn a_lowered_label_is_named_with_the_old_one() {
 fn colour_adds_no_word() {
     let script = std::fs::read_to_string(shared::root().join("examples/lobby-display.circ")).unwrap();
     let bytes = circtool::assemble::assemble(&script).unwrap();
-    let text = |paint| explain(&mut Unit::from_table(&bytes[..42]).unwrap(), &bytes[42..], &[], paint);
+    let actions = Action::all_in(&bytes[42..]);
+    let text = |paint| explain(&mut Unit::from_table(&bytes[..42]).unwrap(), &actions, &[], paint);
     let coloured = text(Paint::COLOURED);
     assert!(coloured.contains("\x1b[31m7 refused: no label\x1b[0m"), "{coloured}");
     assert_eq!(shared::without_colour(&coloured), text(Paint::PLAIN));

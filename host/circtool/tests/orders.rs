@@ -144,7 +144,7 @@ fn the_image_or_the_script_on_standard_input() {
 }
 
 /// Scripts that are no list of gets, and what is said of them behind the name of the file.
-const NO_GETS: [(&str, &str); 9] = [
+const NO_GETS: [(&str, &str); 10] = [
     ("s0 get r o0\ns0 get a o1\ns0 release r o0\n", "3: expected a get, found 's0 releases r on o0'"),
     ("# why\n\ns0 get r o0\ns0 create o9 with e\ns0 delete o9\n", "4: expected a get, found 's0 creates o9 with e'"),
     ("s0 level o0 class 2 needs {}", "1: expected a get, found 's0 changes the level of o0 to class 2 needs {}'"),
@@ -158,8 +158,12 @@ const NO_GETS: [(&str, &str); 9] = [
         "2: expected gets alone, found a subject: the image says who is enrolled",
     ),
     ("table-bytes none", "1: expected gets alone, found a table: the image says who is enrolled"),
-    ("s0 get r o0\nsubject 1 class 0 needs {}\n", "2:1: the subjects stand before the first request"),
+    ("s0 get r o0\nsubject 1 class 0 needs {}\n", "2:1: the subjects stand before the first request or taking-back"),
     ("s0 get x o0\n", "1:8: expected a mode (r, w, a or e), found 'x'"),
+    (
+        "s0 get r o0\n  take back\n",
+        "2:3: taking back is no request and has no bytes; 'circtool run' and 'circtool explain' carry it out",
+    ),
 ];
 
 #[test]

@@ -34,14 +34,15 @@ fn every_profile_is_read_as_it_is_written() {
         let line = format!("# a plant\n\n  profile {} # why\n{SUBJECTS}{REQUESTS}", profile_words(profile));
         let script = assembled(&line).unwrap();
         assert_eq!(script.profile.map(|it| (it.line, it.profile)), Some((3, profile)), "{line}");
-        assert_eq!(Ok(script.bytes), assemble(&format!("{SUBJECTS}{REQUESTS}")), "a profile has no bytes");
+        assert_eq!(script.bytes(), assemble(&format!("{SUBJECTS}{REQUESTS}")), "a profile has no bytes");
     }
     assert_eq!(assembled(SUBJECTS).unwrap().profile, None);
 }
 
 #[test]
 fn errors_of_a_profile() {
-    let (first, once) = ("the profile stands before the subjects and the requests", "the profile stands once");
+    let (first, once) =
+        ("the profile stands before the subjects, the requests and takings-back", "the profile stands once");
     for (script, error) in [
         ("profile", "1:8: expected 'subjects', found the end of the line".to_string()),
         ("profile 4 10 3 {}", "1:9: expected 'subjects', found '4'".to_string()),

@@ -48,7 +48,7 @@ fn errors(script: &str) -> Vec<String> {
 
 #[test]
 fn errors_of_requests() {
-    let first = "expected a subject (s0 to s15), 'profile', 'subject', 'bytes' or 'table-bytes'";
+    let first = "expected a subject (s0 to s15), 'take back', 'profile', 'subject', 'bytes' or 'table-bytes'";
     let verbs = "expected a request (create, get, release, give, rescind, delete or level)";
     for (line, error) in [
         ("s1 get x o0", "1:8: expected a mode (r, w, a or e), found 'x'".to_string()),
@@ -114,7 +114,7 @@ fn only_the_white_space_of_ascii_stands_between_words() {
     for spaced in ["\tsubject 1  class\t3 needs{ 0 , 1 }\r\n", "\x0csubject 1 class 3 needs {0,\t1} \n"] {
         assert_eq!(assemble(spaced).unwrap(), plain, "{spaced:?}");
     }
-    let first = "expected a subject (s0 to s15), 'profile', 'subject', 'bytes' or 'table-bytes'";
+    let first = "expected a subject (s0 to s15), 'take back', 'profile', 'subject', 'bytes' or 'table-bytes'";
     for (script, error) in [
         ("s1\u{a0}get r o0", format!("1:1: {first}, found 's1<U+00A0>get'")),
         ("\u{a0}s1 get r o0", format!("1:1: {first}, found '<U+00A0>s1'")),
@@ -144,7 +144,10 @@ fn errors_of_subjects_and_bytes() {
         ("subject s1 class 0 needs {}", "1:9: expected a subject number (0 to 15), found 's1'".to_string()),
         ("subject 1 class 0", "1:18: expected 'needs', found the end of the line".to_string()),
         ("subject 1 class 0 needs {1}\n\nsubject 1 class 2 needs {1}", "3:9: this subject stands twice".to_string()),
-        ("s1 create o0\nsubject 1 class 0 needs {1}", "2:1: the subjects stand before the first request".to_string()),
+        (
+            "s1 create o0\nsubject 1 class 0 needs {1}",
+            "2:1: the subjects stand before the first request or taking-back".to_string(),
+        ),
         ("bytes", "1:6: expected a byte (two hexadecimal digits), found the end of the line".to_string()),
         ("bytes 5", "1:7: expected a byte (two hexadecimal digits), found '5'".to_string()),
         ("bytes +5", "1:7: expected a byte (two hexadecimal digits), found '+5'".to_string()),

@@ -3,6 +3,7 @@
 
 mod bits;
 mod image;
+mod journal;
 mod level;
 mod load;
 mod marked;
@@ -17,6 +18,7 @@ mod star;
 mod start_order;
 
 pub use image::{IMAGE_BYTES, TABLE_BYTES};
+pub use journal::{Journaled, MOST_ENTRIES};
 pub use level::{Comparison, Level};
 pub use load::{write_load, Xorshift};
 pub use marked::{marked_run, table_w};
@@ -30,7 +32,7 @@ pub use request::{Kind, Request, REQUEST_BYTES};
 pub use star::Star;
 pub use start_order::{orders, Get, StartOrder, MOST_GETS};
 
-/// The numbers that requests, readings, writings and loads return.
+/// The numbers that requests, takings-back, readings, writings and loads return.
 pub mod reply {
     pub const CHANGED: u8 = 0;
     pub const ALREADY: u8 = 1;
@@ -52,8 +54,12 @@ pub mod reply {
     pub const SEED_0: u8 = 15;
     /// a profile outside its ranges, or a clearance or label outside the profile
     pub const PROFILE: u8 = 16;
+    /// nothing to take back
+    pub const EMPTY_JOURNAL: u8 = 17;
 }
 
+#[cfg(test)]
+mod journal_tests;
 #[cfg(test)]
 mod profile_tests;
 #[cfg(test)]

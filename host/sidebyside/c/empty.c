@@ -16,6 +16,7 @@ int main(void) {
     printf(" %d\n", circmon_start_in(&unit, 1, 65, 0, 0, NULL, 0));
     circmon_start(&unit, table, sizeof table);
     printf("ask %d\n", circmon_ask(&unit, NULL, 0));
+    printf("take_back %d\n", circmon_take_back(&unit));
     printf("save %d\n", circmon_save(&unit, NULL, 0));
     printf("page %d", circmon_page(&unit, 64, NULL, 0));
     printf(" %d", circmon_page(&unit, 0, NULL, 0));

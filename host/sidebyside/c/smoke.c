@@ -54,6 +54,27 @@ static void raised(const uint8_t *image, circmon_size length) {
     printf(" %d\n", circmon_request(copy, sizeof copy, requests[2], sizeof requests[2]));
 }
 
+/* Subject 1 deletes object 0. */
+static const uint8_t deletion[CIRCMON_REQUEST_BYTES] = {0x60, 0x80, 0, 0, 0, 0};
+
+/* A label that rose and a delete are taken back, and then nothing is left to take back: the unit is as it was opened. */
+static void taken_back(const uint8_t *image, circmon_size length) {
+    circmon_unit unit, opened;
+    uint8_t saved[CIRCMON_IMAGE_BYTES];
+    circmon_open(&opened, image, length);
+    memcpy(&unit, &opened, sizeof unit);
+    printf("raised %d", circmon_ask(&unit, raise, sizeof raise));
+    printf(", deleted %d", circmon_ask(&unit, deletion, sizeof deletion));
+    printf(", gone %d", circmon_ask(&unit, requests[1], sizeof requests[1]));
+    printf(", taken back %d", circmon_take_back(&unit));
+    printf(" %d", circmon_ask(&unit, requests[2], sizeof requests[2]));
+    printf(" %d", circmon_take_back(&unit));
+    printf(" %d\n", circmon_take_back(&unit));
+    circmon_save(&unit, saved, sizeof saved);
+    printf("as opened %d", memcmp(&unit, &opened, CIRCMON_MONITOR_BYTES) == 0);
+    printf(" %d\n", memcmp(saved, image, sizeof saved) == 0);
+}
+
 /* Subject 1 creates object 1 and gives it class 3 needs {0,1}, which is above the label of object 0. */
 static const uint8_t second[2][CIRCMON_REQUEST_BYTES] = {{0x50, 0x80, 0x08, 0, 0, 0}, {0x70, 0x80, 0x08, 0x30, 0, 0x30}};
 /* Subject 1 gets r on object 1, r on object 0 and a on object 0; the first and the last would together break star. */
@@ -100,7 +121,7 @@ static void profiles(void) {
     printf(" %d\n", circmon_save(&unit, image, sizeof image));
     printf("open_in %d", circmon_open_in(&again, 1, 1, 3, 0x0003, image, sizeof image));
     printf(" %d", circmon_open_in(&again, 2, 1, 3, 0x0003, image, sizeof image));
-    printf(" %d\n", memcmp(&unit, &again, sizeof unit) == 0);
+    printf(" %d\n", memcmp(&unit, &again, CIRCMON_MONITOR_BYTES) == 0);
     printf("distinguish_in %d", circmon_distinguish_in(2, 0, 3, 0x0003, image, sizeof image, image, sizeof image, telling, sizeof telling));
     printf(" %d\n", circmon_distinguish_in(2, 1, 3, 0x0003, image, sizeof image, image, sizeof image, telling, sizeof telling));
 }
@@ -124,6 +145,7 @@ int main(void) {
     on_an_image(image, sizeof image);
     printf("the same image %d\n", memcmp(saved, image, sizeof image) == 0);
     raised(image, sizeof image);
+    taken_back(image, sizeof image);
     start_orders(image, sizeof image);
     profiles();
     printf("replay %d\n", circmon_replay(table, sizeof table, requests[0], sizeof requests, replies, sizeof replies));

@@ -76,6 +76,7 @@ static void *open_unit(void *unused) { answer = circmon_open(&unit, image, sizeo
 static void *start(void *unused) { answer = circmon_start(&unit, table, sizeof table); return unused; }
 static void *open_in(void *unused) { answer = circmon_open_in(&unit, SUBJECTS, OBJECTS, 15, 0xFFFF, image, sizeof image); return unused; }
 static void *start_in(void *unused) { answer = circmon_start_in(&unit, SUBJECTS, OBJECTS, 15, 0xFFFF, table, sizeof table); return unused; }
+static void *take_back(void *unused) { answer = circmon_take_back(&unit); return unused; }
 static void *save(void *unused) { answer = circmon_save(&unit, written, sizeof written); return unused; }
 static void *page(void *unused) { answer = circmon_page(&unit, OBJECTS - 1, text, sizeof text); return unused; }
 static void *clash(void *unused) { answer = (uint8_t)circmon_clash(&unit, wanted[0], sizeof wanted); return unused; }
@@ -118,7 +119,8 @@ static size_t depth(void *(*work)(void *)) {
 
 int main(void) {
     const struct { const char *name; void *(*work)(void *); } rows[] = {
-        {"circmon_open", open_unit}, {"circmon_start", start}, {"circmon_open_in", open_in}, {"circmon_start_in", start_in}, {"circmon_ask", ask}, {"circmon_save", save},
+        {"circmon_open", open_unit}, {"circmon_start", start}, {"circmon_open_in", open_in}, {"circmon_start_in", start_in}, {"circmon_ask", ask},
+        {"circmon_take_back", take_back}, {"circmon_save", save},
         {"circmon_page", page}, {"circmon_clash", clash}, {"circmon_begin", begin}, {"circmon_read", reading},
         {"circmon_request", level}, {"circmon_replay", replay}, {"circmon_distinguish", distinguish},
         {"circmon_distinguish_in", distinguish_in}, {"circmon_compare", compare}, {"circmon_load", load}};

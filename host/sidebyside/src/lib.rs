@@ -1,7 +1,9 @@
 //! What the tests share: both monitors on one run, dominance, pairs of modes, orders of requests, profiles, the fields of a request, what
-//! the rows of a unit say, the program `circmon`, C programs over the header, and a program with bytes on its standard input.
+//! the rows of a unit say, what can be taken back, the program `circmon`, C programs over the header, and a program with bytes on its standard input.
 
 mod fields;
+pub mod history;
+pub mod journal_rows;
 pub mod level;
 pub mod orders;
 pub mod pair;
@@ -162,7 +164,8 @@ impl Both {
         let reply = self.monitor.request(bytes);
         assert_eq!(self.unit.ask(bytes), reply, "{bytes:02x?}");
         assert_eq!(self.unit.image()[..], image(&self.monitor)[..], "{bytes:02x?}");
-        assert!(reply == 0 || self.unit == before, "{bytes:02x?} gets {reply}, and a byte of the unit is changed");
+        let left = self.unit.rows() == before.rows();
+        assert!(reply == 0 || left, "{bytes:02x?} gets {reply}, and a byte of the unit is changed");
         reply
     }
 }
@@ -174,6 +177,19 @@ pub fn random_rows(random: &mut Random) -> Rows {
     let mut rows = [[0; ROW_BYTES]; ROWS];
     for byte in rows.iter_mut().flatten() {
         *byte = if random.once_in(often) { random.number() as u8 } else { frequent[random.below(frequent.len())] };
+    }
+    rows
+}
+
+/// Any bytes, but most subjects are enrolled, and mostly the profile has more than all subjects, objects and classes: else nearly
+/// every request gets 3 or 2.
+pub fn rows_with_subjects(random: &mut Random) -> Rows {
+    let mut rows = random_rows(random);
+    for row in &mut rows[rows::CLEARANCES..rows::PROFILE] {
+        row[2] = if random.once_in(4) { row[2] } else { 1 };
+    }
+    if !random.once_in(8) {
+        rows[rows::PROFILE].iter_mut().for_each(|byte| *byte |= 0xC0);
     }
     rows
 }

@@ -23,7 +23,7 @@ pub fn after_order<B: AsRef<[u8]> + Debug>(both: &Both, list: &[B], order: &[usi
         replies[place] = both.monitor.request(bytes);
         assert_eq!(both.unit.ask(bytes), replies[place], "{list:02x?} in the order {order:?}, place {place}");
     }
-    assert!(*both.unit.rows() == rows::of(&both.monitor), "{list:02x?} in the order {order:?}");
+    assert!(both.unit == rows::unit(&both.monitor), "{list:02x?} in the order {order:?}");
     After { both, replies }
 }
 

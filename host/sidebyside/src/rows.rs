@@ -1,8 +1,8 @@
 //! What the rows of a unit say, from docs/FORMATS.md: byte 0 of the rest of an object's record is 1 where it is live, byte 1 is
-//! its owner, byte 2 is 1 where a level stands in bytes 3 to 5. The last row has the numbers of subjects and objects of the profile
-//! in the first two bytes, and its highest class and needs as a level.
+//! its owner, byte 2 is 1 where a level stands in bytes 3 to 5. The last row of the monitor has the numbers of subjects and objects of
+//! the profile in the first two bytes, and its highest class and needs as a level. The journal is behind it (`journal_rows`).
 
-use circmon::{Rows, OBJECTS, ROWS, ROW_BYTES, SUBJECTS};
+use circmon::{Rows, Unit, OBJECTS, ROWS, ROW_BYTES, SUBJECTS};
 use reference::{Level, Monitor, Object, Profile};
 
 /// The first row of the accesses held, of the rest of each object's record and of the clearances, and that of the profile; that of
@@ -47,7 +47,12 @@ pub fn monitor_said(rows: &Rows) -> Monitor {
     monitor
 }
 
-/// The rows of a unit that was begun and asked and is in this state: what has no meaning is 0.
+/// A unit in this state, to compare another one with: the journal does not count.
+pub fn unit(monitor: &Monitor) -> Unit {
+    Unit::from_rows(of(monitor))
+}
+
+/// The rows of a unit that was begun in this state: what has no meaning is 0, and so is the journal.
 pub fn of(monitor: &Monitor) -> Rows {
     let mut rows = [[0; ROW_BYTES]; ROWS];
     for (slot, object) in monitor.objects.iter().enumerate() {
@@ -66,7 +71,7 @@ pub fn of(monitor: &Monitor) -> Rows {
     rows
 }
 
-fn level_row(level: Option<Level>) -> [u8; ROW_BYTES] {
+pub fn level_row(level: Option<Level>) -> [u8; ROW_BYTES] {
     let mut row = [0; ROW_BYTES];
     if let Some(Level { class, needs }) = level {
         let [high, low] = needs.to_be_bytes();

@@ -13,6 +13,7 @@ const FOLDER: &str = env!("CARGO_TARGET_TMPDIR");
 const SMOKE: &str = "start 0\nask 0\nask 7\nask 0\nshort 13\nsave 0\nopen 0\nask 1\n\
     page 2 4 13 0\n01 rwa- ---- 0\nto 00 00 00 00 00\nee\n\
     begin 0\nrequest 0\nrequest 7\nrequest 0\nread 0\nshort 13\nthe same image 1\nraised 0 0\nlowered 14 14\n\
+    raised 0, deleted 0, gone 4, taken back 0 14 0 17\nas opened 1 1\n\
     second 0 0\nclash 0:0:0 1:0:2 2:2:0 2:0:0 3:0:0 1\n\
     start_in 11 16 16 0\nprofile 2 1 3 0 3\nask 0 2 0\nopen_in 11 0 1\ndistinguish_in 16 0\n\
     replay 0\nreplies 0 7 0 238\nbegin 0\ndistinguish 1\ntelling 20 80 01 00 00 00 ee\n\
@@ -63,7 +64,9 @@ fn a_cpp_program_over_the_header() {
 fn a_null_pointer_with_length_0_is_an_empty_buffer() {
     for words in [&["-O0"][..], &["-O2"]] {
         let output = Command::new(compiled_here("empty", FOLDER, words)).output().unwrap();
-        let expected = "open 10\nstart 10 0\nopen_in 10 16\nstart_in 10 16\nask 2\nsave 13\npage 2 4 13\nclash 0\nbegin 10 13 0\nread 10\nrequest 138 2\nreplay 10 0 13\ndistinguish 138 202 13\n\
+        let expected =
+            "open 10\nstart 10 0\nopen_in 10 16\nstart_in 10 16\nask 2\ntake_back 17\nsave 13\npage 2 4 13\n\
+            clash 0\nbegin 10 13 0\nread 10\nrequest 138 2\nreplay 10 0 13\ndistinguish 138 202 13\n\
             distinguish_in 138 202 16 13\nload 0 15\n";
         assert_eq!(String::from_utf8_lossy(&output.stdout), expected);
     }

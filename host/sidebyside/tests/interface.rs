@@ -221,6 +221,7 @@ fn the_sizes_of_the_header_are_those_of_the_bindings() {
         ("REQUEST_BYTES", circmon::REQUEST_BYTES),
         ("DISTINGUISH_BYTES", circmon::DISTINGUISH_BYTES),
         ("UNIT_BYTES", circmon::UNIT_BYTES),
+        ("MONITOR_BYTES", circmon::MONITOR_BYTES),
         ("PAGE_BYTES", circmon::PAGE_BYTES),
     ];
     assert_eq!(numbers(&text, CODES, false), BTreeMap::from(expected));
@@ -231,6 +232,7 @@ fn the_sizes_of_the_header_are_those_of_the_bindings() {
     assert_eq!(reference::PAGE_BYTES, circmon::PAGE_BYTES);
     assert_eq!((reference::SUBJECTS, reference::OBJECTS), (circmon::SUBJECTS, circmon::OBJECTS));
     assert_eq!(reference::MOST_GETS, circmon::MOST_GETS);
+    assert_eq!(reference::MOST_ENTRIES, circmon::JOURNAL_ENTRIES);
     assert!(text.contains("3 CIRCMON_ORDERS_TOO_MANY: there are more than 4,096 pieces") && circmon::MOST_GETS == 4096);
 }
 

@@ -259,7 +259,7 @@ fn pages_of_units_with_any_bytes() {
                 assert_eq!(proved(&unit, object, short), (13, Guarded::new()), "{what}, {short} bytes");
             }
         }
-        assert!(unit == kept, "seed {seed}: the unit is only read");
+        assert!(unit.rows() == kept.rows(), "seed {seed}: the unit is only read");
     }
     assert!([0, 2, 4].iter().all(|&number| seen.numbers.of(number) > 1000), "{seen:?}");
     assert!((15..=40).all(|total| seen.totals.of(total) > 30), "{seen:?}");

@@ -39,13 +39,16 @@ impl Run {
         let before = both.unit.clone();
         let reply = both.monitor.request(&bytes);
         assert_eq!(both.unit.ask(&bytes), reply, "{what}: {bytes:02x?}");
-        assert!(reply == 0 || both.unit == before, "{what}: {bytes:02x?} gets {reply}, and a byte is changed");
+        assert!(
+            reply == 0 || both.unit.rows() == before.rows(),
+            "{what}: {bytes:02x?} gets {reply}, and a byte is changed"
+        );
         profiles::note_reply(both.monitor.profile, &bytes, reply, met);
     }
 
     fn check_state(&mut self, what: &str) {
         let Both { monitor, unit } = &self.both;
-        assert!(*unit.rows() == rows::of(monitor), "{what}: the unit");
+        assert!(*unit == rows::unit(monitor), "{what}: the unit");
         let bytes = image(monitor);
         assert_eq!(unit.image()[..], bytes[..], "{what}: the image");
         let again = Unit::from_image_in(unit.profile().expect("it was begun"), &bytes);

@@ -228,7 +228,7 @@ fn units_with_any_bytes_in_them() {
             let requests = requests(random, &unit);
             let found = unit.clash(&requests);
             assert_eq!(found, said(&unit, &requests), "seed {seed}: {requests:02x?}");
-            assert!(unit == kept, "seed {seed}: the unit is only read");
+            assert!(unit.rows() == kept.rows(), "seed {seed}: the unit is only read");
             let word = format!("{found:?}");
             met.note(format!("{} {}", seed % 3, word.split(' ').next().unwrap_or_default()));
         }

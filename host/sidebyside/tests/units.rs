@@ -33,7 +33,7 @@ fn begun(random: &mut Random, begin: impl Fn(&mut Unit) -> u8, what: &str) -> (u
     for rows in [[[0xFF; 16]; circmon::ROWS], random_rows(random)] {
         let mut other = Guarded::new(rows);
         assert_eq!(begin(&mut other.unit), number, "{what}");
-        assert!(other.unit == guarded.unit, "{what}: what was in the unit does not matter");
+        assert!(other.unit.rows() == guarded.unit.rows(), "{what}: what was in the unit does not matter");
         assert!(other.is_left_around() && guarded.is_left_around(), "{what}: bytes around the unit");
     }
     (number, guarded.unit)
@@ -47,7 +47,7 @@ fn check(unit: (u8, Unit), monitor: Result<Monitor, u8>, what: &str) -> u8 {
     if let Ok(monitor) = monitor {
         assert_eq!(unit.image()[..], image(&monitor)[..], "{what}");
     } else {
-        assert!(unit == empty, "{what}: refused, and the unit is not the empty monitor");
+        assert!(unit.rows() == empty.rows(), "{what}: refused, and the unit is not the empty monitor");
         assert_eq!(unit.image()[..], image(&Monitor::empty())[..], "{what}");
     }
     number
@@ -148,6 +148,6 @@ fn a_unit_is_its_rows_and_nothing_else() {
         // Safety: the memory is long enough, every content is a unit, and its alignment is 1.
         let unit = unsafe { &mut *place };
         assert_eq!(unit.start(&table), 0);
-        assert!(*unit == Unit::from_table(&table).unwrap());
+        assert!(unit.rows() == Unit::from_table(&table).unwrap().rows());
     }
 }
