@@ -1,7 +1,7 @@
 -- A unit is many calls: `circmon_request` in a row, from an accepted image or from one that `circmon_begin` wrote. The numbers are
 -- the replies to the list, the bytes left are the image after it, and demand 3 and `circmon_distinguish` hold of them. All under the widest profile.
 -- Assumes nothing.
-use Prim.Native.Nat.{ℕ, _+_, _*_, _≤_}
+use Prim.Native.Nat.{ℕ, _*_, _≤_}
 use native.Mathlib.Omega.{arith}
 use mathlib.Core.Path.{_≡_, refl, sym, ap, ap₂, _∙_, subst}
 use mathlib.Core.Logic.{_↔_, _≢_}

@@ -1,7 +1,7 @@
 -- Every monitor that requests and takings-back reach is one that requests alone reach (change request §9): a taken-back request is left out.
 -- Assumes nothing.
 use Prim.Native.Nat.{ℕ, zero, suc}
-use mathlib.Core.Path.{_≡_, refl, sym, ap, _∙_, subst}
+use mathlib.Core.Path.{sym, ap, _∙_, subst}
 use mathlib.Core.List.{List, [], _∷_, _++_}
 use lib.ListN.{take}
 use Rattle.model.specs.declared.Monitor.{Monitor}
@@ -10,7 +10,7 @@ use Rattle.model.specs.Runs.{respond, after}
 use Rattle.model.specs.Journal.{Entry, Journaled, journalSize, entered, withoutEntries, ask, restored, takeBack, Act, asks, takesBack, acted}
 use Rattle.model.proofs.Lists.{after-append, after-none, after-one}
 use Rattle.invariants.specs.TakingBack.{ByRequests}
-use Rattle.invariants.proofs.TakingBack.{Enters, ask-cases}
+use Rattle.invariants.proofs.TakingBack.{ask-cases}
 
 -- requests lead from m to n, and also to what each further taking-back leaves
 Leads : Monitor → Monitor → List Entry → Type 0

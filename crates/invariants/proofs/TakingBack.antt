@@ -6,7 +6,6 @@ use native.Mathlib.Omega.{arith}
 use native.Mathlib.Nat.{eq-or-lt-of-le}
 use mathlib.Core.Path.{_≡_, refl, sym, ap, ap₂, _∙_, subst}
 use mathlib.Core.Logic.{_↔_, _≢_, ⊎-elim}
-use mathlib.Core.Bool.{Bool, cond}
 use mathlib.Core.List.{List, [], _∷_, _++_, map}
 use lib.ListN.{length, take, replicate, length-take}
 use lib.Seq.{take-all, take-take}
@@ -16,7 +15,6 @@ use Rattle.model.specs.declared.Monitor.{Monitor}
 use Rattle.model.specs.declared.Request.{Request}
 use Rattle.model.specs.declared.Decoded.{Decoded}
 use Rattle.model.specs.declared.Decoded.the-variants.{Malformed, Says}
-use Rattle.model.specs.declared.Decision.{Decision}
 use Rattle.model.specs.declared.Decision.the-variants.{Granted}
 use Rattle.model.specs.State.{withObject}
 use Rattle.model.specs.Decisions.{number}
@@ -25,9 +23,8 @@ use Rattle.model.specs.Rules.{step}
 use Rattle.model.specs.Runs.{carryOut, respond, reply, after, replies}
 use Rattle.model.specs.Journal.{Entry, Journaled, journalSize, entered, withoutEntries, entryOf, journalAfter, ask, restored, takeBack, takingBack, Act, asks, takesBack, answerTo, acted, answers}
 use Rattle.model.proofs.Tests.{cond-true, cond-false}
-use Rattle.model.proofs.Lists.{after-append, after-one}
 use Rattle.model.proofs.Equal.{with-object-back}
-use Rattle.invariants.specs.TakingBack.{zeros, ByRequests}
+use Rattle.invariants.specs.TakingBack.{zeros}
 use Rattle.invariants.proofs.Outcomes.{step-cases}
 
 -- ---- one request

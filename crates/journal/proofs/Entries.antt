@@ -7,7 +7,7 @@ use mathlib.Core.Logic.{_≢_, ⊎-elim}
 use mathlib.Core.List.{List, []}
 use lib.ListN.{length, set, length-set}
 use lib.Seq.{getD-set-same, getD-set-other}
-use Rattle.model.specs.State.{subjectCount, objectCount}
+use Rattle.model.specs.State.{objectCount}
 use Rattle.model.specs.Journal.{journalSize}
 use Rattle.unit.specs.Rows.{Rows, rowAt, byteAt, objectOf}
 use Rattle.unit.proofs.Tabulated.{same-or-not}

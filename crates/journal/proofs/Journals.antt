@@ -3,8 +3,8 @@
 -- Assumes nothing.
 use Prim.Native.Nat.{ℕ, zero, suc, _+_, _-_, _%_, _<_, _≤_, min}
 use native.Mathlib.Omega.{arith}
-use mathlib.Core.Path.{_≡_, refl, sym, ap, ap₂, _∙_, subst}
-use mathlib.Core.Logic.{_≢_, ⊎-elim}
+use mathlib.Core.Path.{_≡_, refl, sym, ap, ap₂, _∙_}
+use mathlib.Core.Logic.{⊎-elim}
 use mathlib.Core.List.{List, [], _∷_}
 use lib.ListN.{length, take, length-replicate, getD-replicate}
 use lib.Seq.{take-all}
@@ -14,7 +14,7 @@ use Rattle.model.proofs.Tests.{le-or-lt}
 use Rattle.unit.specs.Rows.{Rows, objectOf, tabulate}
 use Rattle.unit.proofs.Tabulated.{tabulate-length, tabulate-same}
 use Rattle.journal.specs.Ring.{journalRows, nextSlot, entryCount, entryIn, slotOf, journalIn}
-use Rattle.journal.specs.Stored.{setRing, setSlot, enteredRows, leftRows, noEntries, Whole}
+use Rattle.journal.specs.Stored.{setSlot, enteredRows, leftRows, noEntries, Whole}
 use Rattle.journal.proofs.Rings.{zeros}
 use Rattle.journal.proofs.Entries.{whole-ring, ring-next, ring-count, ring-entry, slot-whole, slot-same, slot-other}
 

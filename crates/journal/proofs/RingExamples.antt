@@ -2,10 +2,9 @@
 -- Assumes nothing.
 use Prim.Native.Nat.{ℕ}
 use mathlib.Core.Path.{_≡_, refl}
-use mathlib.Core.List.{List, [], _∷_}
+use mathlib.Core.List.{List, _∷_}
 use lib.ListN.{set, replicate}
-use Rattle.unit.specs.Rows.{Rows, rowAt, byteAt, tabulate}
-use Rattle.journal.specs.Ring.{journalIn}
+use Rattle.unit.specs.Rows.{Rows, rowAt, byteAt}
 use Rattle.journal.specs.Stored.{enteredRows, leftRows, noEntries}
 
 abbrev ones : List ℕ

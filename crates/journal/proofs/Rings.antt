@@ -1,19 +1,17 @@
 -- Rows that are cleared, and an entry that is stored step by step.
 -- Assumes nothing.
-use Prim.Native.Nat.{ℕ, zero, suc, _+_, _-_, _*_, _/_, _%_, _<_, _≤_, min}
+use Prim.Native.Nat.{ℕ, _+_, _%_, _<_, _≤_, min}
 use native.Mathlib.Omega.{arith}
-use mathlib.Core.Path.{_≡_, refl, sym, ap, ap₂, _∙_, subst}
-use mathlib.Core.Logic.{_≢_, ⊎-elim}
-use mathlib.Core.List.{List, [], _∷_}
-use lib.ListN.{length, getD, set, take, replicate, length-set, length-replicate, getD-replicate}
-use lib.Seq.{getD-set-same, getD-set-other, ext-getD, take-all}
+use mathlib.Core.Path.{_≡_, refl, sym, ap₂, _∙_}
+use mathlib.Core.List.{List, []}
+use lib.ListN.{length, set, replicate, length-set, length-replicate, getD-replicate}
+use lib.Seq.{ext-getD}
 use Rattle.model.specs.State.{subjectCount}
-use Rattle.model.specs.Journal.{Entry, journalSize, entered}
-use Rattle.model.proofs.Tests.{le-or-lt}
-use Rattle.unit.specs.Rows.{Rows, rowAt, byteAt, objectOf, tabulate}
-use Rattle.unit.proofs.Tabulated.{tabulate-length, same-or-not, stored-more}
-use Rattle.journal.specs.Ring.{rightsRow, heldRow, restRow, placeRow, placeByte, ringRow, journalRows, nextSlot, entryCount, entryIn, slotOf, journalIn}
-use Rattle.journal.specs.Stored.{setByte, setRing, setSlot, enteredRows, leftRows, noEntries, Whole}
+use Rattle.model.specs.Journal.{journalSize}
+use Rattle.unit.specs.Rows.{Rows, rowAt}
+use Rattle.unit.proofs.Tabulated.{stored-more}
+use Rattle.journal.specs.Ring.{journalRows, nextSlot, entryCount}
+use Rattle.journal.specs.Stored.{setRing, setSlot, enteredRows, noEntries}
 
 -- ---- rows that are cleared one by one
 

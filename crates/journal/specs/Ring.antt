@@ -3,7 +3,7 @@
 -- Assumes nothing.
 use Prim.Native.Nat.{ℕ, _+_, _-_, _*_, _/_, _%_, min}
 use mathlib.Core.List.{List}
-use Rattle.model.specs.State.{objectCount, subjectCount}
+use Rattle.model.specs.State.{objectCount}
 use Rattle.model.specs.Journal.{Entry, journalSize}
 use Rattle.unit.specs.Rows.{Rows, rowAt, byteAt, objectOf, tabulate}
 

@@ -1,17 +1,11 @@
 -- The two parts of a unit, and what is stored in them one after the other.
 -- Assumes nothing.
-use Prim.Native.Nat.{ℕ, _+_, _%_, _<_}
+use Prim.Native.Nat.{ℕ, _<_}
 use native.Mathlib.Omega.{arith}
-use native.Mathlib.Nat.{mod-eq-of-lt}
-use mathlib.Core.Path.{_≡_, refl, sym, ap, ap₂, _∙_, subst}
-use mathlib.Core.Bool.{true, false, cond}
+use mathlib.Core.Path.{_≡_, ap, ap₂, _∙_}
 use mathlib.Core.List.{List, [], _++_, append-nil}
-use lib.ListN.{length, take, drop, length-drop, length-append, drop-of-length-le}
+use lib.ListN.{length, take, drop, length-drop, drop-of-length-le}
 use lib.Seq.{take-all, take-at, drop-at, getD-take, length-take-le}
-use lib.Dec.{eqb}
-use Rattle.model.specs.declared.Subject.{Subject}
-use Rattle.model.specs.declared.Object.{Object}
-use Rattle.model.specs.declared.Monitor.{Monitor}
 use Rattle.model.specs.State.{nobody, noObject}
 use Rattle.model.proofs.Equal.{monitor-ext}
 use Rattle.unit.specs.Rows.{Rows, rowCount, heldRow, restRow, clearanceRow, profileRow, rowAt, labelIn, profileIn, objectOf, objectIn, subjectIn, stateIn}

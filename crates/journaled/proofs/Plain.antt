@@ -4,12 +4,11 @@ use Prim.Native.Nat.{ℕ}
 use native.Mathlib.Omega.{arith}
 use mathlib.Core.Path.{_≡_, sym, ap, _∙_, subst}
 use mathlib.Core.List.{List, [], _∷_}
-use lib.ListN.{length}
 use lib.Dec.{eqb}
 use Rattle.model.specs.declared.Monitor.{Monitor}
 use Rattle.model.specs.Journal.{Journaled, withoutEntries, Act, asks, takesBack, acted}
 use Rattle.model.proofs.Tests.{cond-all}
-use Rattle.unit.specs.Rows.{Rows, rowCount, stateIn}
+use Rattle.unit.specs.Rows.{Rows, stateIn}
 use Rattle.unit.specs.Stored.{setObject, unitOf}
 use Rattle.unit.proofs.Stores.{object-length}
 use Rattle.unit.proofs.Units.{unit-length}

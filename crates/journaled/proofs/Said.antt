@@ -14,14 +14,13 @@ use Rattle.model.specs.declared.Monitor.{Monitor}
 use Rattle.model.specs.declared.Request.{Request}
 use Rattle.model.specs.declared.Decoded.{Decoded}
 use Rattle.model.specs.declared.Decoded.the-variants.{Malformed, Says}
-use Rattle.model.specs.declared.Decision.{Decision}
 use Rattle.model.specs.declared.Decision.the-variants.{Granted, EmptyJournal}
 use Rattle.model.specs.State.{objectCount, object, withObject}
 use Rattle.model.specs.Decisions.{number}
 use Rattle.model.specs.Requests.{decode, InRange}
 use Rattle.model.specs.Rules.{target, step}
 use Rattle.model.specs.Runs.{respond}
-use Rattle.model.specs.Journal.{Entry, Journaled, entered, withoutEntries, entryOf, journalAfter, ask, restored, takeBack, takingBack, Act, asks, takesBack, act, acted, answers}
+use Rattle.model.specs.Journal.{Entry, entered, withoutEntries, entryOf, journalAfter, ask, restored, takeBack, takingBack, Act, asks, takesBack, acted, answers}
 use Rattle.model.proofs.Tests.{split, cond-true, cond-false, cond-all}
 use Rattle.model.proofs.Requests.{decode-range}
 use Rattle.model.proofs.After.{target-below}
@@ -32,10 +31,10 @@ use Rattle.unit.proofs.Stores.{object-length, object-stored}
 use Rattle.unit.proofs.Units.{unit-length}
 use Rattle.asking.specs.Asked.{asked}
 use Rattle.asking.proofs.Lists.{asked-length, asked-state}
-use Rattle.journal.specs.Ring.{journalRows, entryCount, entryIn, slotOf, journalIn}
-use Rattle.journal.specs.Stored.{enteredRows, leftRows, noEntries, Whole}
+use Rattle.journal.specs.Ring.{entryCount, entryIn, slotOf, journalIn}
+use Rattle.journal.specs.Stored.{leftRows, noEntries, Whole}
 use Rattle.journal.proofs.Journals.{entered-whole, entered-says, left-whole, latest-said, left-says, none-whole, none-says}
-use Rattle.journaled.specs.Units.{unitRows, monitorPart, journalPart, saidBy, begunRows, enteredAt, journalSaid, askedUnit, latestIn, restoredUnit, takenUnit, actUnit, actedUnit, answerOf, answersOf}
+use Rattle.journaled.specs.Units.{unitRows, monitorPart, journalPart, saidBy, begunRows, enteredAt, journalSaid, askedUnit, latestIn, restoredUnit, takenUnit, actUnit, actedUnit, answersOf}
 use Rattle.journaled.proofs.Parts.{monitor-length, parts-put, monitor-says}
 
 -- a unit: as many rows as it has, and the journal's rows whole

@@ -2,14 +2,12 @@
 -- object 1, computed.
 -- Assumes nothing.
 use Prim.Native.Nat.{ℕ, suc, _<_, min}
-use native.Mathlib.Omega.{arith}
-use mathlib.Core.Path.{_≡_, refl, _∙_}
+use mathlib.Core.Path.{_≡_, refl}
 use mathlib.Core.Bool.{false}
 use mathlib.Core.List.{List, [], _∷_}
 use lib.ListN.{length, getD, replicate, length-take}
 use lib.Seq.{getD-take}
 use Rattle.bits.specs.Bits.{odd, toBits, fromBits, bytesToBits, field}
-use Rattle.model.specs.declared.Level.{Level}
 use Rattle.model.specs.declared.Label.the-variants.{Present}
 use Rattle.model.specs.declared.Object.{Object}
 use Rattle.model.specs.Tests.{implies, unless}

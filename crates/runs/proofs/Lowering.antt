@@ -23,7 +23,7 @@ use Rattle.model.specs.State.{widest, object, heldBy}
 use Rattle.model.specs.Profiles.{profileFits, labelInside, absentBeyond, levelsInside}
 use Rattle.model.specs.Requests.{fields, modeAllowed, unusedZero, fieldsFormed, within, wellFormed, request, creation, decodeFields, decode, pack, encode}
 use Rattle.model.specs.Rules.{simpleAll, starPair, starFrom, starFor, starAll, notLowered, changed, already, checks, answer, step}
-use Rattle.model.specs.Runs.{respond, after, replies}
+use Rattle.model.specs.Runs.{respond, replies}
 use Rattle.model.specs.Journal.{ask, asks, acted}
 use Rattle.model.specs.Reading.{labelFrom, labelForm, tableFrom, tableForm, tableChecks, begin, readTable}
 use Rattle.model.specs.Beginnings.{table, left}

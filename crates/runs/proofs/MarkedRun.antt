@@ -11,7 +11,7 @@ use Rattle.model.specs.State.{widest}
 use Rattle.model.specs.Profiles.{profileFits, labelInside, absentBeyond, levelsInside}
 use Rattle.model.specs.Requests.{fields, modeAllowed, unusedZero, fieldsFormed, within, wellFormed, request, decodeFields, decode, pack, encode}
 use Rattle.model.specs.Rules.{simpleAll, starPair, starFrom, starFor, starAll, notLowered, changed, already, checks, answer, step}
-use Rattle.model.specs.Runs.{respond, after, replies}
+use Rattle.model.specs.Runs.{respond, replies}
 use Rattle.model.specs.Journal.{ask, asks, acted}
 use Rattle.model.specs.Layout.{labelBits, setsBits, objectBits, imageBits, imageOf}
 use Rattle.model.specs.Reading.{labelFrom, labelForm, tableFrom, tableForm, tableChecks, begin, readTable}

@@ -22,7 +22,7 @@ use Rattle.model.specs.Profiles.{site, profileFits, labelInside, absentBeyond, 
 use Rattle.model.specs.Decisions.{number}
 use Rattle.model.specs.Requests.{fields, modeAllowed, unusedZero, fieldsFormed, within, wellFormed, request, creation, decodeFields, decode, pack, encode, InRange, Within}
 use Rattle.model.specs.Rules.{simpleAll, starPair, starFrom, starFor, starAll, notLowered, changed, already, checks, answer, step}
-use Rattle.model.specs.Runs.{respond, reply, after, replies}
+use Rattle.model.specs.Runs.{respond, reply, replies}
 use Rattle.model.specs.Journal.{ask, asks, acted}
 use Rattle.model.specs.Layout.{imageOf}
 use Rattle.model.specs.Reading.{labelFrom, labelForm, tableFrom, tableForm, onlyEnrolled, withinMatrix, heldLabelled, tableChecks, begin, readTable, readImage, imageChecks, monitorFrom, imageForm, objectsFrom, objectsForm, objectFrom, objectForm}

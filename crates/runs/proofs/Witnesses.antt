@@ -23,7 +23,7 @@ use Rattle.model.specs.Decisions.{number, refuses}
 use Rattle.model.specs.Profiles.{profileFits, labelInside, absentBeyond, levelsInside}
 use Rattle.model.specs.Requests.{fields, modeAllowed, unusedZero, fieldsFormed, within, wellFormed, request, creation, decodeFields, decode, pack, encode, InRange}
 use Rattle.model.specs.Rules.{target, simpleAll, starPair, starFrom, starFor, starAll, notLowered, changed, already, checks, answer, step}
-use Rattle.model.specs.Runs.{respond, reply, after}
+use Rattle.model.specs.Runs.{respond, reply}
 use Rattle.model.specs.Journal.{ask, Act, asks, acted}
 use Rattle.model.specs.Layout.{tableSize, tableBits, imageSize, imageBits, imageOf}
 use Rattle.model.specs.Reading.{labelFrom, labelForm, tableFrom, tableForm, tableChecks, imageChecks, monitorFrom, begin, readTable, readImage}

@@ -1,7 +1,6 @@
 -- `journaled::ask` meets its contract.
 -- Assumes nothing.
 use native.Mathlib.Omega.{arith}
-use mathlib.Core.Path.{sym, ap, _∙_}
 use Rattle.journaled.proofs.Places.{named-below}
 use Rattle.journaled.proofs.Stored.{asked-0, asked-else}
 use borrow.Author.Needs.{needs}
