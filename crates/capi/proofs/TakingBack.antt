@@ -13,12 +13,13 @@ use Rattle.model.specs.Journal.{Journaled, journalSize, withoutEntries, takeBac
 use Rattle.model.specs.Beginnings.{Beginning, begun, leftWith, left}
 use Rattle.model.proofs.Tests.{split, apart, cond-true}
 use Rattle.invariants.specs.TakingBack.{zeros}
-use Rattle.invariants.proofs.TakingBack.{taken-back, empty-17, acted-fits, acted-append, takings-restore}
+use Rattle.invariants.proofs.TakingBack.{taken-back, empty-17, acted-fits, acted-append, asked-replies, takings-restore}
 use Rattle.unit.specs.Rows.{Rows, stateIn}
 use Rattle.unit.specs.Stored.{unitOf}
 use Rattle.journal.specs.Ring.{entryCount}
+use Rattle.journal.proofs.Journals.{entries-fit}
 use Rattle.journaled.specs.Units.{monitorPart, journalPart, saidBy, begunRows, askedUnit, takenUnit, actedUnit, answerOf, answersOf}
-use Rattle.journaled.proofs.Said.{WholeUnit, ask-whole, ask-said, taken-some, taken-said, answers-said, unit-append}
+use Rattle.journaled.proofs.Said.{WholeUnit, ask-whole, ask-said, taken-some, taken-said, acted-whole, acted-said, answers-said, unit-append}
 use Rattle.capi.specs.UnitRuns.{begunUnit, unitAfter, unitAsked, unitReplies}
 use Rattle.capi.proofs.UnitRuns.{after-said, after-whole, unit-rows, further-replies}
 
@@ -32,6 +33,16 @@ any-taken-back u U b z =
       ap (λ (j : Journaled). number (takingBack (j .journal))) (ask-said u U b) ∙ t .1,
       ap (λ (j : Journaled). j .monitor) (taken-said (askedUnit b u) (ask-whole u U b) ∙ ap takeBack (ask-said u U b) ∙ t .0),
     )
+
+-- and so it is after a list of requests of which n replied 0, n at most 32, with n takings-back
+pub any-takings-restore : (u : Rows) → WholeUnit u → (bs : List (List ℕ)) (n : ℕ) → zeros (unitReplies bs u) ≡ n → n ≤ journalSize
+    → stateIn (actedUnit (replicate n takesBack) (unitAsked bs u)) ≡ stateIn u
+unfolding saidBy
+any-takings-restore u U bs n z h =
+    let count : zeros (replies bs (stateIn u)) ≡ n = ap zeros (sym (answers-said (map asks bs) u U ∙ asked-replies bs (saidBy u))) ∙ z in
+    ap (λ (j : Journaled). j .monitor)
+    (acted-said (replicate n takesBack) (unitAsked bs u) (acted-whole (map asks bs) u U) ∙ ap (acted (replicate n takesBack)) (acted-said (map asks bs) u U)
+    ∙ takings-restore bs (saidBy u) (entries-fit (journalPart u)) n count h .0)
 
 -- ---- a unit that was started or opened, then asked and taken back in any order
 

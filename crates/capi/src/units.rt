@@ -37,7 +37,7 @@ pub extern "C" fn circmon_start(unit: &mut [[u8; 16]; ROWS], table: &[u8]) -> u8
     number(started)
 }
 
-// The reply to a request; the unit is the state after it.
+// The reply to a request; the unit is the state after it, and with reply 0 the journal has the record as it was.
 #[no_mangle]
 pub extern "C" fn circmon_ask(unit: &mut [[u8; 16]; ROWS], request: &[u8]) -> u8
     ensures { λ r. ⌜ (r ≡ reply (now (request .entry)) (stateIn (now (unit .entry)))) × (now (unit .exit) ≡ askedUnit (now (request .entry)) (now (unit .entry))) ⌝ }

@@ -32,9 +32,8 @@ use Rattle.model.proofs.Tests.{split, cond-true, cond-false}
 use Rattle.model.proofs.Buffers.{has-room, filled-front, front-new}
 use Rattle.invariants.specs.Sound.{Sound}
 use Rattle.invariants.specs.TakingBack.{ByRequests}
-use Rattle.invariants.proofs.Steps.{sound-after, profile-kept}
 use Rattle.invariants.proofs.TakingBack.{asked-after, acted-append}
-use Rattle.invariants.proofs.RequestsAlone.{requests-alone}
+use Rattle.invariants.proofs.RequestsAlone.{by-requests-sound, by-requests-profile, requests-alone}
 use Rattle.images.specs.Tables.{beginningProfile}
 use Rattle.images.proofs.Images.{table-passed, image-passed}
 
@@ -68,7 +67,7 @@ sound-begun (table p b) e = subst Sound (sym (cond-false (refuses (tableChecks p
 sound-begun (image p b) e = subst Sound (sym (cond-false (refuses (imageChecks p b)) _ _ (ap refuses e))) (image-passed p b e .2)
 
 pub sound-left : (b : Beginning) → Accepted b → (l : List Act) → Sound (left b l)
-sound-left b e l = let R = left-by-requests b l in subst Sound (R .leads) (sound-after (R .requests) (begun b .monitor) (sound-begun b e))
+sound-left b e l = by-requests-sound (begun b .monitor) (left b l) (left-by-requests b l) (sound-begun b e)
 
 pub sound-reached : (m : Monitor) → Reached m → Sound m
 sound-reached m r = subst Sound (r .reaches) (sound-left (r .beginning) (r .accepted) (r .list))
@@ -82,9 +81,7 @@ begun-profile (table p b) e = ap (λ (m : Monitor). m .profile) (cond-false (ref
 begun-profile (image p b) e = ap (λ (m : Monitor). m .profile) (cond-false (refuses (imageChecks p b)) _ _ (ap refuses e))
 
 pub left-profile : (b : Beginning) → Accepted b → (l : List Act) → left b l .profile ≡ beginningProfile b
-left-profile b e l =
-    let R = left-by-requests b l in
-    ap (λ (m : Monitor). m .profile) (sym (R .leads)) ∙ profile-kept (R .requests) (begun b .monitor) ∙ begun-profile b e
+left-profile b e l = by-requests-profile (begun b .monitor) (left b l) (left-by-requests b l) ∙ begun-profile b e
 
 pub reached-profile : (m : Monitor) (R : Reached m) → m .profile ≡ beginningProfile (R .beginning)
 reached-profile m R = ap (λ (n : Monitor). n .profile) (sym (R .reaches)) ∙ left-profile (R .beginning) (R .accepted) (R .list)

@@ -11,3 +11,4 @@ pub mod Added
 pub mod ModePairs
 pub mod TakingBack
 pub mod RequestsAlone
+pub mod Histories

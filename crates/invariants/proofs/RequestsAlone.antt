@@ -1,7 +1,7 @@
 -- Every monitor that requests and takings-back reach is one that requests alone reach (change request §9): a taken-back request is left out.
 -- Assumes nothing.
 use Prim.Native.Nat.{ℕ, zero, suc}
-use mathlib.Core.Path.{sym, ap, _∙_, subst}
+use mathlib.Core.Path.{_≡_, sym, ap, _∙_, subst}
 use mathlib.Core.List.{List, [], _∷_, _++_}
 use lib.ListN.{take}
 use Rattle.model.specs.declared.Monitor.{Monitor}
@@ -9,7 +9,9 @@ use Rattle.model.specs.State.{withObject}
 use Rattle.model.specs.Runs.{respond, after}
 use Rattle.model.specs.Journal.{Entry, Journaled, journalSize, entered, withoutEntries, ask, restored, takeBack, Act, asks, takesBack, acted}
 use Rattle.model.proofs.Lists.{after-append, after-none, after-one}
+use Rattle.invariants.specs.Sound.{Sound}
 use Rattle.invariants.specs.TakingBack.{ByRequests}
+use Rattle.invariants.proofs.Steps.{sound-after, profile-kept}
 use Rattle.invariants.proofs.TakingBack.{ask-cases}
 
 -- requests lead from m to n, and also to what each further taking-back leaves
@@ -57,6 +59,13 @@ unfolding acted takeBack
 leads-acted m [] j L = L
 leads-acted m (asks b ∷ l) j L = leads-acted m l (ask b j) (leads-asked m b j L)
 leads-acted m (takesBack ∷ l) j L = leads-acted m l (takeBack j) (leads-restored m (j .monitor) (j .journal) L)
+
+-- what requests lead to from a sound state is sound, and has its profile
+pub by-requests-sound : (m n : Monitor) → ByRequests m n → Sound m → Sound n
+by-requests-sound m n R S = subst Sound (R .leads) (sound-after (R .requests) m S)
+
+pub by-requests-profile : (m n : Monitor) → ByRequests m n → n .profile ≡ m .profile
+by-requests-profile m n R = ap (λ (k : Monitor). k .profile) (sym (R .leads)) ∙ profile-kept (R .requests) m
 
 -- from any monitor with an empty journal
 pub requests-alone : (l : List Act) (m : Monitor) → ByRequests m (acted l (withoutEntries m) .monitor)

@@ -1,12 +1,15 @@
--- What is said of takings-back (change request §9): how many requests changed the state, and a state that requests alone reach.
+-- What is said of takings-back (change request §9): how many requests changed the state, a state that requests alone reach, and a history of whole
+-- states.
 -- Assumes nothing.
 use Prim.Native.Nat.{ℕ, suc}
 use mathlib.Core.Path.{_≡_}
 use mathlib.Core.Bool.{cond}
 use mathlib.Core.List.{List, [], _∷_}
+use lib.ListN.{take}
 use lib.Dec.{eqb}
 use Rattle.model.specs.declared.Monitor.{Monitor}
-use Rattle.model.specs.Runs.{after}
+use Rattle.model.specs.Runs.{respond, reply, after}
+use Rattle.model.specs.Journal.{Act, asks, takesBack}
 
 -- "n requests with reply 0": how many of these replies are 0
 unfoldable pub zeros : List ℕ → ℕ
@@ -17,3 +20,25 @@ zeros (r ∷ rs) = cond (eqb r 0) (suc (zeros rs)) (zeros rs)
 pub record ByRequests (m n : Monitor) : Type 0 where
   pub requests : List (List ℕ)
   pub leads : after requests m ≡ n
+
+-- ---- once more with whole states in place of records
+
+-- the state, and the states before the requests that can still be taken back, the latest first
+pub record History : Type 0 where
+  pub present : Monitor
+  pub past : List Monitor
+
+-- "for each reply 0", "up to 32", "the oldest .. gives way"
+abbrev pub remembered : ℕ → Monitor → List Monitor → List Monitor
+remembered reply m past = cond (eqb reply 0) (take 32 (m ∷ past)) past
+
+-- "restores exactly the state before the latest request"; without one, "state unchanged"
+abbrev pub returned : Monitor → List Monitor → History
+returned m [] = record { present = m; past = [] }
+returned m (n ∷ past) = record { present = n; past = past }
+
+unfoldable pub history : List Act → History → History
+history [] h = h
+history (asks b ∷ l) h =
+    history l (record { present = respond b (h .present) .monitor; past = remembered (reply b (h .present)) (h .present) (h .past) })
+history (takesBack ∷ l) h = history l (returned (h .present) (h .past))

@@ -35,6 +35,11 @@ take-entries k n f =
 abbrev noEntry : Entry
 noEntry = record { place = 0; was = noObject }
 
+-- "up to 32 entries", whatever the rows are
+pub entries-fit : (j : Rows) → length (journalIn j) ≤ journalSize
+unfolding journalIn
+entries-fit j = omega (arith, tabulate-length (entryCount j) (λ i. entryIn j (slotOf j i)))
+
 -- ---- an entry more
 
 module _ (j : Rows) (W : Whole j) (o : ℕ) (rights held rest : List ℕ) where

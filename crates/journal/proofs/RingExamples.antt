@@ -41,3 +41,7 @@ last-stands = (refl, refl, refl, refl, refl)
 pub latest-gone : (rowAt (leftRows last) 98 ≡ 31 ∷ 31 ∷ replicate 14 9) × (rowAt (leftRows last) 93 ≡ ones) × (rowAt (leftRows first) 98 ≡ replicate 16 0)
 unfolding enteredRows leftRows
 latest-gone = (refl, refl, refl)
+
+-- an empty journal: 99 rows of sixteen bytes, every byte 0
+pub none-stands : noEntries ≡ replicate 99 (replicate 16 0)
+none-stands = refl

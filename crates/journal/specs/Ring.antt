@@ -1,5 +1,6 @@
 -- The journal of a unit (change request §9): 99 rows of sixteen bytes, a ring of 32 slots. Three rows for each slot are the rows of an object as
--- they were, two rows have the numbers of these objects, the last row says where the ring begins. Every content says a journal.
+-- they were, two rows have the numbers of these objects, the last row says which slot the next entry
+-- takes and how many entries there are. Every content says a journal.
 -- Assumes nothing.
 use Prim.Native.Nat.{ℕ, _+_, _-_, _*_, _/_, _%_, min}
 use mathlib.Core.List.{List}

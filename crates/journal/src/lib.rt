@@ -1,4 +1,4 @@
-// The journal of a unit: the last 32 records that a request changed, as they were before it, in a ring of rows. Every content of the rows is a journal.
+// The journal of a unit: up to 32 records that requests changed, each as it was before, in a ring of rows. Every content of the rows is a journal.
 ghost use mathlib.Core.Path.{_≡_};
 ghost use Prim.Native.Nat.{_<_};
 ghost use Rattle.model.specs.Journal.{journalSize};
@@ -12,7 +12,7 @@ use unit::object_of;
 // Entries in all.
 const SLOTS: usize = 32;
 
-// Here begin the numbers of the objects, behind three rows for each slot; then the row that says where the ring begins.
+// Here begin the numbers of the objects, behind three rows for each slot; then the row with the next slot and the number of entries.
 const PLACES: usize = 3 * SLOTS;
 
 const RING: usize = PLACES + SLOTS / Monitor::SUBJECTS;

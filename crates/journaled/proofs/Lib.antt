@@ -4,3 +4,4 @@ pub mod Places
 pub mod Said
 pub mod Stored
 pub mod Plain
+pub mod UnitExamples

@@ -20,7 +20,7 @@ module _ (u : Rows) (n : length u ≡ unitRows) where
   pub journal-length : length (journalPart u) ≡ journalRows
   journal-length = length-drop rowCount u ∙ omega (arith, n)
 
-  -- the rows from 209 to 308 are the journal's
+  -- the rows from 209 to 307 are the journal's
   pub part-behind : take journalRows (drop rowCount u) ≡ journalPart u
   part-behind = take-all journalRows (journalPart u) (omega (arith, journal-length))
 

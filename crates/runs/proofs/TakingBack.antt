@@ -21,6 +21,7 @@ use Rattle.model.specs.Runs.{respond}
 use Rattle.model.specs.Journal.{Journaled, entered, withoutEntries, ask, restored, takeBack, takingBack, Act, asks, takesBack, acted, answers}
 use Rattle.model.specs.Reading.{labelFrom, labelForm, tableFrom, tableForm, tableChecks, begin, readTable}
 use Rattle.model.specs.Beginnings.{table, begun, left}
+use Rattle.invariants.specs.TakingBack.{zeros}
 use Rattle.runs.specs.MarkedRun.{level, tableW}
 
 abbrev W : Journaled
@@ -69,3 +70,8 @@ pub full-journal : (answers thirtyThree W ≡ replicate 33 0)
     × (acted (replicate 33 takesBack) (acted thirtyThree W) .monitor ≡ left (table widest tableW) (of (create ∷ [])))
 unfolding again tableW bitsToBytes pack tableFrom tableForm labelForm labelFrom tableChecks profileFits absentBeyond levelsInside labelInside begin readTable allZero bytesToBits toBits odd cut fromBits field decode decodeFields fields wellFormed fieldsFormed within modeAllowed unusedZero request respond step acted answers ask entered takeBack takingBack restored checks already changed starAll starFor starFrom starPair implies unless answer simpleAll has add notLowered sameLabel dominates levelDominates compare
 full-journal = (refl, refl, refl, refl)
+
+-- what is asked of the n requests is met: of these 33 replies each is 0, of the first 32 behind the create too
+pub zeros-met : (zeros (answers thirtyThree W) ≡ 33) × (zeros (answers (of (again 16)) (acted (of (create ∷ [])) W)) ≡ 32)
+unfolding again zeros tableW bitsToBytes pack tableFrom tableForm labelForm labelFrom tableChecks profileFits absentBeyond levelsInside labelInside begin readTable allZero bytesToBits toBits odd cut fromBits field decode decodeFields fields wellFormed fieldsFormed within modeAllowed unusedZero request respond step acted answers ask entered checks already changed starAll starFor starFrom starPair implies unless answer simpleAll has add notLowered sameLabel dominates levelDominates compare
+zeros-met = (refl, refl)

@@ -1,4 +1,4 @@
--- A unit: 209 rows of sixteen bytes. Rows 0 to 63 are the rights of the objects, the next 64 the accesses held, the next 64 the rest of
+-- The rows of a monitor in a unit: 209 rows of sixteen bytes. Rows 0 to 63 are the rights of the objects, the next 64 the accesses held, the next 64 the rest of
 -- each record, the next sixteen the clearances, the last one the profile. Every content says a monitor.
 -- Assumes nothing.
 use Prim.Native.Nat.{ℕ, zero, suc, _+_, _*_}

@@ -1,4 +1,4 @@
-// A unit: a monitor as 209 rows of sixteen bytes in memory that the caller owns. Every content of that memory is a state.
+// The monitor of a unit: 209 rows of sixteen bytes in memory that the caller owns, without its journal. Every content of that memory is a state.
 mod parts;
 mod rows;
 mod whole;
