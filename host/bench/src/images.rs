@@ -5,7 +5,7 @@ use crate::loads::{prepare, shape};
 use crate::timing::{each, median, print_head, print_row, ROUNDS};
 use circmon::Unit;
 use load::Random;
-use reference::{Kind, Mode, Monitor, Request, IMAGE_BYTES, OBJECTS, PAGE_BYTES, REQUEST_BYTES};
+use reference::{Journaled, Kind, Mode, Monitor, Request, IMAGE_BYTES, OBJECTS, PAGE_BYTES, REQUEST_BYTES};
 
 /// How often each work is repeated in a round.
 const REPEAT: usize = 200;
@@ -41,8 +41,9 @@ pub fn images() {
 fn tables() {
     let table = load::table(&mut Random::new(7), shape(4));
     let mut unit = Unit::from_table(&table).expect("a table that was written");
+    // a unit begins with an empty journal, and so does what it is compared with
     row("start from a table", &mut || assert_eq!(unit.start(&table), 0), &mut || {
-        assert!(Monitor::from_table(&table).is_ok())
+        assert!(Monitor::from_table(&table).map(Journaled::begin).is_ok_and(|it| it.entries() == 0))
     });
     let (mut one, mut two) = ([0; IMAGE_BYTES], [0; IMAGE_BYTES]);
     row("begin from a table, write", &mut || assert_eq!(circmon::begin(&table, &mut one), 0), &mut || {
@@ -55,7 +56,7 @@ fn tables() {
 fn units(monitor: &Monitor, image: &[u8; IMAGE_BYTES], what: &str) {
     let mut unit = Unit::from_image(image).expect("an image that was written");
     row(&format!("open, {what}"), &mut || assert_eq!(unit.open(image), 0), &mut || {
-        assert!(Monitor::from_image(image).is_ok())
+        assert!(Monitor::from_image(image).map(Journaled::begin).is_ok_and(|it| it.entries() == 0))
     });
     let (mut one, mut two) = ([0; IMAGE_BYTES], [0; IMAGE_BYTES]);
     row(&format!("save, {what}"), &mut || assert_eq!(unit.save(&mut one), 0), &mut || {
