@@ -7,13 +7,13 @@
  * NULL, with length 0. No function keeps a pointer, allocates, or has a state of its own: calls that share nothing
  * that one of them writes may run at once.
  *
- * Numbers: 0 granted and changed, or accepted, or written; 1 granted and so already; 2 malformed or outside the profile, of a
- * page: the object is above 63; 3 not enrolled; 4 object not live; 5 create on a live object; 6 right or ownership missing, of
- * an image: an access is held without the right; 7 no label, of an image: r, w or a is held on an object without one; 8 the
- * simple property would break, of an image: is broken; 9 the star property would break, of an image: is broken; 10 another
- * length; 11 a stray bit in what is absent; 12 an absent subject owns, has a right or holds; 13 the buffer is too short; 14 the
- * new label does not dominate the one that the object has; 15 the seed of a load is 0; 16 a profile outside its ranges, or a
- * clearance or label outside the profile; 17 nothing to take back.
+ * Numbers: 0 granted and changed, or accepted, or written, or taken back; 1 granted and so already; 2 malformed or outside the
+ * profile, of a page: the object is above 63; 3 not enrolled; 4 object not live; 5 create on a live object; 6 right or
+ * ownership missing, of an image: an access is held without the right; 7 no label, of an image: r, w or a is held on an object
+ * without one; 8 the simple property would break, of an image: is broken; 9 the star property would break, of an image: is
+ * broken; 10 another length; 11 a stray bit in what is absent; 12 an absent subject owns, has a right or holds; 13 the buffer
+ * is too short; 14 the new label does not dominate the one that the object has; 15 the seed of a load is 0; 16 a profile
+ * outside its ranges, or a clearance or label outside the profile; 17 the journal is empty: nothing to take back.
  * circmon_compare has four numbers of its own, and circmon_clash has four codes of its own. docs/FORMATS.md has the bytes.
  *
  * A function that returns a number with a count beside it returns both in 64 bits: the number in the low byte and the count,
@@ -122,9 +122,10 @@ uint8_t circmon_ask(circmon_unit *unit, const uint8_t *request, circmon_size req
  * Returns 0, and the object of the latest entry has the record that the entry keeps: rights, accesses held, owner and label, or
  * that it was not live; the entry is gone. Or 17 where the journal is empty, and every byte of the unit is left.
  * Of a unit that was opened or started with 0 and then only asked and taken back, 0 restores exactly the state before the latest
- * request still in the journal, and n calls after n requests with reply 0, at most 32, the state before them all.
+ * request still in the journal, and n calls after n requests with reply 0, n at most 32 and no taking-back among them, the
+ * state before them all.
  * It is no request: it has no bytes and enters nothing, and it may lower a label or leave an object without the one that it had,
- * which no request does. */
+ * which no request does. It restores records, and not the data of an object. */
 uint8_t circmon_take_back(circmon_unit *unit);
 
 /* Writes the image of the state into the first 1,274 bytes of the buffer and leaves any later byte.
@@ -157,7 +158,8 @@ uint8_t circmon_page(const circmon_unit *unit, uint8_t object, uint8_t *page, ci
  * is returned is proved of every unit. The unit is only read. */
 uint64_t circmon_clash(const circmon_unit *unit, const uint8_t *requests, circmon_size requests_len);
 
-/* ---- Calls without a unit: on tables, images and lists of requests, under the widest profile but for circmon_distinguish_in */
+/* ---- Calls without a unit: on tables, images and lists of requests, under the widest profile but for circmon_distinguish_in.
+ * None of these keeps a journal. */
 
 /* Begins a monitor from an enrolment table and writes its image.
  * Returns 10 or 11 where the table is refused; then 13 where the buffer has under 1,274 bytes; else 0.

@@ -26,7 +26,7 @@ use unit::set_object;
 // Rows of a unit: those of the monitor, and behind them those of its journal.
 pub const ROWS: usize = unit::ROWS + journal::ROWS;
 
-// The object that a request names. Of bytes that are no request it is of no use, and only below 64.
+// The object that a request names. Of bytes that are no request it is some number below 64, and nothing is entered.
 fn named(bytes: &[u8]) -> u8
     ensures { λ r. ⌜ r ≡ named (now (bytes .entry)) ⌝ }
 {

@@ -223,7 +223,10 @@ impl fmt::Display for Cause {
                 let name = format!("the label of o{object} ({})", level_words(*old));
                 let why = shortfall(*new, *old, &name).unwrap_or_default();
                 write!(out, "the new label ({}) {why}; ", level_words(*new))?;
-                write!(out, "a label only rises, and of all requests only a delete ends it; a taking-back may restore an earlier one")
+                write!(
+                    out,
+                    "no request lowers a label, and only a delete ends it; a taking-back may restore an earlier one"
+                )
             }
             Cause::NoLabel { object } => write!(
                 out,

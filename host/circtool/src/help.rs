@@ -44,7 +44,7 @@ the needs. What is outside it in a request gets 2.
   s1 get r o0                      s1 release r o0
   s1 give s0 r o1                  s1 rescind s0 r o1
   s1 delete o0
-  take back                        takes back the latest request with reply 0; for 'run' and 'explain'
+  take back                        takes back the latest request in the journal; for 'run' and 'explain'
   bytes 50 80 00 00 00 01          six raw bytes in hexadecimal; fewer only in the last line
   table-bytes 88 00 ..             the table by its 42 bytes, in place of the subjects; fewer (or 'none') only where
                                    no request follows
@@ -83,8 +83,9 @@ three it says how the one level compares with the other, 'below' (only the other
 does), and what is missing: the class, needs, or both. A level that is equal to the other or above it dominates it, and
 that is not refused. Of what is outside the profile it says what is in use.
 
-A script may take back requests, with the line 'take back'. It says which request that was and what its object is again;
-or, with 17, that there is none to take back. Up to 32 requests with reply 0 can be taken back, the latest first.
+A script may take back requests, with the line 'take back'. Then explain says which request that was and what its object
+is again; or, with 17, that there is none to take back. The journal keeps up to 32 requests with reply 0, the oldest
+gives way, and the latest is taken back first.
 
 The input is a script or bytes as circmon reads them. Without a flag the first byte decides: 00, 80 to FF, or no byte at
 all is bytes, any other a script, and so is what begins with a byte-order mark. An accepted table is never taken for a
@@ -105,7 +106,8 @@ Usage: circtool run [--script | --bytes] [--profile PROFILE] [--image OUT] [FILE
 
 Runs the requests and prints one reply for each, as circmon does; for a line 'take back' of a script 0, or 17 where
 there is nothing to take back. With --image the image after the run is written to the file OUT, whole or not at all, for
-'circtool show' and 'circtool compare'. What was taken back is not in it. Where the input is bad, OUT is as it was.
+'circtool show' and 'circtool compare'. It has the state after the takings-back, and no journal. Where the input is
+bad, OUT is as it was.
 
 The input is a script or bytes as circmon reads them. Without a flag the first byte decides: 00, 80 to FF, or no byte at
 all is bytes, any other a script, and so is what begins with a byte-order mark. 1,274 bytes are an image and not run.

@@ -54,8 +54,8 @@ impl Journal {
 
 fn empty_words() -> String {
     format!(
-        "the journal is empty: it keeps the last {JOURNAL_ENTRIES} requests with reply 0, without those taken back, and a monitor \
-         begun from a table or an image has none"
+        "the journal is empty: it keeps up to {JOURNAL_ENTRIES} requests with reply 0, the oldest gives way, and one that is taken \
+         back goes; a monitor begun from a table or an image has none"
     )
 }
 

@@ -86,7 +86,7 @@ fn lowered(reason: &str, before: &Monitor, request: &Request, said: &mut Said) {
     let old = label(before, request.object);
     let name = format!("the label of o{} ({})", request.object, words(old));
     let (tail, answer, missing) = expected(new, old, &name);
-    let end = "a label only rises, and of all requests only a delete ends it; a taking-back may restore an earlier one";
+    let end = "no request lowers a label, and only a delete ends it; a taking-back may restore an earlier one";
     assert_eq!(reason, format!("the new label ({}) {tail}; {end}", words(new)));
     *said.entry((14, answer, missing)).or_default() += 1;
 }

@@ -223,7 +223,7 @@ fn star_names_the_subject_and_both_objects() {
 fn a_lowered_label_is_named_with_the_old_one() {
     let labelled = "s1 create o0\ns1 level o0 class 2 needs {0}\ns1 get r o0\n";
     let old = "the label of o0 (class 2 needs {0})";
-    let end = "a label only rises, and of all requests only a delete ends it; a taking-back may restore an earlier one";
+    let end = "no request lowers a label, and only a delete ends it; a taking-back may restore an earlier one";
     for (level, why) in [
         (
             "class 0 needs {}",

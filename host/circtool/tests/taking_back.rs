@@ -60,8 +60,8 @@ fn what_was_taken_back_is_named_with_its_step() {
 
 #[test]
 fn an_empty_journal_is_17_and_says_why() {
-    let why = "the journal is empty: it keeps the last 32 requests with reply 0, without those taken back, and a monitor begun \
-               from a table or an image has none";
+    let why = "the journal is empty: it keeps up to 32 requests with reply 0, the oldest gives way, and one that is taken back goes; \
+               a monitor begun from a table or an image has none";
     for (requests, numbers, summary) in [
         (
             "take back\n",
