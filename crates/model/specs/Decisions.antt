@@ -11,7 +11,7 @@ abbrev pub number : Decision → ℕ
 number Granted = 0
 -- "granted and the state was so already"
 number Already = 1
--- "request not 6 bytes; kind not 1 to 8; ..; an unused field not 0"; of a page: an object "above 63"
+-- "request not 6 bytes; kind not 1 to 7", nor 8 of change request §10, "..; an unused field not 0"; of a page: an object "above 63"
 number MalformedRequest = 2
 -- "actor, or in kinds 3 and 4 the other subject, not enrolled"
 number NotEnrolled = 3

@@ -22,7 +22,7 @@ use Rattle.model.proofs.Levels.{dominates-decides}
 use Rattle.invariants.specs.Access.{withAccess, unheld}
 use Rattle.invariants.specs.Sound.{Sound}
 use Rattle.invariants.proofs.Granted.{granted-get, grants-get}
-use Rattle.invariants.proofs.Secure.{star-in, star-for, star-of, star-get}
+use Rattle.invariants.proofs.Star.{star-in, star-for, star-of, star-get}
 use Rattle.request_orders.proofs.Accesses.{Pairs}
 
 -- a property of states that is a test of pairs of accesses, and the gets that it and their own checks decide

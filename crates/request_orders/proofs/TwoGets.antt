@@ -23,7 +23,7 @@ use Rattle.model.proofs.Tests.{split, clash, implies-in, implies-out, pass, sto
 use Rattle.invariants.specs.Access.{withAccess, unheld}
 use Rattle.invariants.specs.Sound.{Sound}
 use Rattle.invariants.proofs.Granted.{granted-get}
-use Rattle.invariants.proofs.Secure.{star-in, star-for, star-of, star-get}
+use Rattle.invariants.proofs.Star.{star-in, star-for, star-of, star-get}
 use Rattle.invariants.proofs.Inside.{get-within}
 use Rattle.invariants.proofs.Steps.{sound-afterwards}
 use Rattle.invariants.proofs.Added.{same-unheld, held-now, holds-now}
