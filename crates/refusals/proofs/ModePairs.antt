@@ -53,7 +53,7 @@ module _ (m : Monitor) (R : Reached m) (g : List ℕ) (s o : ℕ) (x : Mode) (sa
   nine-not-kept e K =
       let first = reply-first-cause m R g (Get s o x) says StarBroken refl .0 e in
       let labelled = over (distinct _ _ refl) (over (distinct _ _ refl) (over (distinct _ _ refl) (over (distinct _ _ refl) first .1) .1) .1) in
-      ⊎-elim (λ a. a .1 (by-held (labelled .0) .1 K)) 
+      ⊎-elim (λ a. a .1 (by-held (labelled .0) .1 K))
       (λ (c : ((Star (afterwards (Get s o x) m) → ⊥) → ⊥) × FirstIn (row WallBroken (Wall (afterwards (Get s o x) m) → ⊥) none) StarBroken). absurd (over (distinct _ _ refl) (c .1) .1))
       (over (distinct _ _ refl) (labelled .1) .1)
 
