@@ -1,6 +1,6 @@
 -- Joined company numbers: where several objects are compatible, what a rule asks of each of them it asks of their joined numbers.
 -- Assumes nothing.
-use Prim.Native.Nat.{ℕ, zero, suc, _<_}
+use Prim.Native.Nat.{ℕ, zero, suc, _%_, _<_}
 use native.Mathlib.Omega.{arith}
 use native.Mathlib.Nat.{eq-or-lt-of-le, le-of-suc-le-suc, not-suc-le-zero}
 use mathlib.Core.Path.{_≡_, sym, ap, _∙_, subst}
@@ -18,6 +18,10 @@ use Rattle.wall.specs.Joined.{numberOr, joined, joinedBelow}
 pub company-fits : (k n : ℕ) → company k n < 16
 unfolding company
 company-fits k n = omega arith
+
+pub last-company : (n : ℕ) → n % 16 ≡ company 3 n
+unfolding company
+last-company n = omega arith
 
 pub number-or-fits : (a b : ℕ) → a < 16 → b < 16 → numberOr a b < 16
 number-or-fits a b h g = cond-all (λ (n : ℕ). n < 16) (eqb a 0) b a (λ e. g) (λ e. h)
@@ -73,7 +77,7 @@ module _ (f : ℕ → Bool) (g : ℕ → ℕ) where
   joined-from (suc n) k h =
       let W = joinedBelow n f g in
       let earlier : company k W ≢ 0 → (j : ℕ) × ((j < suc n) × ((f j ≡ true) × (company k (g j) ≡ company k W))) =
-          λ z. let i = joined-from n k h z in (i .0, (omega (arith, i .1 .0), i .1 .1)) in
+      λ z. let i = joined-from n k h z in (i .0, (omega (arith, i .1 .0), i .1 .1)) in
       cond-all (λ (w : ℕ). company k w ≢ 0 → (j : ℕ) × ((j < suc n) × ((f j ≡ true) × (company k (g j) ≡ company k w)))) (f n) (joined W (g n)) W
       (λ t z.
       ⊎-elim

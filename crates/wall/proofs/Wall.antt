@@ -2,10 +2,10 @@
 -- Assumes nothing.
 use Prim.Native.Nat.{ℕ, _<_}
 use native.Mathlib.Omega.{arith}
-use mathlib.Core.Path.{_≡_, refl, sym, ap₂, _∙_}
+use mathlib.Core.Path.{_≡_, refl, sym, ap, ap₂, _∙_}
 use mathlib.Core.Bool.{Bool, true, _&&_}
 use mathlib.Core.List.{List}
-use lib.ListN.{length, getD}
+use lib.ListN.{length}
 use borrow.Author.Tests.{eqb-true}
 use Rattle.model.specs.declared.Object.{Object}
 use Rattle.model.specs.Tests.{allBelow, implies}
@@ -81,17 +81,18 @@ module _ (n : ℕ) (g : ℕ → ℕ) (read altered : ℕ → Bool) where
 -- ---- one subject
 
 module _ (s : ℕ) (l : List Object) (n : length l ≡ 64) where
-  -- by the list of the objects that it has an access to
-  pub wall-listed : (a : List ℕ) (c : ℕ) → Listed (accessedBy s (objectAt l)) itself a c 64
-      → wallFor s l
-      ≡ (joins c (numbersAt (objectAt l) a)
-      && confinedTo c (alteredAt s (objectAt l) a) (joinedBelow c (readAt s (objectAt l) a) (numbersAt (objectAt l) a)) (numbersAt (objectAt l) a))
+  -- by the list of the objects that it has an access to: what the pass over their joined numbers found, and the one over those that it alters
+  pub wall-listed : (a : List ℕ) (c : ℕ) → Listed (accessedBy s (objectAt l)) itself a c 64 → (fit kept : Bool) (w : ℕ)
+      → fit ≡ joins c (numbersAt (objectAt l) a) → w ≡ joinedBelow c (readAt s (objectAt l) a) (numbersAt (objectAt l) a)
+      → kept ≡ confinedTo c (alteredAt s (objectAt l) a) w (numbersAt (objectAt l) a) → (fit && kept) ≡ wallFor s l
   unfolding wallFor wallFrom wallPair
-  wall-listed a c A =
-      pairs-listed (λ (p : Object). anyHeld (heldBy p s)) (λ (p : Object). anyHeld (heldBy p s))
+  wall-listed a c A fit kept w f r k =
+      ap₂ _&&_ f (k ∙ ap (λ (v : ℕ). confinedTo c (alteredAt s (objectAt l) a) v (numbersAt (objectAt l) a)) r)
+      ∙ sym
+      (pairs-listed (λ (p : Object). anyHeld (heldBy p s)) (λ (p : Object). anyHeld (heldBy p s))
       (λ (p q : Object). compatible (p .companies) (q .companies) && implies (anyObserves (heldBy p s) && anyAlters (heldBy q s)) (confined (p .companies) (q .companies)))
       l n noObject (objectAt l) (λ k w. refl) a a c c A A
-      ∙ pairs-joined c (numbersAt (objectAt l) a) (readAt s (objectAt l) a) (alteredAt s (objectAt l) a)
+      ∙ pairs-joined c (numbersAt (objectAt l) a) (readAt s (objectAt l) a) (alteredAt s (objectAt l) a))
 
   -- where no object has a number
   pub wall-unmarked : noCompanies l ≡ true → wallFor s l ≡ true

@@ -1,62 +1,83 @@
+-- `wall::lists::altered_confined` meets its contract.
+-- Assumes nothing.
+use Prim.Native.Nat.{ℕ, _-_, _<_, _≤_}
+use native.Mathlib.Omega.{arith}
+use native.Mathlib.Numerals.{add-one}
+use mathlib.Core.Path.{_≡_, refl, sym, ap, ap₂, _∙_}
+use mathlib.Core.Bool.{_&&_}
+use lib.ListN.{getD}
+use Rattle.model.specs.Tests.{implies}
+use Rattle.model.specs.Companies.{confined}
+use Rattle.model.specs.Modes.{anyAlters}
+use Rattle.model.specs.State.{objectAt}
+use Rattle.unit.specs.Rows.{objectsIn}
+use Rattle.wall.specs.Joined.{confinedTo}
+use Rattle.wall.specs.Lists.{numbersAt, alteredAt}
 use Rattle.wall.proofs.lists.altered_confined.Statement.{statement}
 use Rattle.wall.proofs.lists.altered_confined.Tie as tie
-use Rattle.wall.proofs.lists.altered_confined.Reads as reads
-use Rattle.wall.proofs.lists.altered_confined.Lts as lts
-use Rattle.labels.proofs.implies.Reads as implies-reads
-use Rattle.mode_sets.proofs.any_alters.Reads as any-alters-reads
-use Rattle.unit.proofs.companies_of.Reads as companies-of-reads
-use Rattle.unit.proofs.held_by.Reads as held-by-reads
-use Rattle.wall.proofs.numbers.confined.Reads as confined-reads
 
 abbrev Inv-loop : tie.InvT-loop
-Inv-loop unit s list count read kept₀ i₀ kept i = ?
+Inv-loop unit s list count read kept₀ i₀ kept i = (i ≤ count) × (kept ≡ confinedTo i (alteredAt s (objectAt (objectsIn unit)) list) read (numbersAt (objectAt (objectsIn unit)) list))
 
 abbrev μ-loop : tie.MeasureT-loop
-μ-loop unit s list count read kept₀ i₀ kept i = ?
+μ-loop unit s list count read kept₀ i₀ kept i = count - i
 
--- src/lists.rt:81:5
+-- the object that is looked at, and how many there are
+object-below : (c : tie.In-loop Inv-loop μ-loop) → getD (c .before .before .before .args .list .now) (c .before .loop .i) 0 < 64
+object-below c = c .before .before .before .pre .1 .1 .1 .below _ (c .loop-test .taken)
+
+listed-few : (c : tie.In-loop Inv-loop μ-loop) → c .before .loop .i < 64
+listed-few c = omega (arith, c .loop-test .taken, c .before .before .before .pre .1 .1 .1 .few)
+
 loop-holds : tie.Need-loop-holds Inv-loop μ-loop
-loop-holds c = ?
+unfolding confinedTo
+loop-holds c = (omega arith, refl)
 
--- src/lists.rt:82:17
 shared-slice-read-o : tie.Need-shared-slice-read-o Inv-loop μ-loop
-shared-slice-read-o c = ?
+shared-slice-read-o c = omega (arith, listed-few (c .before), c .before .before .before .before .pre .1 .0)
 
--- src/lists.rt:83:33
 held-by-requires : tie.Need-held-by-requires Inv-loop μ-loop
-held-by-requires c κs = ?
+held-by-requires c κs = (c .before .before .before .before .pre .0, (object-below (c .before), c .before .before .before .before .pre .1 .1 .0))
 
--- src/lists.rt:83:13
 any-alters-requires : tie.Need-any-alters-requires Inv-loop μ-loop
-any-alters-requires c κs = ?
+any-alters-requires c κs = tt
 
--- src/lists.rt:84:54
 companies-of-requires : tie.Need-companies-of-requires Inv-loop μ-loop
-companies-of-requires c κs = ?
+companies-of-requires c κs = (c .before .before .before .before .before .before .pre .0, object-below (c .before .before .before))
 
--- src/lists.rt:84:39
 confined-requires : tie.Need-confined-requires Inv-loop μ-loop
-confined-requires c κs = ?
+confined-requires c κs = tt
 
--- src/lists.rt:84:23
 implies-requires : tie.Need-implies-requires Inv-loop μ-loop
-implies-requires c κs = ?
+implies-requires c κs = tt
 
--- src/lists.rt:85:9
 add-i : tie.Need-add-i Inv-loop μ-loop
-add-i c = ?
+add-i c = omega (arith, listed-few (c .before .before .before .before .before .before))
 
--- src/lists.rt:81:5
 loop-less : tie.Need-loop-less Inv-loop μ-loop
-loop-less c = ?
+loop-less c = omega (arith, c .before .before .before .before .before .before .loop-test .taken)
 
--- src/lists.rt:81:5
 loop-again : tie.Need-loop-again Inv-loop μ-loop
-loop-again c = ?
+unfolding confinedTo
+loop-again c =
+    let inv = c .before .before .before .before .before .before .before .loop .inv in
+    let start = c .before .before .before .before .before .before .before .before .before in
+    let at = objectAt (objectsIn (start .args .unit .now)) in
+    let list = start .args .list .now in
+    let alters = c .before .before .before .any-alters .ensures ∙ ap anyAlters (c .before .before .before .before .held-by .ensures) in
+    let confines = c .before .confined .ensures ∙ ap (confined (start .args .read)) (c .before .before .companies-of .ensures) in (
+      omega (arith, c .before .before .before .before .before .before .loop-test .taken),
+      ap₂ _&&_ (inv .1) (c .implies .ensures ∙ ap₂ implies alters confines)
+          ∙ ap (λ (k : ℕ). confinedTo k (alteredAt (start .args .s) at list) (start .args .read) (numbersAt at list)) (sym (add-one (c .before .before .before .before .before .before .before .loop .i))),
+    )
 
--- src/lists.rt:73:1
 returns : tie.Need-returns Inv-loop μ-loop
-returns c = ?
+returns c =
+    let inv = c .before .loop .inv in
+    let a = c .before .before .before .args in
+    let at = objectAt (objectsIn (a .unit .now)) in
+    let all : c .before .loop .i ≡ a .count = omega (arith, c .loop-test .left, inv .0) in
+    inv .1 ∙ ap (λ (k : ℕ). confinedTo k (alteredAt (a .s) at (a .list .now)) (a .read) (numbersAt at (a .list .now))) all
 
 pub altered-confined-spec : {M : Type 1} → statement M
 altered-confined-spec =

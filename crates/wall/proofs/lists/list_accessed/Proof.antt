@@ -1,64 +1,66 @@
+-- `wall::lists::list_accessed` meets its contract.
+-- Assumes nothing.
+use Prim.Native.Nat.{_-_, _≤_}
+use native.Mathlib.Omega.{arith}
+use mathlib.Core.Path.{_≡_, sym, ap, _∙_, subst}
+use Rattle.bits.specs.Bits.{bit}
+use Rattle.model.specs.Modes.{anyHeld}
+use Rattle.model.specs.State.{objectAt}
+use Rattle.unit.specs.Rows.{objectsIn}
+use Rattle.star.specs.Lists.{Listed, itself}
+use Rattle.star.proofs.Listed.{listed-none, listed-more, bit-small}
+use Rattle.wall.specs.Lists.{accessedBy}
 use Rattle.wall.proofs.lists.list_accessed.Statement.{statement}
 use Rattle.wall.proofs.lists.list_accessed.Tie as tie
-use Rattle.wall.proofs.lists.list_accessed.Reads as reads
-use Rattle.wall.proofs.lists.list_accessed.Lts as lts
-use Rattle.mode_sets.proofs.any_held.Reads as any-held-reads
-use Rattle.star.proofs.one_if.Reads as one-if-reads
-use Rattle.unit.proofs.held_by.Reads as held-by-reads
 
 abbrev Inv-loop : tie.InvT-loop
-Inv-loop unit s accessed₀ count₀ o₀ accessed count o = ?
+Inv-loop unit s accessed₀ count₀ o₀ accessed count o = (o ≤ 64) × Listed (accessedBy s (objectAt (objectsIn unit))) itself accessed count o
 
 abbrev μ-loop : tie.MeasureT-loop
-μ-loop unit s accessed₀ count₀ o₀ accessed count o = ?
+μ-loop unit s accessed₀ count₀ o₀ accessed count o = 64 - o
 
--- src/lists.rt:31:5
 loop-holds : tie.Need-loop-holds Inv-loop μ-loop
-loop-holds c = ?
+loop-holds c = (omega arith, listed-none _ _ _ (c .before .pre .1 .0))
 
--- src/lists.rt:32:18
 cast-at : tie.Need-cast-at Inv-loop μ-loop
-cast-at c = ?
+cast-at c = omega (arith, c .loop-test .taken)
 
--- src/lists.rt:33:9
 slice-write-accessed : tie.Need-slice-write-accessed Inv-loop μ-loop
-slice-write-accessed c = ?
+slice-write-accessed c = let inv = c .before .loop .inv in omega (arith, c .loop-test .taken, inv .1 .few, inv .1 .whole)
 
--- src/lists.rt:34:34
 held-by-requires : tie.Need-held-by-requires Inv-loop μ-loop
-held-by-requires c κs = ?
+held-by-requires c κs = (c .before .before .before .pre .0, (c .loop-test .taken, c .before .before .before .pre .1 .1))
 
--- src/lists.rt:34:25
 any-held-requires : tie.Need-any-held-requires Inv-loop μ-loop
-any-held-requires c κs = ?
+any-held-requires c κs = tt
 
--- src/lists.rt:34:18
 one-if-requires : tie.Need-one-if-requires Inv-loop μ-loop
-one-if-requires c κs = ?
+one-if-requires c κs = tt
 
--- src/lists.rt:34:9
 add-count : tie.Need-add-count Inv-loop μ-loop
-add-count c = ?
+add-count c = omega (arith, c .one-if .ensures, bit-small (c .before .any-held .result), c .before .before .before .before .loop .inv .1 .few, c .before .before .before .loop-test .taken)
 
--- src/lists.rt:35:9
 add-o : tie.Need-add-o Inv-loop μ-loop
-add-o c = ?
+add-o c = omega (arith, c .before .before .before .loop-test .taken)
 
--- src/lists.rt:31:5
 loop-less : tie.Need-loop-less Inv-loop μ-loop
-loop-less c = ?
+loop-less c = omega (arith, c .before .before .before .loop-test .taken)
 
--- src/lists.rt:31:5
 loop-again : tie.Need-loop-again Inv-loop μ-loop
-loop-again c = ?
+loop-again c =
+    let inv = c .before .before .before .before .loop .inv in
+    let t = c .before .before .before .loop-test .taken in
+    (omega (arith, t), listed-more _ _ _ _ _ t t (inv .1) _ (c .one-if .ensures ∙ ap bit (c .before .any-held .ensures ∙ ap anyHeld (c .before .before .held-by .ensures))))
 
--- src/lists.rt:23:1
 same-length : tie.Need-same-length Inv-loop μ-loop
-same-length c = ?
+same-length c = c .before .loop .inv .1 .whole ∙ sym (c .before .before .before .pre .1 .0)
 
--- src/lists.rt:23:1
 returns : tie.Need-returns Inv-loop μ-loop
-returns c = ?
+returns c =
+    let inv = c .before .loop .inv in
+    let start = c .before .before .before in
+    let all : c .before .loop .o ≡ 64 = omega (arith, c .loop-test .left, inv .0) in
+    subst (Listed (accessedBy (start .args .s) (objectAt (objectsIn (start .args .unit .now)))) itself (c .before .loop .accessed) (c .before .loop .count)) all (inv .1)
 
 pub list-accessed-spec : {M : Type 1} → statement M
 list-accessed-spec =

@@ -1,19 +1,17 @@
+-- `wall::numbers::joined_if` meets its contract.
+-- Assumes nothing.
 use borrow.Author.Needs.{needs}
+use mathlib.Core.Path.{sym, _∙_}
+use Rattle.model.proofs.Tests.{cond-true}
 use Rattle.wall.proofs.numbers.joined_if.Statement.{statement}
 use Rattle.wall.proofs.numbers.joined_if.Tie as tie
-use Rattle.wall.proofs.numbers.joined_if.Reads as reads
-use Rattle.wall.proofs.numbers.joined_if.Lts as lts
-use Rattle.wall.proofs.numbers.joined.Reads as joined-reads
 
--- src/numbers.rt:66:17
 joined-requires : tie.Need-joined-requires
 joined-requires c κs = search needs
 
--- src/numbers.rt:63:1
 returns : tie.Need-returns
-returns c = ?
+returns c = c .joined .ensures ∙ sym (cond-true (c .before .before .args .passes) _ _ (c .before .if1 .taken))
 
--- src/numbers.rt:63:1
 returns-2 : tie.Need-returns-2
 returns-2 c = search needs
 
