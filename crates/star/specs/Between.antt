@@ -1,4 +1,4 @@
--- The star property of the subjects from one on to below another: of one subject in get, of all in change of level and in an image.
+-- A test of the subjects from one on to below another, and the star property so: of one subject in get, of all in change of level and in an image.
 -- Assumes nothing.
 use Prim.Native.Nat.{ℕ}
 use mathlib.Core.Bool.{Bool, _&&_}

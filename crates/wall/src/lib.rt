@@ -32,18 +32,19 @@ pub fn companies_keep(x: Mode, p: u16, y: Mode, q: u16) -> bool
     compatible(p, q) & (first & second)
 }
 
-// No object has a company number. Every object is looked at, without a branch.
+// No object has a company number: left at the first that has one.
 fn no_companies(unit: &[[u8; 16]]) -> bool
     requires { do ⌜ (← ⟦unit.len()⟧) ≡ rowCount ⌝ }
     ensures { λ r. ⌜ r ≡ noCompanies (objectsIn (now (unit .entry))) ⌝ }
 {
-    let mut none = true;
     let mut o = 0usize;
     while o < Monitor::OBJECTS {
-        none = none & (companies_of(unit, o as u8) == 0);
+        if companies_of(unit, o as u8) != 0 {
+            return false;
+        }
         o += 1;
     }
-    none
+    true
 }
 
 // Whether subject s breaks the wall: the objects that it has an access to are listed, and gone over once for each of the two rules.
