@@ -1,6 +1,6 @@
 -- A request on the rows by its checks: refused before anything is stored, refused by what the change would break, or granted.
 -- Assumes nothing.
-use Prim.Native.Nat.{ℕ, _+_, _<_}
+use Prim.Native.Nat.{ℕ, _<_}
 use mathlib.Core.Path.{_≡_, refl, sym, ap, ap₂, _∙_}
 use mathlib.Core.Bool.{Bool, true, false, cond, not}
 use native.Mathlib.Omega.{arith}
@@ -17,15 +17,12 @@ use Rattle.model.specs.declared.Request.the-variants.{Get, Delete, ChangeLevel,
 use Rattle.model.specs.declared.Decision.{Decision}
 use Rattle.model.specs.declared.Decision.the-variants.{Granted, Already, NotEnrolled, NotLive, NoRight, NoLabel, SimpleBroken, StarBroken, LabelLowered, WallBroken}
 use Rattle.model.specs.declared.Response.{Response}
-use Rattle.model.specs.Tests.{implies, unless}
-use Rattle.model.specs.Modes.{needsLabel}
+use Rattle.model.specs.Tests.{unless}
 use Rattle.model.specs.State.{noObject, object}
 use Rattle.model.specs.Decisions.{number, refuses}
 use Rattle.model.specs.Requests.{InRange}
 use Rattle.model.specs.Rules.{notLowered, target, already, changed, checks, afterwards, simpleAll, starAll, wallAll}
 use Rattle.model.proofs.Tests.{cond-true, cond-false, not-not, pass, stop}
-use Rattle.star.specs.Between.{starBetween}
-use Rattle.star.proofs.Between.{between-one}
 use Rattle.unit.specs.Rows.{Rows, rowCount, objectIn, objectsIn, stateIn}
 use Rattle.unit.proofs.Tabulated.{tabulate-length}
 use Rattle.unit.proofs.Stores.{label-stored, companies-stored}

@@ -93,11 +93,13 @@ both-exact : (n : Monitor) → Sound n → (s o : ℕ) (x : Mode)
 unfolding changed
 both-exact n S s o x = (
   λ e.
-      let g = granted-get n s o x e in
-      (and-both (g .there) (and-both (g .live) (and-both (g .right) (and-both (g .labelled) (g .simple)))), (
-        star-of (withAccess n s o x) (star-get s o x n (S .formed) (S .secure .star) (g .star)),
-        wall-of (withAccess n s o x) (wall-get s o x n (S .formed) (S .secure .wall) (g .wall)),
-      )),
+      let g = granted-get n s o x e in (
+        and-both (g .there) (and-both (g .live) (and-both (g .right) (and-both (g .labelled) (g .simple)))),
+        (
+          star-of (withAccess n s o x) (star-get s o x n (S .formed) (S .secure .star) (g .star)),
+          wall-of (withAccess n s o x) (wall-get s o x n (S .formed) (S .secure .wall) (g .wall)),
+        ),
+      ),
   λ h.
       let a = h .0 in
       let b = and-right (enrolled n s) _ a in

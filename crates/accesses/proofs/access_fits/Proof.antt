@@ -24,7 +24,7 @@ breaks-star-requires c κs = search needs
 
 returns : tie.Need-returns
 unfolding afterGet implies
-returns c = 
+returns c =
     sym (stop _ StarBroken _
     (ap₂ implies (sym (c .before .before .before .needs-label .ensures) ∙ c .before .before .if1 .taken) (sym (between-one _ _ (c .before .before .before .before .pre .1)) ∙ not-on _ (sym (c .before .breaks-star .ensures) ∙ c .if2 .taken))))
 
@@ -39,7 +39,7 @@ check-requires c κs = search needs
 
 returns-2 : tie.Need-returns-2
 unfolding afterGet
-returns-2 c = 
+returns-2 c =
     c .check .ensures ∙ ap (λ b. unless b WallBroken Granted) (ap not (c .before .breaks-wall .ensures) ∙ not-not _ ∙ wall-one _ _ (c .before .before .before .before .pre .1))
     ∙ sym (pass _ StarBroken _ (implies-in _ _ (λ w.
     ⊎-elim

@@ -32,7 +32,7 @@ same-length : tie.Need-same-length
 same-length c = search needs
 
 returns : tie.Need-returns
-returns c = 
+returns c =
     let start = c .before .before .before .before .before in
     let t = sym (c .before .before .refuses .ensures) ∙ c .before .if1 .taken in
     does-refused (Get (start .args .s) (start .args .o) (start .args .x)) (start .args .unit .now) _ _ (get-refused (start .args .unit .now) (start .pre .0) (start .args .s) (start .args .o) (start .args .x) (start .pre .1) _ (c .before .before .before .may-get .ensures) t) _ t (c .number .ensures) refl
@@ -62,7 +62,7 @@ same-length-2 : tie.Need-same-length-2
 same-length-2 c = search needs
 
 returns-2 : tie.Need-returns-2
-returns-2 c = 
+returns-2 c =
     let held = c .before .before .before .before .before .before .before .before .before in
     let start = held .before .before .before .before .before .before .before .before .before in
     let passed = sym (c .before .before .before .before .before .before .before .before .before .before .before .before .before .before .before .refuses .ensures) ∙ c .before .before .before .before .before .before .before .before .before .before .before .before .before .before .if1 .left in
@@ -84,7 +84,7 @@ same-length-3 c = search needs
 
 returns-3 : tie.Need-returns-3
 unfolding already
-returns-3 c = 
+returns-3 c =
     let held = c .before .before .before .before .before .before .before in
     let start = held .before .before .before .before .before .before .before .before .before in
     let passed = sym (c .before .before .before .before .before .before .before .before .before .before .before .before .before .refuses .ensures) ∙ c .before .before .before .before .before .before .before .before .before .before .before .before .if1 .left in
