@@ -1,5 +1,6 @@
 // Executes the edges of requests with the proved functions, and prints a line for each: what was tried, and the number that came.
 // The numbers in the file stdout were worked out from the scope by hand; the comment at each request says why.
+mod companies;
 mod requests;
 mod trial;
 
@@ -16,4 +17,6 @@ fn main() {
     let labelled = requests::kinds(one);
     requests::unused(labelled);
     requests::levels(labelled);
+    companies::setting(one);
+    companies::wall(one);
 }

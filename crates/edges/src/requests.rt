@@ -1,5 +1,5 @@
-// The edges of a request: subjects, objects, modes, lengths, kinds, fields that are not used, and labels beside that of an
-// object. The comment behind each request has the reply that the scope gives it, and why.
+// The edges of a request: subjects, objects, modes, lengths, kinds, fields that are not used, labels beside that of an
+// object, and company numbers. The comment behind each request has the reply that the scope gives it, and why.
 ghost use Prim.Native.Nat.{_≤_};
 ghost use mathlib.Core.Path.{_≡_};
 ghost use Rattle.edges.specs.Trials.{left, changeTo};
@@ -75,7 +75,8 @@ pub fn kinds(one: [[u8; 16]; ROWS]) -> [[u8; 16]; ROWS]
     ask_plain(one, 0, 0, 0, 0, 1); // 2: no such kind; the mode is one of a get
     ask_plain(one, 1, 0, 0, 0, 1); // 7: the right r is there, and no label
     let labelled = ask_plain(one, 7, 0, 0, 0, 0); // 0: no label differs from class 0 without needs; nothing is held
-    ask_plain(one, 8, 0, 0, 0, 0); // 2: no such kind; the mode is that of a change of level
+    ask_plain(one, 8, 0, 0, 0, 0); // 1: the company numbers of object 0 are 0 already
+    ask_plain(one, 9, 0, 0, 0, 0); // 2: no such kind; the mode is that of a change of level
     labelled
 }
 

@@ -44,13 +44,13 @@ fn buffer(unit: &[[u8; 16]; ROWS], bytes: &mut [u8]) {
 }
 
 // The image ends with 0, for object 63 is not live, and none of its bytes is 170. Those that are not 0 are in hexadecimal 88, 0C, C0,
-// E0, 1F, FF, FF in the table, and 84 and 3E in the record of object 0: live, owner 0, a label of class 0 without needs (1 0000 1 and
-// twenty zeros), then subject 0's rights r, w, a, e and its access r (1111 1000).
+// E0, 1F, FF, FF in the table, and 84 and 3E in the record of object 0: live, owner 0, a label of class 0 without needs, no company
+// (1 0000 1 and 36 zeros), then subject 0's rights r, w, a, e and its access r (1111 1000).
 pub fn buffers(unit: &[[u8; 16]; ROWS]) {
-    let mut short = [170u8; 1273];
-    buffer(unit, &mut short); // 13; last byte 170, and 1273 bytes are 170: all are left
-    let mut exact = [170u8; 1274];
+    let mut short = [170u8; 1401];
+    buffer(unit, &mut short); // 13; last byte 170, and 1401 bytes are 170: all are left
+    let mut exact = [170u8; 1402];
     buffer(unit, &mut exact); // 0; last byte 0, and no byte is 170
-    let mut long = [170u8; 1275];
+    let mut long = [170u8; 1403];
     buffer(unit, &mut long); // 0; last byte 170, and 1 byte is 170: the one behind the image is left
 }

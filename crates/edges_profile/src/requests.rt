@@ -57,6 +57,15 @@ pub fn levels(one: [[u8; 16]; ROWS]) {
     change(one, 2, 3, 3); // 3: inside the profile, but not enrolled
 }
 
+// Company numbers of object 0, which no profile bounds.
+pub fn companies(one: [[u8; 16]; ROWS]) {
+    let mut f = without_level(8, 0, 0, 0, 0);
+    f.needs = 65535;
+    ask(one, f); // 0: the owner sets the highest numbers
+    f.actor = 4;
+    ask(one, f); // 2: a subject outside the profile
+}
+
 // After a refusal nobody is enrolled, and the profile is the widest.
 pub fn refused(empty: [[u8; 16]; ROWS]) {
     create(empty, 4, 0); // 3: inside the widest profile, but not enrolled

@@ -3,5 +3,6 @@ pub mod Replies
 pub mod Gets
 pub mod Frames
 pub mod Labels
+pub mod Companies
 pub mod Effects
 pub mod Demand2

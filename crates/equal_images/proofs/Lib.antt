@@ -8,3 +8,4 @@ pub mod Clearances
 pub mod Demand3
 pub mod ToldApart
 pub mod OneProfile
+pub mod CompaniesApart

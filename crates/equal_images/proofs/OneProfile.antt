@@ -37,7 +37,7 @@ abbrev oneSubject : ℕ → ℕ → Profile
 oneSubject objects class = site 1 objects class 0
 
 -- tables with subject 0 alone, of class 0 and of class 1
-pub low : List ℕ
+unfoldable pub low : List ℕ
 low = 0x80 ∷ replicate 41 0
 
 pub high : List ℕ

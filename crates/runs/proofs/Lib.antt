@@ -6,3 +6,4 @@ pub mod Witnesses
 pub mod ModePairs
 pub mod Sites
 pub mod TakingBack
+pub mod Walls

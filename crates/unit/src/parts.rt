@@ -178,8 +178,8 @@ pub fn set_companies(unit: &mut [[u8; 16]], o: u8, companies: u16)
     ensures { λ r. ⌜ now (unit .exit) ≡ setCompanies (now (unit .entry)) o companies ⌝ }
 {
     let row = rest_of(unit, o);
-    let label = label_in(row);
-    let new = row_of(flag(row[0] == 1), row[1], label, companies);
+    let kept = label_in(row);
+    let new = row_of(flag(row[0] == 1), row[1], kept, companies);
     set_rest(unit, o, new);
 }
 
