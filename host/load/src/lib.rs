@@ -153,10 +153,11 @@ pub fn new_companies(random: &mut Random, shape: Shape, companies: Companies) ->
     match random.below(8) {
         0 => {}
         1 => new = [0; CONFLICT_CLASSES],
-        // none as often as any
         way => {
-            let company = if way % 2 == 0 { 0 } else { 1 + random.below(shape.companies) };
-            new[random.below(CONFLICT_CLASSES)] = company as u8;
+            let company = if way < 4 { 0 } else { 1 + random.below(shape.companies) };
+            // the first class most often, so that two objects have companies of one class
+            let class = if random.once_in(2) { 0 } else { random.below(CONFLICT_CLASSES) };
+            new[class] = company as u8;
         }
     }
     new
@@ -187,7 +188,7 @@ const WEIGHTS: [(Make, usize); 8] = [
     (create, 1),
     (|_| Kind::Delete, 1),
     (|it| Kind::ChangeLevel(it.level), 5),
-    (|it| Kind::SetCompanies(it.companies), 4),
+    (|it| Kind::SetCompanies(it.companies), 5),
 ];
 
 fn drawn(random: &mut Random, shape: Shape) -> Make {

@@ -93,7 +93,7 @@ fn images_under_profiles() {
         50,
         &["the enrolled bit beyond", "the live bit beyond", "16 by a clearance alone", "16 by a label alone"],
     );
-    let numbers = [0, 10, 11, 16, 12, 6, 7, 8, 9].map(|number| format!("image {number}"));
+    let numbers = [0, 10, 11, 16, 12, 6, 7, 8, 9, 18].map(|number| format!("image {number}"));
     met.check(30, &numbers.each_ref().map(String::as_str));
 }
 
@@ -187,6 +187,12 @@ fn the_order_of_the_checks() {
     let (read, append) = (Mode::Read.bit(), Mode::Append.bit());
     // each fault comes before those that were made earlier
     fault(&|it| {
+        on(it, 2, 1, read, read);
+        on(it, 3, 1, read, read);
+        it.objects[2].as_mut().unwrap().companies = [0, 1, 0, 0];
+        it.objects[3].as_mut().unwrap().companies = [0, 15, 0, 0];
+    });
+    fault(&|it| {
         it.objects[1].as_mut().unwrap().label = Some(Level { class: 0, needs: 0 });
         on(it, 0, 0, read, read);
         on(it, 1, 0, append, append);
@@ -197,7 +203,7 @@ fn the_order_of_the_checks() {
     fault(&|it| on(it, 3, 15, read, 0));
     fault(&|it| it.objects[2].as_mut().unwrap().label = Some(Level { class: 2, needs: 1 }));
     fault(&|it| it.objects[63] = Some(Object::new(0)));
-    assert_eq!(numbers, [0, 9, 8, 7, 6, 12, 16, 11]);
+    assert_eq!(numbers, [0, 18, 9, 8, 7, 6, 12, 16, 11]);
     let short = image(&monitor)[..IMAGE_BYTES - 1].to_vec();
     assert_eq!(opened(random, profile, &short, "another length"), reply::LENGTH);
     let mut table = monitor.table();
