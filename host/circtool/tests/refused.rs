@@ -74,7 +74,7 @@ fn images_damaged_in_random_ways() {
 #[test]
 fn states_that_break_one_property() {
     let mut seen = Count::default();
-    for seed in 0..400 {
+    for seed in 0..800 {
         let random = &mut Random::new(seed);
         let mut monitor = load::rich(seed, 10, 500);
         for object in monitor.objects.iter_mut().flatten() {
