@@ -24,7 +24,7 @@ impl Run {
         let mut run = Run { random, shape, followed, met: Met::default() };
         for _ in 0..before {
             run.next();
-            if run.random.once_in(5) {
+            if run.random.once_in(12) {
                 run.followed.take_back(&mut run.met);
             }
         }
