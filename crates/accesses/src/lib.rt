@@ -1,11 +1,11 @@
 // The kinds of request about the accesses that a subject holds, on a unit: get and release. The checks of a kind are in the scope's order, then
 // stands what it stores. Each returns the number of its answer; a refusal leaves every byte. Get stores first, and puts the old set
-// back where star refuses.
+// back where star or the wall refuses.
 ghost use mathlib.Core.Path.{_≡_};
 ghost use Prim.Native.Nat.{_<_};
 ghost use Rattle.model.specs.State.{subjectCount, objectCount};
 ghost use Rattle.unit.specs.Rows.{rowCount, stateIn};
-ghost use Rattle.kinds.specs.Stages.{beforeStar};
+ghost use Rattle.kinds.specs.Stages.{beforeStar, afterGet};
 ghost use Rattle.kinds.specs.Carried.{Does};
 use labels::check;
 use labels::dominates;
@@ -28,8 +28,9 @@ use unit::is_live;
 use unit::label_of;
 use unit::rights_of;
 use unit::set_held;
+use wall::breaks_wall;
 
-// 1: the actor then holds the access. Star is asked of the state with the access in it.
+// 1: the actor then holds the access. Star and the wall are asked of the state with the access in it.
 pub fn get(unit: &mut [[u8; 16]], s: u8, o: u8, x: Mode) -> u8
     requires { do ⌜ (← ⟦unit.len()⟧) ≡ rowCount ⌝ }
     requires { ⌜ (s < subjectCount) × (o < objectCount) ⌝ }
@@ -42,17 +43,31 @@ pub fn get(unit: &mut [[u8; 16]], s: u8, o: u8, x: Mode) -> u8
     let had = held_by(unit, o, s);
     let new = mode_sets::add(x, had);
     set_held(unit, o, s, new);
-    if needs_label(x) {
-        let i = s as usize;
-        if breaks_star(unit, i, i + 1) {
-            set_held(unit, o, s, had);
-            return number(Decision::StarBroken);
-        }
+    let last = access_fits(unit, s, x);
+    if refuses(last) {
+        set_held(unit, o, s, had);
+        return number(last);
     }
     flag(has(x, had))
 }
 
-// The checks of get but star: 3, 4, 6, 7, 8.
+// Checks 9 and 18 of the actor, after the access was stored. Star is asked of r, w and a, the wall of e too.
+fn access_fits(unit: &[[u8; 16]], s: u8, x: Mode) -> Decision
+    requires { do ⌜ (← ⟦unit.len()⟧) ≡ rowCount ⌝ }
+    requires { ⌜ s < subjectCount ⌝ }
+    ensures { λ r. ⌜ r ≡ afterGet s x (stateIn (now (unit .entry))) ⌝ }
+{
+    let i = s as usize;
+    if needs_label(x) {
+        if breaks_star(unit, i, i + 1) {
+            return Decision::StarBroken;
+        }
+    }
+    let broken = breaks_wall(unit, i, i + 1);
+    check(!broken, Decision::WallBroken, Decision::Granted)
+}
+
+// The checks of get but star and the wall: 3, 4, 6, 7, 8.
 fn may_get(unit: &[[u8; 16]], s: u8, o: u8, x: Mode) -> Decision
     requires { do ⌜ (← ⟦unit.len()⟧) ≡ rowCount ⌝ }
     requires { ⌜ (s < subjectCount) × (o < objectCount) ⌝ }

@@ -7,6 +7,7 @@ ghost use Rattle.kinds.specs.Carried.{Does};
 ghost use Rattle.asking.specs.Asked.{asked};
 use accesses::get;
 use accesses::release;
+use company_changes::change_companies;
 use decoding::decode;
 use labels::number;
 use level_changes::change_level;
@@ -32,6 +33,7 @@ fn carry_out(unit: &mut [[u8; 16]], q: Request) -> u8
         Request::Create(s, o, how) => create(unit, s, o, how),
         Request::Delete(s, o) => delete(unit, s, o),
         Request::ChangeLevel(s, o, level) => change_level(unit, s, o, level),
+        Request::SetCompanies(s, o, companies) => change_companies(unit, s, o, companies),
     }
 }
 

@@ -19,7 +19,8 @@ use Rattle.model.specs.State.{widest, object, rightsOf}
 use Rattle.model.specs.Properties.{Holds}
 use Rattle.model.specs.Profiles.{profileFits, labelInside, absentBeyond, levelsInside}
 use Rattle.model.specs.Requests.{fields, modeAllowed, unusedZero, fieldsFormed, within, wellFormed, request, decodeFields, decode}
-use Rattle.model.specs.Rules.{simpleAll, starPair, starFrom, starFor, starAll, notLowered, changed, already, checks, answer, step}
+use Rattle.model.specs.Companies.{company, compatible, confined}
+use Rattle.model.specs.Rules.{simpleAll, starPair, starFrom, starFor, starAll, notLowered, changed, already, checks, answer, step, wallPair, wallFrom, wallFor, wallAll}
 use Rattle.model.specs.Runs.{respond, after, replies}
 use Rattle.model.specs.Journal.{ask, acted}
 use Rattle.model.specs.Reading.{labelFrom, labelForm, tableFrom, tableForm, tableChecks, begin, readTable}
@@ -77,7 +78,7 @@ pub computed : (replies listed there ≡ 0 ∷ 6 ∷ 1 ∷ [])
     × (right Write (after (give-w ∷ rescind-w ∷ []) there) ≡ false)
     × (right Write (after (rescind-w ∷ give-w ∷ []) there) ≡ true)
     × Holds (after (read-1 ∷ []) there) 1 1 Read
-unfolding there give-w rescind-w give-e give-e-itself give-a-on release-r replies tableW tableFrom tableForm labelForm labelFrom tableChecks profileFits absentBeyond levelsInside labelInside begin readTable allZero cut made read-1 bytesToBits toBits odd fromBits field decode decodeFields fields wellFormed fieldsFormed within modeAllowed unusedZero request respond step after acted ask checks already changed starAll starFor starFrom starPair implies unless answer simpleAll notLowered has add remove sameLabel dominates levelDominates compare
+unfolding there give-w rescind-w give-e give-e-itself give-a-on release-r replies tableW tableFrom tableForm labelForm labelFrom tableChecks profileFits absentBeyond levelsInside labelInside begin readTable allZero cut made read-1 bytesToBits toBits odd fromBits field decode decodeFields fields wellFormed fieldsFormed within modeAllowed unusedZero request respond step after acted ask checks already changed starAll starFor starFrom starPair wallAll wallFor wallFrom wallPair compatible confined company implies unless answer simpleAll notLowered has add remove sameLabel dominates levelDominates compare
 computed = (refl, refl, refl, refl, refl, refl, refl, refl, refl)
 
 -- what the bytes say

@@ -1,4 +1,4 @@
-// The checks of a whole state that an image must pass, each over all objects before the next: 12, 6, 7, 8, 9.
+// The checks of a whole state that an image must pass, each over all objects before the next: 12, 6, 7, 8, 9, 18.
 // Checks 12, 6, 7 and 8 look at one object and one subject at a time, so one pass over them finds what all four need.
 ghost use mathlib.Core.Path.{_≡_};
 ghost use Rattle.model.specs.Levels.{present};
@@ -25,6 +25,7 @@ use unit::is_live;
 use unit::label_of;
 use unit::owner_of;
 use unit::rights_of;
+use wall::breaks_wall;
 
 // Which of the checks passed: 12, 6, 7 and 8.
 struct Findings {
@@ -125,8 +126,10 @@ pub fn state_checks(unit: &[[u8; 16]]) -> Decision
     ensures { λ r. ⌜ r ≡ stateChecks (stateIn (now (unit .entry))) ⌝ }
 {
     let found = findings_over(unit);
+    let wall_kept = !breaks_wall(unit, 0, Monitor::SUBJECTS);
     let star_kept = !breaks_star(unit, 0, Monitor::SUBJECTS);
-    let star = check(star_kept, Decision::StarBroken, Decision::Granted);
+    let wall = check(wall_kept, Decision::WallBroken, Decision::Granted);
+    let star = check(star_kept, Decision::StarBroken, wall);
     let simple = check(found.simple, Decision::SimpleBroken, star);
     let labelled = check(found.labelled, Decision::NoLabel, simple);
     let matrix = check(found.matrix, Decision::NoRight, labelled);

@@ -41,13 +41,14 @@ fn mode_allowed(kind: u8, mode: u8) -> bool
     mode == 0
 }
 
-// The other subject stands in kinds 3 and 4, class and needs in kind 7 only, spare in none.
+// The other subject stands in kinds 3 and 4, class in kind 7 only, needs in kinds 7 and 8, spare in none.
 fn unused_zero(f: Fields) -> bool
     ensures { λ r. ⌜ r ≡ unusedZero f ⌝ }
 {
-    let no_level = (f.class == 0) & (f.needs == 0);
-    ((f.kind == 3) | ((f.kind == 4) | (f.other == 0)))
-        & (((f.kind == 7) | no_level) & (f.spare == 0))
+    let other = (f.kind == 3) | ((f.kind == 4) | (f.other == 0));
+    let class = (f.kind == 7) | (f.class == 0);
+    let needs = (f.kind == 7) | ((f.kind == 8) | (f.needs == 0));
+    other & (class & (needs & (f.spare == 0)))
 }
 
 // What must be so of the fields under every profile.
@@ -56,7 +57,7 @@ fn fields_formed(f: Fields) -> bool
 {
     let allowed = mode_allowed(f.kind, f.mode);
     let zero = unused_zero(f);
-    ((1 <= f.kind) & (f.kind <= 7))
+    ((1 <= f.kind) & (f.kind <= 8))
         & ((f.actor < 16) & ((f.other < 16) & ((f.object < 64) & (allowed & zero))))
 }
 
@@ -70,11 +71,11 @@ fn level_of(f: Fields) -> Level
     }
 }
 
-// No subject, object, class or need is outside the profile.
+// No subject, object, class or need is outside the profile. In kind 8 the needs are company numbers, which no profile bounds.
 fn within(p: Profile, f: Fields) -> bool
     ensures { λ r. ⌜ r ≡ within p f ⌝ }
 {
-    let inside = at_least(p.highest, level_of(f));
+    let inside = (f.kind == 8) | at_least(p.highest, level_of(f));
     (f.actor < p.subjects) & ((f.other < p.subjects) & ((f.object < p.objects) & inside))
 }
 
@@ -116,7 +117,8 @@ fn request_of(f: Fields) -> Request
             },
         ),
         6 => Request::Delete(f.actor, f.object),
-        _ => Request::ChangeLevel(f.actor, f.object, l),
+        7 => Request::ChangeLevel(f.actor, f.object, l),
+        _ => Request::SetCompanies(f.actor, f.object, f.needs),
     }
 }
 

@@ -5,7 +5,7 @@ use mathlib.Core.Path.{_≡_, refl, sym, ap, _∙_}
 use mathlib.Core.List.{List, [], _∷_}
 use Rattle.model.specs.declared.Level.{Level}
 use Rattle.model.specs.declared.Request.{Request}
-use Rattle.model.specs.declared.Request.the-variants.{Get, Release, Give, Rescind, Create, Delete, ChangeLevel}
+use Rattle.model.specs.declared.Request.the-variants.{Get, Release, Give, Rescind, Create, Delete, ChangeLevel, SetCompanies}
 use Rattle.model.specs.Rules.{target}
 use Rattle.differences.specs.declared.sequence.Sequence.{Sequence}
 use Rattle.differences.specs.declared.sequence.Sequence.the-variants.{Nothing, One, Reading, Replacing}
@@ -20,6 +20,7 @@ actor (Rescind s t o x) = s
 actor (Create s o c) = s
 actor (Delete s o) = s
 actor (ChangeLevel s o l) = s
+actor (SetCompanies s o n) = s
 
 abbrev none : Level
 none = record { class = 0; needs = 0 }
@@ -32,6 +33,7 @@ levelOf (Rescind s t o x) = none
 levelOf (Create s o c) = none
 levelOf (Delete s o) = none
 levelOf (ChangeLevel s o l) = l
+levelOf (SetCompanies s o n) = none
 
 -- the sequence that has these requests
 sequenceOf : List Request → Sequence

@@ -14,7 +14,7 @@ use Rattle.model.specs.declared.Monitor.{Monitor}
 use Rattle.model.specs.declared.Mode.{Mode}
 use Rattle.model.specs.declared.Mode.the-variants.{Read}
 use Rattle.model.specs.declared.Request.{Request}
-use Rattle.model.specs.declared.Request.the-variants.{Get, Release, Delete}
+use Rattle.model.specs.declared.Request.the-variants.{Get, Release, Delete, SetCompanies}
 use Rattle.model.specs.Levels.{compare, present}
 use Rattle.model.specs.Modes.{has}
 use Rattle.model.specs.State.{subjectCount, objectCount, clearanceAt, objectAt, object}
@@ -31,6 +31,10 @@ lifeApart o a b = when (differ (a .live) (b .live)) (Release (cond (a .live) (a 
 -- it has another owner
 unfoldable pub ownerApart : ℕ → Object → Object → List Request
 ownerApart o a b = when (not (eqb (a .owner) (b .owner))) (Delete (a .owner) o)
+
+-- it has other company numbers
+unfoldable pub companiesApart : ℕ → Object → Object → List Request
+companiesApart o a b = when (not (eqb (a .companies) (b .companies))) (SetCompanies (a .owner) o (a .companies))
 
 -- what asks of a held access, or of a right
 abbrev pub askOf : Bool → ℕ → ℕ → Mode → Request
@@ -53,7 +57,7 @@ rowApart held o a b = search subjectCount (λ s. setApart held o s (getD a s 0) 
 unfoldable pub objectApart : ℕ → Object → Object → List Request
 objectApart o a b =
     orElse (lifeApart o a b) (orElse (ownerApart o a b) (orElse (toLabel (a .owner) o (a .label) (b .label))
-    (orElse (rowApart false o (a .rights) (b .rights)) (rowApart true o (a .held) (b .held)))))
+    (orElse (companiesApart o a b) (orElse (rowApart false o (a .rights) (b .rights)) (rowApart true o (a .held) (b .held))))))
 
 -- the first object whose records differ
 unfoldable pub objectsApart : List Object → List Object → List Request

@@ -3,7 +3,7 @@ ghost use mathlib.Core.Path.{_≡_};
 ghost use Rattle.unit.specs.Rows.{rowCount, objectsIn};
 ghost use Rattle.telling.specs.Distinguish.{toLabel};
 ghost use Rattle.differences.specs.Sequences.{requestsOf};
-ghost use Rattle.differences.specs.Records.{lifeApart, ownerApart, askOf, modeApart, setApart, rowApart, objectApart, objectsApart};
+ghost use Rattle.differences.specs.Records.{lifeApart, ownerApart, companiesApart, askOf, modeApart, setApart, rowApart, objectApart, objectsApart};
 use crate::sequence::Sequence;
 use crate::sequence::differ;
 use crate::sequence::is_found;
@@ -49,6 +49,16 @@ fn label_apart(s: u8, o: u8, a: Label, b: Label) -> Sequence
         },
         Label::Present(x) => when(!is_level(b, x), Request::ChangeLevel(s, o, x)),
     }
+}
+
+// Other company numbers: the owner sets those of the first, 1 or not.
+fn companies_apart(o: u8, a: Object, b: Object) -> Sequence
+    ensures { λ r. ⌜ requestsOf r ≡ companiesApart o a b ⌝ }
+{
+    when(
+        a.companies != b.companies,
+        Request::SetCompanies(a.owner, o, a.companies),
+    )
 }
 
 // ---- rights and held accesses
@@ -111,10 +121,12 @@ fn object_apart(o: u8, a: Object, b: Object) -> Sequence
     let by_life = life_apart(o, a, b);
     let by_owner = owner_apart(o, a, b);
     let by_label = label_apart(a.owner, o, label, other_label);
+    let by_companies = companies_apart(o, a, b);
     let by_right = row_apart(false, o, rights, other_rights);
     let by_access = row_apart(true, o, held, other_held);
     let by_sets = or_else(by_right, by_access);
-    or_else(by_life, or_else(by_owner, or_else(by_label, by_sets)))
+    let by_rest = or_else(by_label, or_else(by_companies, by_sets));
+    or_else(by_life, or_else(by_owner, by_rest))
 }
 
 // The first object whose records differ, in two units.

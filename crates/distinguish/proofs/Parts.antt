@@ -10,10 +10,10 @@ use Rattle.model.specs.declared.Label.the-variants.{Absent, Present}
 use Rattle.model.specs.declared.Monitor.{Monitor}
 use Rattle.model.specs.declared.Request.{Request}
 use Rattle.model.specs.State.{clearance, object}
-use Rattle.telling.specs.Distinguish.{orElse, search, searchModes, byEnrolment, byLife, byOwner, byLabel, byRight, byAccess, byObject, freeBelow, readAt, toClearance, byClearance, distinguish}
+use Rattle.telling.specs.Distinguish.{orElse, search, searchModes, byEnrolment, byLife, byOwner, byLabel, byCompanies, byRight, byAccess, byObject, freeBelow, readAt, toClearance, byClearance, distinguish}
 use Rattle.differences.specs.declared.sequence.Sequence.{Sequence}
 use Rattle.differences.specs.Sequences.{found, readingAt, requestsOf}
-use Rattle.differences.specs.Records.{lifeApart, ownerApart, modeApart, setApart, rowApart, objectApart, objectsApart, enrolmentApart, enrolmentsApart, freePlace, levelApart, clearanceApart, clearancesApart}
+use Rattle.differences.specs.Records.{lifeApart, ownerApart, companiesApart, modeApart, setApart, rowApart, objectApart, objectsApart, enrolmentApart, enrolmentsApart, freePlace, levelApart, clearanceApart, clearancesApart}
 use Rattle.differences.proofs.Searching.{or-found, or-nothing, search-same}
 
 module _ (m n : Monitor) where
@@ -26,7 +26,7 @@ module _ (m n : Monitor) where
   held-part o = refl
 
   object-part : (o : ℕ) → byObject m n o ≡ objectApart o (object m o) (object n o)
-  unfolding byObject objectApart byLife byOwner byLabel lifeApart ownerApart
+  unfolding byObject objectApart byLife byOwner byLabel byCompanies lifeApart ownerApart companiesApart
   object-part o = rw (rights-part o, held-part o)
 
 requests-either : (b : Bool) (x y : Sequence) → requestsOf (cond b x y) ≡ cond b (requestsOf x) (requestsOf y)

@@ -9,7 +9,7 @@ use Rattle.model.specs.declared.Object.{Object}
 use Rattle.model.specs.declared.Monitor.{Monitor}
 use Rattle.model.specs.declared.Mode.the-variants.{Read, Write, Append, Execute}
 use Rattle.model.specs.declared.Request.{Request}
-use Rattle.model.specs.declared.Request.the-variants.{Get, Release, Give, Rescind, Create, Delete, ChangeLevel}
+use Rattle.model.specs.declared.Request.the-variants.{Get, Release, Give, Rescind, Create, Delete, ChangeLevel, SetCompanies}
 use Rattle.model.specs.declared.Decoded.the-variants.{Says}
 use Rattle.model.specs.declared.Decision.the-variants.{Granted}
 use Rattle.model.specs.declared.Response.{Response}
@@ -50,6 +50,7 @@ module _ (m : Monitor) (W : WellFormed m) where
         live = ap (λ (k : Object). k .live) e;
         owned = ap (λ (k : Object). k .owner) e;
         unlabelled = ap (λ (k : Object). k .label) e;
+        no-company = ap (λ (k : Object). k .companies) e;
         read = ap (has Read) mine ∙ either (has Read) true v refl refl;
         write = ap (has Write) mine ∙ either (has Write) true v refl refl;
         append = ap (has Append) mine ∙ either (has Append) true v refl refl;
@@ -67,6 +68,7 @@ module _ (m : Monitor) (W : WellFormed m) where
       by-mode false = refl
   effect-of (Delete s o) r n e = e
   effect-of (ChangeLevel s o l) r n e = ap (λ (k : Object). k .label) e
+  effect-of (SetCompanies s o k) r n e = ap (λ (b : Object). b .companies) e
 
   pub granted-effect : (q : Request) → InRange q → checks q m ≡ Granted → Effect q (step q m .monitor)
   granted-effect q r g =

@@ -11,7 +11,7 @@ use Rattle.model.specs.declared.Monitor.{Monitor}
 use Rattle.model.specs.declared.Mode.{Mode}
 use Rattle.model.specs.declared.Creation.{Creation}
 use Rattle.model.specs.declared.Request.{Request}
-use Rattle.model.specs.declared.Request.the-variants.{Get, Release, Give, Rescind, Create, Delete, ChangeLevel}
+use Rattle.model.specs.declared.Request.the-variants.{Get, Release, Give, Rescind, Create, Delete, ChangeLevel, SetCompanies}
 use Rattle.model.specs.declared.Decoded.the-variants.{Says}
 use Rattle.model.specs.declared.Decision.the-variants.{Granted}
 use Rattle.model.specs.declared.Response.{Response}
@@ -27,7 +27,7 @@ use Rattle.invariants.proofs.Granted.{granted-create}
 use Rattle.invariants.proofs.Steps.{step-all, step-granted, respond-all}
 use Rattle.invariants.proofs.Form.{no-modes}
 use Rattle.invariants.proofs.Pairs.{none-held}
-use Rattle.effects.specs.Effects.{GivesRight, TakesRight, GetsAccess, EndsAccess, ChangesLabel}
+use Rattle.effects.specs.Effects.{GivesRight, TakesRight, GetsAccess, EndsAccess, ChangesLabel, SetsNumbers}
 
 -- no request changes a subject
 pub subjects-kept : (q : Request) (m : Monitor) → step q m .monitor .subjects ≡ m .subjects
@@ -67,6 +67,7 @@ changed-owner (Rescind s t o x) m live g e = refl
 changed-owner (Create s o c) m live g e = apart live (create-finds s o c m g)
 changed-owner (Delete s o) m live g e = clash (sym e)
 changed-owner (ChangeLevel s o l) m live g e = refl
+changed-owner (SetCompanies s o k) m live g e = refl
 
 -- a row after a mode was added at u: what is there was there, or is that mode
 row-add : (row : List ℕ) (u : ℕ) (y x : Mode) → ((j : ℕ) → getD row j 0 < 16) → (t : ℕ) → has x (getD (set row u (add y (getD row u 0))) t 0) ≡ true
@@ -110,6 +111,7 @@ changed-rights (Rescind s u o y) m W live g t x e = inl (row-remove (object m o 
 changed-rights (Create s o c) m W live g t x e = apart live (create-finds s o c m g)
 changed-rights (Delete s o) m W live g t x e = none-held x _ (no-modes t) e
 changed-rights (ChangeLevel s o l) m W live g t x e = inl e
+changed-rights (SetCompanies s o k) m W live g t x e = inl e
 
 changed-access : (q : Request) (m : Monitor) → WellFormed m → object m (target q) .live ≡ true → checks q m ≡ Granted
     → (t : ℕ) (x : Mode) → has x (heldBy (changed q (object m (target q))) t) ≡ true
@@ -122,6 +124,7 @@ changed-access (Rescind s u o y) m W live g t x e = inl (row-remove (object m o 
 changed-access (Create s o c) m W live g t x e = apart live (create-finds s o c m g)
 changed-access (Delete s o) m W live g t x e = none-held x _ (no-modes t) e
 changed-access (ChangeLevel s o l) m W live g t x e = inl e
+changed-access (SetCompanies s o k) m W live g t x e = inl e
 
 kept-right : (q : Request) (m : Monitor) → WellFormed m → object m (target q) .live ≡ true → checks q m ≡ Granted → changed q (object m (target q)) .live ≡ true
     → (t : ℕ) (x : Mode) → has x (rightsOf (object m (target q)) t) ≡ true
@@ -134,6 +137,7 @@ kept-right (Rescind s u o y) m W live g stays t x e = or-else (λ p. (s, λ i. R
 kept-right (Create s o c) m W live g stays t x e = apart live (create-finds s o c m g)
 kept-right (Delete s o) m W live g stays t x e = clash (sym stays)
 kept-right (ChangeLevel s o l) m W live g stays t x e = inl e
+kept-right (SetCompanies s o k) m W live g stays t x e = inl e
 
 kept-access : (q : Request) (m : Monitor) → WellFormed m → object m (target q) .live ≡ true → checks q m ≡ Granted → changed q (object m (target q)) .live ≡ true
     → (t : ℕ) (x : Mode) → has x (heldBy (object m (target q)) t) ≡ true
@@ -146,6 +150,7 @@ kept-access (Rescind s u o y) m W live g stays t x e = or-else (λ p. inr (s, λ
 kept-access (Create s o c) m W live g stays t x e = apart live (create-finds s o c m g)
 kept-access (Delete s o) m W live g stays t x e = clash (sym stays)
 kept-access (ChangeLevel s o l) m W live g stays t x e = inl e
+kept-access (SetCompanies s o k) m W live g stays t x e = inl e
 
 changed-label : (q : Request) (m : Monitor) → object m (target q) .live ≡ true → checks q m ≡ Granted → changed q (object m (target q)) .live ≡ true
     → (changed q (object m (target q)) .label ≡ object m (target q) .label) ⊎ ChangesLabel q (target q) (changed q (object m (target q)) .label)
@@ -157,6 +162,19 @@ changed-label (Rescind s t o x) m live g e = inl refl
 changed-label (Create s o c) m live g e = apart live (create-finds s o c m g)
 changed-label (Delete s o) m live g e = clash (sym e)
 changed-label (ChangeLevel s o l) m live g e = inr (s, l, refl, refl)
+changed-label (SetCompanies s o k) m live g e = inl refl
+
+changed-companies : (q : Request) (m : Monitor) → object m (target q) .live ≡ true → checks q m ≡ Granted → changed q (object m (target q)) .live ≡ true
+    → (changed q (object m (target q)) .companies ≡ object m (target q) .companies) ⊎ SetsNumbers q (target q) (changed q (object m (target q)) .companies)
+unfolding changed
+changed-companies (Get s o x) m live g e = inl refl
+changed-companies (Release s o x) m live g e = inl refl
+changed-companies (Give s t o x) m live g e = inl refl
+changed-companies (Rescind s t o x) m live g e = inl refl
+changed-companies (Create s o c) m live g e = apart live (create-finds s o c m g)
+changed-companies (Delete s o) m live g e = clash (sym e)
+changed-companies (ChangeLevel s o l) m live g e = inl refl
+changed-companies (SetCompanies s o k) m live g e = inr (s, refl)
 
 module _ (q : Request) (m : Monitor) (W : WellFormed m) (o : ℕ) (live : object m o .live ≡ true) (stays : object (step q m .monitor) o .live ≡ true) where
   at-target : target q ≡ o → object m (target q) .live ≡ true
@@ -205,6 +223,13 @@ module _ (q : Request) (m : Monitor) (W : WellFormed m) (o : ℕ) (live : object
       (λ g e h. subst (λ (k : ℕ). (changed q (object m (target q)) .label ≡ object m k .label) ⊎ ChangesLabel q k (changed q (object m (target q)) .label)) e
       (changed-label q m (at-target e) g h)) stays
 
+  -- and its company numbers only by kind 8
+  pub companies-by-kind-8 : (object (step q m .monitor) o .companies ≡ object m o .companies) ⊎ SetsNumbers q o (object (step q m .monitor) o .companies)
+  companies-by-kind-8 =
+      frame (λ (ob : Object). ob .live ≡ true → (ob .companies ≡ object m o .companies) ⊎ SetsNumbers q o (ob .companies)) q m o (λ e. inl refl)
+      (λ g e h. subst (λ (k : ℕ). (changed q (object m (target q)) .companies ≡ object m k .companies) ⊎ SetsNumbers q k (changed q (object m (target q)) .companies)) e
+      (changed-companies q m (at-target e) g h)) stays
+
 -- after a granted create the record is what create says, whatever the slot held before
 pub create-fresh : (s o : ℕ) (c : Creation) (m : Monitor) → WellFormed m → o < 64 → checks (Create s o c) m ≡ Granted
     → object (step (Create s o c) m .monitor) o ≡ created s c
@@ -229,6 +254,7 @@ changed-life (Rescind s t o x) ob = stays refl
 changed-life (Create s o c) ob = begins s c refl refl
 changed-life (Delete s o) ob = ends s refl refl
 changed-life (ChangeLevel s o l) ob = stays refl
+changed-life (SetCompanies s o k) ob = stays refl
 
 step-life : (q : Request) (m : Monitor) (o : ℕ) → Life q o (object m o .live) (object (step q m .monitor) o .live)
 step-life q m o =

@@ -1,4 +1,4 @@
--- A get by an enrolled subject on a live object is refused exactly when the state with that access added breaks one of the four properties.
+-- A get by an enrolled subject on a live object is refused exactly when the state with that access added breaks one of the four properties or the wall.
 -- Assumes nothing.
 use Prim.Native.Nat.{ℕ, zero, suc, _<_, _≤_}
 use native.Mathlib.Omega.{arith}
@@ -21,7 +21,8 @@ use Rattle.model.specs.Rules.{changed, checks, step}
 use Rattle.model.proofs.Tests.{implies-in, clash}
 use Rattle.invariants.specs.Access.{withAccess}
 use Rattle.invariants.proofs.Form.{enrolled-below}
-use Rattle.invariants.proofs.Secure.{star-in, star-for}
+use Rattle.invariants.proofs.Star.{star-in, star-for}
+use Rattle.invariants.proofs.Wall.{wall-in, wall-for}
 use Rattle.invariants.specs.Sound.{Sound}
 use Rattle.invariants.proofs.Granted.{grants-get}
 use Rattle.invariants.proofs.Steps.{sound-afterwards}
@@ -49,6 +50,7 @@ module _ (m : Monitor) (S : Sound m) (s o : ℕ) (x : Mode) (s-below : s < 16) (
         labelled = implies-in _ _ (λ n. sym (ap (λ (b : Object). present (b .label)) now) ∙ T .labelled s o x held n);
         simple = simple-get-out m S s o x s-below o-below (T .simple);
         star = implies-in _ _ (λ n. star-in s _ (star-for (withAccess m s o x) (T .star) s));
+        wall = wall-in s _ (wall-for (withAccess m s o x) (T .wall) s);
       })
 
 module _ (m : Monitor) (S : Sound m) (s o : ℕ) (x : Mode) (there : enrolled m s ≡ true) (live : object m o .live ≡ true) where

@@ -15,7 +15,7 @@ use Rattle.model.specs.declared.Object.{Object}
 use Rattle.model.specs.declared.Monitor.{Monitor}
 use Rattle.model.specs.declared.Mode.{Mode}
 use Rattle.model.specs.declared.Request.{Request}
-use Rattle.model.specs.declared.Request.the-variants.{Get, Release, Give, Rescind, Create, Delete, ChangeLevel}
+use Rattle.model.specs.declared.Request.the-variants.{Get, Release, Give, Rescind, Create, Delete, ChangeLevel, SetCompanies}
 use Rattle.model.specs.declared.Decoded.the-variants.{Says}
 use Rattle.model.specs.declared.Decision.the-variants.{Granted, Already}
 use Rattle.model.specs.declared.Response.{Response}
@@ -55,6 +55,7 @@ changed-rises (Rescind s t o x) m live g e = dominates-refl (object m o .label)
 changed-rises (Create s o c) m live g e = apart live (create-finds s o c m g)
 changed-rises (Delete s o) m live g e = clash (sym e)
 changed-rises (ChangeLevel s o l) m live g e = not-lowered-decides _ _ .0 (granted-change m s o l g .raised)
+changed-rises (SetCompanies s o n) m live g e = dominates-refl (object m o .label)
 
 step-rises : (q : Request) (m : Monitor) (o : ℕ) → object m o .live ≡ true → object (step q m .monitor) o .live ≡ true
     → Rises (object m o .label) (object (step q m .monitor) o .label)

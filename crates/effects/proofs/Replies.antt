@@ -5,11 +5,12 @@ use native.Mathlib.Omega.{arith}
 use mathlib.Core.Path.{_≡_, sym, ap, _∙_}
 use mathlib.Core.Logic.{_↔_, _≢_}
 use mathlib.Core.Bool.{false, not}
+use borrow.Author.Tests.{eq-eqb}
 use Rattle.model.specs.declared.Object.{Object}
 use Rattle.model.specs.declared.Monitor.{Monitor}
 use Rattle.model.specs.declared.Label.the-variants.{Present}
 use Rattle.model.specs.declared.Request.{Request}
-use Rattle.model.specs.declared.Request.the-variants.{Get, Release, Give, Rescind, Create, Delete, ChangeLevel}
+use Rattle.model.specs.declared.Request.the-variants.{Get, Release, Give, Rescind, Create, Delete, ChangeLevel, SetCompanies}
 use Rattle.model.specs.declared.Decision.the-variants.{Granted}
 use Rattle.model.specs.Modes.{has, remove}
 use Rattle.model.specs.State.{object, heldBy, rightsOf, withHeld, withRights, WellFormed}
@@ -58,6 +59,7 @@ module _ (m : Monitor) (W : WellFormed m) where
   record-differs (Delete s o) r g e w =
       apart (granted-delete m s o g .live) (ap (λ (k : Object). k .live) (sym w))
   record-differs (ChangeLevel s o l) r g e w = apart (label-same _ (Present l) (ap (λ (k : Object). k .label) (sym w))) e
+  record-differs (SetCompanies s o n) r g e w = apart (eq-eqb _ n (ap (λ (k : Object). k .companies) (sym w))) e
 
 pub state-differs : (q : Request) (m : Monitor) → WellFormed m → InRange q → checks q m ≡ Granted → already q (object m (target q)) ≡ false → afterwards q m ≢ m
 state-differs q m W r g e w =

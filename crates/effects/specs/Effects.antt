@@ -12,16 +12,18 @@ use Rattle.model.specs.declared.Mode.{Mode}
 use Rattle.model.specs.declared.Mode.the-variants.{Read, Write, Append, Execute}
 use Rattle.model.specs.declared.Creation.{Creation}
 use Rattle.model.specs.declared.Request.{Request}
-use Rattle.model.specs.declared.Request.the-variants.{Get, Release, Give, Rescind, Create, Delete, ChangeLevel}
+use Rattle.model.specs.declared.Request.the-variants.{Get, Release, Give, Rescind, Create, Delete, ChangeLevel, SetCompanies}
 use Rattle.model.specs.Modes.{has}
 use Rattle.model.specs.State.{noObject, object, rightsOf, heldBy}
 use Rattle.model.specs.Properties.{Holds, Permits}
 
--- "live, unlabelled, owned by the actor, who gains r, w, a, and e if mode is 4", and nobody else has or holds anything
+-- "live, unlabelled, owned by the actor, who gains r, w, a, and e if mode is 4", and nobody else has or holds anything; the company numbers
+-- "are 0 at creation" (change request §10)
 pub record Created (n : Monitor) (s o : ℕ) (c : Creation) : Type 0 where
   pub live : object n o .live ≡ true
   pub owned : object n o .owner ≡ s
   pub unlabelled : object n o .label ≡ Absent
+  pub no-company : object n o .companies ≡ 0
   pub read : Permits n s o Read
   pub write : Permits n s o Write
   pub append : Permits n s o Append
@@ -43,6 +45,8 @@ Effect (Create s o c) n = Created n s o c
 Effect (Delete s o) n = object n o ≡ noObject
 -- "the label becomes class and needs"
 Effect (ChangeLevel s o l) n = object n o .label ≡ Present l
+-- "lets the owner set them" (change request §10)
+Effect (SetCompanies s o k) n = object n o .companies ≡ k
 
 -- the request gives access x on object o to subject t
 abbrev pub GetsAccess : Request → ℕ → ℕ → Mode → Type 0
@@ -63,3 +67,7 @@ GivesRight q t o x = (s : ℕ) × (q ≡ Give s t o x)
 -- it changes the level of object o to the label
 abbrev pub ChangesLabel : Request → ℕ → Label → Type 0
 ChangesLabel q o a = (s : ℕ) × (l : Level) × (q ≡ ChangeLevel s o l) × (Present l ≡ a)
+
+-- it sets the company numbers of object o to k
+abbrev pub SetsNumbers : Request → ℕ → ℕ → Type 0
+SetsNumbers q o k = (s : ℕ) × (q ≡ SetCompanies s o k)

@@ -30,7 +30,8 @@ pub fn is_none(object: Object) -> bool
     let held = object.held;
     let no_sets = is_empty(rights) & is_empty(held);
     let no_label = !is_present(label);
-    !object.live & ((object.owner == 0) & (no_label & no_sets))
+    let no_company = object.companies == 0;
+    !object.live & ((object.owner == 0) & (no_label & (no_company & no_sets)))
 }
 
 // Bits that are 0, eight or more: those that fill no byte, eight more, and then whole bytes.

@@ -61,6 +61,16 @@ fn fields_of(q: Request) -> Fields
             needs: l.needs,
             spare: 0,
         },
+        Request::SetCompanies(s, o, n) => Fields {
+            kind: 8,
+            actor: s,
+            other: 0,
+            object: o,
+            mode: 0,
+            class: 0,
+            needs: n,
+            spare: 0,
+        },
     }
 }
 

@@ -20,7 +20,7 @@ use Rattle.model.specs.declared.Monitor.{Monitor}
 use Rattle.model.specs.declared.Mode.the-variants.{Read}
 use Rattle.model.specs.declared.Request.{Request}
 use Rattle.model.specs.declared.Request.the-variants.{Get, Create, Delete, ChangeLevel}
-use Rattle.model.specs.declared.Decision.the-variants.{Granted, NotEnrolled, NotLive, NoRight, NoLabel, SimpleBroken, StarBroken}
+use Rattle.model.specs.declared.Decision.the-variants.{Granted, NotEnrolled, NotLive, NoRight, NoLabel, SimpleBroken, StarBroken, WallBroken}
 use Rattle.model.specs.declared.Response.{Response}
 use Rattle.model.specs.Tests.{implies, unless}
 use Rattle.model.specs.Levels.{compare, equalOrAbove, dominates, levelDominates, present}
@@ -28,7 +28,7 @@ use Rattle.model.specs.Modes.{has}
 use Rattle.model.specs.State.{noModes, clearance, enrolled, object, rightsOf, withLabel, LevelFits, LabelFits}
 use Rattle.model.specs.Profiles.{LevelInside}
 use Rattle.model.specs.Requests.{creation}
-use Rattle.model.specs.Rules.{changed, afterwards, checks, created, starFor, step}
+use Rattle.model.specs.Rules.{changed, afterwards, checks, created, starFor, step, wallFor}
 use Rattle.model.proofs.Tests.{pass, stop, not-stop, distinct, cond-all, or-false, le-or-lt}
 use Rattle.model.proofs.Tests as tests
 use Rattle.model.proofs.Levels.{level-refl}
@@ -116,9 +116,11 @@ module _ (p : Profile) (s o : ℕ) (l : Level) (I : InUse p s o l) where
     unfolding ready made
     clearance-ready = refl
 
-    -- what is left of the get: 8, then 9
+    -- what is left of the get: 8, then 9 and 18
     reading : checks (Get s o Read) (ready m)
-        ≡ unless (dominates (clearance m s) (Present l)) SimpleBroken (unless (starFor s (afterwards (Get s o Read) (ready m) .objects)) StarBroken Granted)
+        ≡ unless (dominates (clearance m s) (Present l)) SimpleBroken
+        (unless (starFor s (afterwards (Get s o Read) (ready m) .objects)) StarBroken
+        (unless (wallFor s (afterwards (Get s o Read) (ready m) .objects)) WallBroken Granted))
     unfolding checks has implies
     reading =
         pass _ NotEnrolled _ (ap present clearance-ready ∙ there)
@@ -139,7 +141,8 @@ module _ (p : Profile) (s o : ℕ) (l : Level) (I : InUse p s o l) where
         (differs-first p (ready m) (ready n) (under-ready m S here free .profile) (under-ready n N there empty .profile) (Get s o Read) [] get-formed
         (tells-refusal (Get s o Read) (ready m) (ready n) SimpleBroken refl
         (reading n N there empty ∙ stop _ SimpleBroken _ not-above)
-        (λ e. not-stop _ StarBroken Granted SimpleBroken (distinct _ _ refl) (distinct _ _ refl) (sym (reading m S here free ∙ pass _ SimpleBroken _ above) ∙ e)))))
+        (λ e. not-stop _ StarBroken _ SimpleBroken (distinct _ _ refl)
+        (not-stop _ WallBroken Granted SimpleBroken (distinct _ _ refl) (distinct _ _ refl)) (sym (reading m S here free ∙ pass _ SimpleBroken _ above) ∙ e)))))
 
 -- ---- with a slot that is free, or that its owner makes free
 

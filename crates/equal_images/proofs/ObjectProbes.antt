@@ -15,7 +15,7 @@ use Rattle.model.specs.declared.Monitor.{Monitor}
 use Rattle.model.specs.declared.Mode.{Mode}
 use Rattle.model.specs.declared.Mode.the-variants.{Read}
 use Rattle.model.specs.declared.Request.{Request}
-use Rattle.model.specs.declared.Request.the-variants.{Get, Release, Delete, ChangeLevel}
+use Rattle.model.specs.declared.Request.the-variants.{Get, Release, Delete, ChangeLevel, SetCompanies}
 use Rattle.model.specs.Levels.{present, sameLabel}
 use Rattle.model.specs.Modes.{has}
 use Rattle.model.specs.State.{enrolled, object, rightsOf, heldBy}
@@ -25,11 +25,11 @@ use Rattle.model.proofs.Tests.{split, clash, cond-true, cond-false, not-on, not
 use Rattle.model.proofs.Equal.{object-same}
 use Rattle.model.proofs.Tests as tests
 use Rattle.model.proofs.Levels.{same-label, label-same}
-use Rattle.telling.specs.Distinguish.{when, search, searchModes, byEnrolment, byLife, byOwner, toLabel, byLabel, byRight, byAccess, byObject}
+use Rattle.telling.specs.Distinguish.{when, search, searchModes, byEnrolment, byLife, byOwner, toLabel, byLabel, byCompanies, byRight, byAccess, byObject}
 use Rattle.equal_images.specs.Inputs.{Formed}
 use Rattle.equal_images.proofs.Under.{Under}
 use Rattle.equal_images.proofs.Probes.{Probe, alike, probe-map, probe-or, probe-search, probe-modes, probe-when, probe-differ}
-use Rattle.equal_images.proofs.Objects.{tells-enrolment, tells-life, tells-owner, tells-label, tells-right, tells-access}
+use Rattle.equal_images.proofs.Objects.{tells-enrolment, tells-life, tells-owner, tells-label, tells-companies, tells-right, tells-access}
 
 swap : {a b : ℕ} → a ≢ b → b ≢ a
 swap h e = h (sym e)
@@ -105,6 +105,18 @@ module _ (p : Profile) (m n : Monitor) (S : Under p m) (N : Under p n) where
       unfolding byLabel
       probe-label owned = label-probe owned (object m o .label) (object n o .label) refl refl
 
+      probe-companies : Probe p m n (byCompanies m n o) (object m o .companies ≡ object n o .companies)
+      unfolding byCompanies
+      probe-companies =
+          let a = object m o .companies in
+          let b = object n o .companies in
+          probe-when p m n (S .profile) (N .profile) (not (eqb a b)) (SetCompanies (object m o .owner) o a)
+          (λ e. eqb-true a b (not-off _ e))
+          (λ e. live-or-same
+          (λ l k. tells-companies p m n S N same o o-below l k
+          (split (eqb b a) (λ w. tests.apart (eq-eqb a b (sym (eqb-true b a w))) (not-on _ e)) (λ w. w)))
+          (λ w. tests.apart (eq-eqb a b (ap (λ (k : Object). k .companies) w)) (not-on _ e)))
+
       probe-rights : Probe p m n (search 16 (λ s. searchModes (byRight m n o s)))
           ((s : ℕ) → s < 16 → (x : Mode) → has x (rightsOf (object m o) s) ≡ has x (rightsOf (object n o) s))
       unfolding byRight
@@ -134,8 +146,9 @@ module _ (p : Profile) (m n : Monitor) (S : Under p m) (N : Under p n) where
     pub probe-object : Probe p m n (byObject m n o) (object m o ≡ object n o)
     unfolding byObject
     probe-object =
-        probe-map p m n (byObject m n o) (λ t. object-same (object m o) (object n o) (S .sound .formed .objects-formed o) (N .sound .formed .objects-formed o) (t .0) (t .1 .0) (t .1 .1 .0) (t .1 .1 .1 .0) (t .1 .1 .1 .1))
+        probe-map p m n (byObject m n o) (λ t. object-same (object m o) (object n o) (S .sound .formed .objects-formed o) (N .sound .formed .objects-formed o) (t .0) (t .1 .0) (t .1 .1 .0) (t .1 .1 .1 .0) (t .1 .1 .1 .1 .0) (t .1 .1 .1 .1 .1))
         (probe-or p m n (byLife m n o) _ probe-life
         (λ alive. probe-or p m n (byOwner m n o) _ (probe-owner alive)
         (λ owned. probe-or p m n (byLabel m n o) _ (probe-label alive owned)
-        (λ l. probe-or p m n (search 16 (λ s. searchModes (byRight m n o s))) (search 16 (λ s. searchModes (byAccess m n o s))) (probe-rights alive) (λ r. probe-accesses alive)))))
+        (λ l. probe-or p m n (byCompanies m n o) _ (probe-companies alive)
+        (λ c. probe-or p m n (search 16 (λ s. searchModes (byRight m n o s))) (search 16 (λ s. searchModes (byAccess m n o s))) (probe-rights alive) (λ r. probe-accesses alive))))))

@@ -15,7 +15,7 @@ use Rattle.model.specs.declared.Monitor.{Monitor}
 use Rattle.model.specs.declared.Mode.{Mode}
 use Rattle.model.specs.declared.Mode.the-variants.{Read}
 use Rattle.model.specs.declared.Request.{Request}
-use Rattle.model.specs.declared.Request.the-variants.{Get, Release, Delete, ChangeLevel}
+use Rattle.model.specs.declared.Request.the-variants.{Get, Release, Delete, ChangeLevel, SetCompanies}
 use Rattle.model.specs.declared.Decision.{Decision}
 use Rattle.model.specs.declared.Decision.the-variants.{Granted, NotEnrolled, NotLive, NoRight}
 use Rattle.model.specs.Levels.{sameLabel}
@@ -30,6 +30,7 @@ use Rattle.model.proofs.Levels.{label-same}
 use Rattle.model.proofs.Checks.{never-answers}
 use Rattle.invariants.proofs.Granted.{grants-release, grants-delete}
 use Rattle.invariants.proofs.Relabelling.{same-label-granted}
+use Rattle.invariants.proofs.WallAdded.{same-companies-granted}
 use Rattle.invariants.specs.Sound.{Sound}
 use Rattle.invariants.proofs.Steps.{step-refused}
 use Rattle.invariants.proofs.Outcomes.{step-cases}
@@ -121,6 +122,18 @@ module _ (p : Profile) (m n : Monitor) (S : Under p m) (N : Under p n) where
           let F = S .sound .formed .objects-formed o in (
             ((F .shape .owner-fits, o-below, subst LabelFits e (F .shape .label-fits)), (subject-in p m S (object m o .owner) (F .owner-enrolled a), object-in p m S o a, label-in p m S o l e)),
             tells-already (ChangeLevel (object m o .owner) o l) m n (same-label-granted m (S .sound) o l a e) (label-same _ _ e) h,
+          )
+
+      pub tells-companies : eqb (object n o .companies) (object m o .companies) ≡ false
+          → Formed p (SetCompanies (object m o .owner) o (object m o .companies))
+          × (number (step (SetCompanies (object m o .owner) o (object m o .companies)) m .decision)
+          ≢ number (step (SetCompanies (object m o .owner) o (object m o .companies)) n .decision))
+      unfolding already
+      tells-companies h =
+          let F = S .sound .formed .objects-formed o in
+          let w = object m o .owner in (
+            ((F .shape .owner-fits, o-below, F .shape .companies-fit), (subject-in p m S w (F .owner-enrolled a), object-in p m S o a)),
+            tells-already (SetCompanies w o (object m o .companies)) m n (same-companies-granted m (S .sound) o a) (eq-eqb (object m o .companies) _ refl) h,
           )
 
       pub tells-right : (s : ℕ) (x : Mode) → s < 16 → has x (rightsOf (object m o) s) ≡ true → has x (rightsOf (object n o) s) ≡ false

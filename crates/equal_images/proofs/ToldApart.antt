@@ -24,7 +24,7 @@ use Rattle.model.specs.Layout.{imageOf}
 use Rattle.model.specs.Reading.{imageChecks, monitorFrom, begin, readImage}
 use Rattle.model.specs.Beginnings.{image, Accepted}
 use Rattle.model.proofs.Tests.{cond-all, cond-false}
-use Rattle.telling.specs.Distinguish.{orElse, search, searchModes, when, byEnrolment, byLife, byOwner, toLabel, byLabel, byRight, byAccess, byObject, readAt, toClearance, byClearance, distinguish}
+use Rattle.telling.specs.Distinguish.{orElse, search, searchModes, when, byEnrolment, byLife, byOwner, toLabel, byLabel, byCompanies, byRight, byAccess, byObject, readAt, toClearance, byClearance, distinguish}
 use Rattle.equal_images.proofs.Answers.{comparison-all}
 use Rattle.images.proofs.Trips.{image-bytes-back}
 use Rattle.images.proofs.Reached.{sound-begun, begun-profile}
@@ -61,12 +61,13 @@ module _ (m n : Monitor) where
   few-label s o (Present a) b = few-when _ _
 
   few-object : (o : ℕ) → Few (byObject m n o)
-  unfolding byObject byLife byOwner byLabel byRight byAccess
+  unfolding byObject byLife byOwner byLabel byCompanies byRight byAccess
   few-object o =
       few-or _ _ (few-when _ _)
       (few-or _ _ (few-when _ _)
       (few-or _ _ (few-label _ o _ _)
-      (few-or _ _ (few-search 16 _ (λ s. few-modes (byRight m n o s) (λ x. few-when _ _))) (few-search 16 _ (λ s. few-modes (byAccess m n o s) (λ x. few-when _ _))))))
+      (few-or _ _ (few-when _ _)
+      (few-or _ _ (few-search 16 _ (λ s. few-modes (byRight m n o s) (λ x. few-when _ _))) (few-search 16 _ (λ s. few-modes (byAccess m n o s) (λ x. few-when _ _)))))))
 
 few-read : (m : Monitor) (o s : ℕ) (l : Level) → Few (readAt m o s l)
 unfolding readAt

@@ -17,8 +17,9 @@ use Rattle.model.specs.declared.Level.{Level}
 use Rattle.model.specs.declared.Label.the-variants.{Absent, Present}
 use Rattle.model.specs.declared.Object.{Object}
 use Rattle.model.specs.Levels.{present}
-use Rattle.model.specs.State.{needsWidth, noObject, withOwner, withLabel, withRows}
-use Rattle.model.specs.Layout.{labelWidth, ownerWidth, labelOffset, setWidth, pairWidth, setsOffset, setsWidth, objectWidth}
+use Rattle.model.specs.State.{needsWidth, noObject, withOwner, withLabel, withCompanies, withRows}
+use Rattle.model.specs.Companies.{companiesWidth}
+use Rattle.model.specs.Layout.{labelWidth, ownerWidth, labelOffset, setWidth, pairWidth, companiesOffset, setsOffset, setsWidth, objectWidth}
 use Rattle.model.specs.Reading.{fieldOf, labelFrom, labelForm, rightsFrom, heldFrom, objectFrom, objectForm}
 use Rattle.image_records.specs.declared.FlagRead.{FlagRead}
 use Rattle.image_records.specs.declared.LabelRead.{LabelRead}
@@ -122,24 +123,33 @@ sets-last : (b : List Bool) → length b ≡ objectWidth → take setsWidth (dro
 sets-last b l = take-all setsWidth (drop setsOffset b) (rw (length-drop setsOffset b) (omega arith))
 
 module _ (b : List Bool) (l : length b ≡ objectWidth) (f : FlagRead) (pf : f ≡ flagOf (take flagWidth b))
-    (a : LabelRead) (pa : a ≡ labelOf (take labelWidth (drop labelOffset b))) (u : SetsRead) (pu : u ≡ setsOf (take setsWidth (drop setsOffset b))) where
-  pub object-off : (ob : Object) → ob ≡ noObject → f .flag ≡ false → record { object = ob; formed = f .blank && (a .blank && u .blank) } ≡ objectOf b
+    (a : LabelRead) (pa : a ≡ labelOf (take labelWidth (drop labelOffset b))) (n : ℕ) (pn : n ≡ fieldOf b companiesOffset companiesWidth)
+    (u : SetsRead) (pu : u ≡ setsOf (take setsWidth (drop setsOffset b))) where
+  -- the company numbers and the sets, which stand last
+  last-blank : (eqb n 0 && u .blank) ≡ allZero (drop companiesOffset b)
+  last-blank =
+      let d : take setsWidth (drop setsOffset b) ≡ drop companiesWidth (drop companiesOffset b) = sets-last b l ∙ sym (drop-drop companiesWidth companiesOffset b) in
+      ap₂ (λ (x y : Bool). x && y)
+      (ap (λ (k : ℕ). eqb k 0) pn ∙ sym (allZero-fromBits (take companiesWidth (drop companiesOffset b))))
+      (ap (λ (k : SetsRead). k .blank) pu ∙ ap allZero d)
+      ∙ zero-parts companiesWidth (drop companiesOffset b)
+
+  pub object-off : (ob : Object) → ob ≡ noObject → f .flag ≡ false → record { object = ob; formed = f .blank && (a .blank && (eqb n 0 && u .blank)) } ≡ objectOf b
   unfolding objectFrom objectForm
   object-off ob e h =
       let tail = drop labelOffset b in
-      let d : take setsWidth (drop setsOffset b) ≡ drop labelWidth tail = sets-last b l ∙ sym (drop-drop labelWidth labelOffset b) in
-      let blank : (f .blank && (a .blank && u .blank)) ≡ allZero b =
-      ap (λ (x : FlagRead). x .blank && (a .blank && u .blank)) pf
-      ∙ ap₂ (λ (x : LabelRead) (y : SetsRead). allZero (take flagWidth b) && (x .blank && y .blank)) pa pu
-      ∙ ap (λ (x : List Bool). allZero (take flagWidth b) && (allZero (take labelWidth tail) && allZero x)) d
+      let blank : (f .blank && (a .blank && (eqb n 0 && u .blank))) ≡ allZero b =
+      ap (λ (x : FlagRead). x .blank && (a .blank && (eqb n 0 && u .blank))) pf
+      ∙ ap₂ (λ (x : LabelRead) (y : Bool). allZero (take flagWidth b) && (x .blank && y)) pa last-blank
+      ∙ ap (λ (x : List Bool). allZero (take flagWidth b) && (allZero (take labelWidth tail) && allZero x)) (sym (drop-drop labelWidth labelOffset b))
       ∙ ap (λ (x : Bool). allZero (take flagWidth b) && x) (zero-parts labelWidth tail) ∙ zero-parts flagWidth b in
       rw (sym (flag-first b f pf) ∙ h) (λ i. record { object = e i; formed = blank i })
 
   pub object-on : (v : Bool) → v ≡ present (a .label) → f .flag ≡ true
-      → record { object = withRows (withLabel (withOwner noObject (f .number)) (a .label)) (u .rights) (u .held); formed = v || a .blank } ≡ objectOf b
+      → record { object = withRows (withCompanies (withLabel (withOwner noObject (f .number)) (a .label)) n) (u .rights) (u .held); formed = v || a .blank } ≡ objectOf b
   unfolding objectFrom objectForm
   object-on v e h =
       let c = flag-number b f pf in
       let formed-eq = ap (λ (x : Bool). x || a .blank) e ∙ label-formed (take labelWidth (drop labelOffset b)) a pa in
       rw (sym (flag-first b f pf) ∙ h)
-      (λ i. record { object = withRows (withLabel (withOwner noObject (c i)) (pa i .label)) (pu i .rights) (pu i .held); formed = formed-eq i })
+      (λ i. record { object = withRows (withCompanies (withLabel (withOwner noObject (c i)) (pa i .label)) (pn i)) (pu i .rights) (pu i .held); formed = formed-eq i })

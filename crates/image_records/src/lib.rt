@@ -114,11 +114,12 @@ fn read_object(bytes: &[u8], at: usize) -> ObjectRead
 {
     let head = read_flag(bytes, at);
     let read = read_label(bytes, at + Monitor::LABEL_AT);
+    let companies = bits::read_field(bytes, at + Monitor::COMPANIES_AT, 16);
     let sets = read_sets(bytes, at + Monitor::SETS_AT);
     if !head.flag {
         return ObjectRead {
             object: no_object(),
-            formed: head.blank & (read.blank & sets.blank),
+            formed: head.blank & (read.blank & ((companies == 0) & sets.blank)),
         };
     }
     let label = read.label;
@@ -129,6 +130,7 @@ fn read_object(bytes: &[u8], at: usize) -> ObjectRead
             live: true,
             owner: head.number,
             label,
+            companies: companies as u16,
             rights,
             held,
         },

@@ -15,7 +15,7 @@ use Rattle.model.specs.declared.Monitor.{Monitor}
 use Rattle.model.specs.declared.Decision.{Decision}
 use Rattle.model.specs.declared.Decision.the-variants.{Granted, WrongLength, StrayBits, OutsideProfile}
 use Rattle.model.specs.Tests.{firstFailing}
-use Rattle.model.specs.State.{noObject, heldBy, fresh, WellFormedObject}
+use Rattle.model.specs.State.{noObject, object, heldBy, fresh, WellFormedObject}
 use Rattle.model.specs.Profiles.{LabelInside, absentBeyond, Inside}
 use Rattle.model.specs.Layout.{tableSize, imageSize}
 use Rattle.model.specs.Reading.{stateList, beginningList, tableForm, imageForm, tableFrom, monitorFrom, stateChecks, tableChecks, imageChecks}
@@ -24,11 +24,13 @@ use Rattle.model.proofs.Profiles.{tests-inside, inside-fits, inside-absent, ins
 use Rattle.model.proofs.Checks.{Passed, refusals, all-passed, all-pass}
 use Rattle.invariants.specs.Sound.{Sound}
 use Rattle.invariants.proofs.Form.{no-modes, no-object-formed}
-use Rattle.invariants.proofs.Secure.{SecureObject, idle-secure, star-idle}
+use Rattle.invariants.proofs.Secure.{SecureObject, idle-secure}
+use Rattle.invariants.proofs.Wall.{wall-idle}
+use Rattle.invariants.proofs.Star.{star-idle}
 use Rattle.invariants.proofs.Steps.{secure-of}
 use Rattle.images.specs.Tables.{TableFits, TableInside}
 use Rattle.images.proofs.Shapes.{Shape, image-shape, table-shape, fresh-shape, shape-of}
-use Rattle.images.proofs.StateTests.{formed-out, formed-in, matrix-out, matrix-in, labelled-out, labelled-in, simple-all-out, simple-all-in, stars-out, stars-in}
+use Rattle.images.proofs.StateTests.{formed-out, formed-in, matrix-out, matrix-in, labelled-out, labelled-in, simple-all-out, simple-all-in, stars-out, stars-in, walls-out, walls-in}
 
 -- ---- a fresh monitor
 
@@ -55,8 +57,12 @@ sound-fresh p l t I =
       inside = I;
       secure = secure-of (fresh p l)
           (λ o. subst (SecureObject l) (sym (replicate-at noObject 64 o)) (idle-secure l noObject no-modes))
-          (λ s. star-idle s _ (λ o. ap (λ (ob : Object). heldBy ob s) (replicate-at noObject 64 o) ∙ no-modes s));
+          (λ s. star-idle s _ (nothing s))
+          (λ s. wall-idle s _ (nothing s));
     }
+  where
+    nothing : (s o : ℕ) → heldBy (object (fresh p l) o) s ≡ 0
+    nothing s o = ap (λ (ob : Object). heldBy ob s) (replicate-at noObject 64 o) ∙ no-modes s
 
 -- ---- the checks of a beginning under its profile
 
@@ -110,7 +116,7 @@ state-passes m S =
           labelled-in m H (S .secure .labelled),
           (
             simple-all-in m H (S .secure .simple),
-            (stars-in m H (S .secure .star), tt),
+            (stars-in m H (S .secure .star), (walls-in m H (S .secure .wall), tt)),
           ),
         ),
       ),
@@ -134,6 +140,7 @@ image-passed p b e =
           labelled = labelled-out m S (q .1 .1 .0);
           simple = simple-all-out m S (q .1 .1 .1 .0);
           star = stars-out m S (q .1 .1 .1 .1 .0);
+          wall = walls-out m S (q .1 .1 .1 .1 .1 .0);
         };
       },
     )

@@ -13,8 +13,9 @@ use Rattle.model.specs.declared.Label.the-variants.{Absent}
 use Rattle.model.specs.declared.Subject.{Subject}
 use Rattle.model.specs.declared.Profile.{Profile}
 use Rattle.model.specs.declared.Monitor.{Monitor}
+use Rattle.model.specs.Companies.{companiesWidth}
 use Rattle.model.specs.State.{subjectCount, objectCount, classWidth, needsWidth, nobody, noObject, object, fresh, LabelFits, ObjectShape, WellFormed}
-use Rattle.model.specs.Layout.{labelWidth, ownerWidth, labelOffset, setWidth, pairWidth, setsOffset, setsWidth, objectWidth, tableSize}
+use Rattle.model.specs.Layout.{labelWidth, ownerWidth, labelOffset, setWidth, pairWidth, companiesOffset, setsOffset, setsWidth, objectWidth, tableSize}
 use Rattle.model.specs.Reading.{labelFrom, subjectFrom, rightsFrom, heldFrom, setsIn, liveFrom, objectFrom, tableRecords, objectRecords, tableFrom, objectsFrom, monitorFrom}
 use Rattle.model.proofs.Tests.{cond-all, map-all, clash, replicate-at}
 use Rattle.invariants.proofs.Form.{no-object-shape}
@@ -55,6 +56,7 @@ live-shape b =
       held-fit = map-all (λ n. n < 16) heldFrom (setsIn b) 0 (λ r. fromBits-take setWidth (drop setWidth r)) (omega arith);
       owner-fits = fromBits-take ownerWidth (drop 1 b);
       label-fits = label-shape (take labelWidth (drop labelOffset b));
+      companies-fit = fromBits-take companiesWidth (drop companiesOffset b);
       not-live = λ e. clash e;
     }
 

@@ -1,4 +1,4 @@
--- The five tests of a state decide what they are for, at every state whose numbers fit.
+-- The six tests of a state decide what they are for, at every state whose numbers fit.
 -- Assumes nothing.
 use Prim.Native.Nat.{ℕ, _<_}
 use mathlib.Core.Path.{_≡_, refl}
@@ -14,14 +14,16 @@ use Rattle.model.specs.Tests.{allOf, implies}
 use Rattle.model.specs.Levels.{present, subset}
 use Rattle.model.specs.Modes.{has, anyNeedsLabel}
 use Rattle.model.specs.State.{noObject, clearanceAt, object, rightsOf, heldBy, ObjectShape, WellFormedObject, WellFormed}
-use Rattle.model.specs.Properties.{Discretionary, Labelled, Simple, Star}
-use Rattle.model.specs.Rules.{simpleAll, starAll}
+use Rattle.model.specs.Properties.{Discretionary, Labelled, Simple, Star, Wall}
+use Rattle.model.specs.Rules.{simpleAll, starAll, wallAll}
 use Rattle.model.specs.Reading.{onlyEnrolled, withinMatrix, heldLabelled}
 use Rattle.model.proofs.Tests.{split, apart, and-left, and-right, and-both, or-cases, or-left, or-right, implies-in, implies-out, below-in, below-out, all-in, all-out, row-all}
 use Rattle.model.proofs.Modes.{subset-in, subset-out, any-needs-label, needs-label-some}
 use Rattle.invariants.proofs.Form.{no-modes, no-object-formed}
 use Rattle.invariants.proofs.Pairs.{none-held}
-use Rattle.invariants.proofs.Secure.{simple-in, simple-out, star-all-in, star-all-out, star-for, star-of}
+use Rattle.invariants.proofs.Secure.{simple-in, simple-out}
+use Rattle.invariants.proofs.Wall.{wall-all-in, wall-all-out, wall-for, wall-of}
+use Rattle.invariants.proofs.Star.{star-all-in, star-all-out, star-for, star-of}
 use Rattle.images.proofs.Shapes.{Shape}
 
 -- ---- only enrolled subjects own, have rights or hold
@@ -66,7 +68,7 @@ module _ (m : Monitor) (S : Shape m) where
   pub formed-in : WellFormed m → allOf (onlyEnrolled (m .subjects)) (m .objects) ≡ true
   formed-in W = all-in (onlyEnrolled (m .subjects)) noObject (m .objects) (λ o. enrolled-object (m .subjects) (object m o) (W .objects-formed o))
 
-  -- ---- the four properties
+  -- ---- the four properties, and the wall
 
   pub matrix-out : allOf withinMatrix (m .objects) ≡ true → Discretionary m
   unfolding withinMatrix
@@ -112,3 +114,9 @@ module _ (m : Monitor) (S : Shape m) where
 
   pub stars-in : Star m → starAll (m .objects) ≡ true
   stars-in T = star-all-in (m .objects) (star-for m T)
+
+  pub walls-out : wallAll (m .objects) ≡ true → Wall m
+  walls-out e = wall-of m (wall-all-out (m .objects) (λ o. S .objects o .held-length) e)
+
+  pub walls-in : Wall m → wallAll (m .objects) ≡ true
+  walls-in T = wall-all-in (m .objects) (wall-for m T)

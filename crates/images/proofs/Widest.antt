@@ -52,7 +52,7 @@ fields-widest b e =
       actor = actor-in (fields b) e;
       other = other-in (fields b) e;
       object = object-in (fields b) e;
-      level = level-widest (levelOf (fields b)) (fields-fit b .class);
+      level = λ k. level-widest (levelOf (fields b)) (fields-fit b .class);
     }
 
 formed-widest : (b : List ℕ) → wellFormed widest (fields b) ≡ fieldsFormed (fields b)

@@ -2,6 +2,7 @@
 -- Assumes nothing.
 use Prim.Native.Nat.{ℕ, _<_}
 use mathlib.Core.Path.{_≡_, refl, sym, ap, _∙_, subst}
+use mathlib.Core.Logic.{_⊎_, inl, inr}
 use mathlib.Core.Bool.{true}
 use Rattle.model.specs.declared.Object.{Object}
 use Rattle.model.specs.declared.Monitor.{Monitor}
@@ -32,6 +33,10 @@ module _ (m : Monitor) (W : WellFormed m) (s o : ℕ) (x : Mode) where
       set-all (λ j ob. has y (heldBy ob t) ≡ true → P t j y) (m .objects) o _ noObject (λ j. old t j y)
       (set-all (λ u k. has y k ≡ true → P u o y) (object m o .held) s _ 0 (λ u. old u o y)
       (λ w. held-add x y _ (W .objects-formed o .shape .held-fit s) w (λ e. subst (P s o) (sym e) new) (old s o y)) t) p
+
+  -- what is held was held, or is the access added
+  pub held-or-added : (t p : ℕ) (y : Mode) → Holds (withAccess m s o x) t p y → Holds m t p y ⊎ ((t ≡ s) × (p ≡ o) × (y ≡ x))
+  held-or-added = held-now (λ t p y. Holds m t p y ⊎ ((t ≡ s) × (p ≡ o) × (y ≡ x))) (inr (refl, refl, refl)) (λ t p y e. inl e)
 
   -- what was held is held
   pub held-still : (t p : ℕ) (y : Mode) → Holds m t p y → Holds (withAccess m s o x) t p y

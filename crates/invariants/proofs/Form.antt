@@ -10,18 +10,20 @@ use lib.Dec.{lit<}
 use Rattle.model.specs.declared.Subject.{Subject}
 use Rattle.model.specs.declared.Object.{Object}
 use Rattle.model.specs.declared.Monitor.{Monitor}
+use Rattle.model.specs.declared.Label.{Label}
+use Rattle.model.specs.declared.Label.the-variants.{Present}
 use Rattle.model.specs.declared.Creation.{Creation}
 use Rattle.model.specs.declared.Request.{Request}
-use Rattle.model.specs.declared.Request.the-variants.{Get, Release, Give, Rescind, Create, Delete, ChangeLevel}
+use Rattle.model.specs.declared.Request.the-variants.{Get, Release, Give, Rescind, Create, Delete, ChangeLevel, SetCompanies}
 use Rattle.model.specs.declared.Decision.the-variants.{Granted}
 use Rattle.model.specs.Levels.{present}
-use Rattle.model.specs.State.{noModes, noObject, clearanceAt, enrolled, object, rightsOf, withHeld, withRights, ObjectShape, WellFormedObject, WellFormed}
+use Rattle.model.specs.State.{noModes, noObject, clearanceAt, enrolled, object, rightsOf, withHeld, withRights, withLabel, withCompanies, LabelFits, ObjectShape, WellFormedObject, WellFormed}
 use Rattle.model.specs.Modes.{remove}
 use Rattle.model.specs.Requests.{InRange}
 use Rattle.model.specs.Rules.{target, changed, checks, created}
 use Rattle.model.proofs.Tests.{set-all, apart, clash, and-right, replicate-at}
 use Rattle.model.proofs.Modes.{add-fits, remove-fits}
-use Rattle.invariants.proofs.Granted.{granted-get, granted-release, granted-give, granted-rescind, granted-create, granted-change}
+use Rattle.invariants.proofs.Granted.{granted-get, granted-release, granted-give, granted-rescind, granted-create, granted-change, granted-companies}
 
 pub no-modes : (s : ℕ) → getD noModes s 0 ≡ 0
 no-modes s = replicate-at 0 16 s
@@ -41,6 +43,7 @@ no-object-shape =
       held-fit = λ s. subst (λ (n : ℕ). n < 16) (sym (no-modes s)) (lit< tt);
       owner-fits = lit< tt;
       label-fits = tt;
+      companies-fit = lit< tt;
       not-live = λ e. refl;
     }
 
@@ -67,6 +70,7 @@ module _ (l : List Subject) where
           held-fit = set-all (λ j k. k < 16) (ob .held) s n 0 (S .held-fit) fits;
           owner-fits = S .owner-fits;
           label-fits = S .label-fits;
+          companies-fit = S .companies-fit;
           not-live = λ e. apart live e;
         };
         owner-enrolled = F .owner-enrolled;
@@ -86,10 +90,32 @@ module _ (l : List Subject) where
           held-fit = S .held-fit;
           owner-fits = S .owner-fits;
           label-fits = S .label-fits;
+          companies-fit = S .companies-fit;
           not-live = λ e. apart live e;
         };
         owner-enrolled = F .owner-enrolled;
         absent-rights = set-all (λ j k. present (clearanceAt l j) ≡ false → k ≡ 0) (ob .rights) s n 0 (F .absent-rights) (λ e. apart there e);
+        absent-held = F .absent-held;
+      }
+
+  -- a live object with another label, and with other company numbers
+  rest-formed : (ob : Object) (k : Label) (n : ℕ) → WellFormedObject l ob → ob .live ≡ true → LabelFits k → n < 65536
+      → WellFormedObject l (withCompanies (withLabel ob k) n)
+  rest-formed ob k n F live label companies =
+      let S = F .shape in
+      record {
+        shape = record {
+          rights-length = S .rights-length;
+          held-length = S .held-length;
+          rights-fit = S .rights-fit;
+          held-fit = S .held-fit;
+          owner-fits = S .owner-fits;
+          label-fits = label;
+          companies-fit = companies;
+          not-live = λ w. apart live w;
+        };
+        owner-enrolled = F .owner-enrolled;
+        absent-rights = F .absent-rights;
         absent-held = F .absent-held;
       }
 
@@ -103,6 +129,7 @@ module _ (l : List Subject) where
           held-fit = no-object-shape .held-fit;
           owner-fits = h;
           label-fits = tt;
+          companies-fit = lit< tt;
           not-live = λ w. clash w;
         };
         owner-enrolled = λ w. there;
@@ -141,21 +168,5 @@ module _ (m : Monitor) where
       let g = granted-create m s o c e in
       created-formed (m .subjects) s c (r .0) (g .there)
   changed-formed (Delete s o) r W e = no-object-formed (m .subjects)
-  changed-formed (ChangeLevel s o v) r W e =
-      let F = W .objects-formed o in
-      let S = F .shape in
-      let g = granted-change m s o v e in
-      record {
-        shape = record {
-          rights-length = S .rights-length;
-          held-length = S .held-length;
-          rights-fit = S .rights-fit;
-          held-fit = S .held-fit;
-          owner-fits = S .owner-fits;
-          label-fits = r .2;
-          not-live = λ w. apart (g .live) w;
-        };
-        owner-enrolled = F .owner-enrolled;
-        absent-rights = F .absent-rights;
-        absent-held = F .absent-held;
-      }
+  changed-formed (ChangeLevel s o v) r W e = rest-formed (m .subjects) (object m o) (Present v) _ (W .objects-formed o) (granted-change m s o v e .live) (r .2) (W .objects-formed o .shape .companies-fit)
+  changed-formed (SetCompanies s o n) r W e = rest-formed (m .subjects) (object m o) _ n (W .objects-formed o) (granted-companies m s o n e .live) (W .objects-formed o .shape .label-fits) (r .2)

@@ -9,13 +9,13 @@ use Rattle.model.specs.declared.Monitor.{Monitor}
 use Rattle.model.specs.declared.Mode.{Mode}
 use Rattle.model.specs.declared.Creation.{Creation}
 use Rattle.model.specs.declared.Request.{Request}
-use Rattle.model.specs.declared.Request.the-variants.{Get, Release, Give, Rescind, Create, Delete, ChangeLevel}
+use Rattle.model.specs.declared.Request.the-variants.{Get, Release, Give, Rescind, Create, Delete, ChangeLevel, SetCompanies}
 use Rattle.model.specs.declared.Decision.the-variants.{Granted}
 use Rattle.model.specs.Tests.{implies}
 use Rattle.model.specs.Levels.{dominates, present}
 use Rattle.model.specs.Modes.{has, observes, needsLabel}
 use Rattle.model.specs.State.{clearance, enrolled, object, rightsOf}
-use Rattle.model.specs.Rules.{owns, mayGive, notLowered, simpleAll, starFor, starAll, changed, afterwards, checkList, checks}
+use Rattle.model.specs.Rules.{owns, mayGive, notLowered, simpleAll, starFor, starAll, wallFor, wallAll, changed, afterwards, checkList, checks}
 use Rattle.model.proofs.Checks.{refusals, all-passed, all-pass}
 
 -- every check of a request answers a refusal
@@ -27,6 +27,7 @@ only-refusals (Rescind s t o x) m = refl
 only-refusals (Create s o c) m = refl
 only-refusals (Delete s o) m = refl
 only-refusals (ChangeLevel s o l) m = refl
+only-refusals (SetCompanies s o n) m = refl
 
 pub record GrantedGet (m : Monitor) (s o : ℕ) (x : Mode) : Type 0 where
   pub there : enrolled m s ≡ true
@@ -35,17 +36,26 @@ pub record GrantedGet (m : Monitor) (s o : ℕ) (x : Mode) : Type 0 where
   pub labelled : implies (needsLabel x) (present (object m o .label)) ≡ true
   pub simple : implies (observes x) (dominates (clearance m s) (object m o .label)) ≡ true
   pub star : implies (needsLabel x) (starFor s (afterwards (Get s o x) m .objects)) ≡ true
+  pub wall : wallFor s (afterwards (Get s o x) m .objects) ≡ true
 
 pub granted-get : (m : Monitor) (s o : ℕ) (x : Mode) → checks (Get s o x) m ≡ Granted → GrantedGet m s o x
 unfolding checks
 granted-get m s o x e =
     let p = all-passed (checkList (Get s o x) m) refl e in
-    record { there = p .0; live = p .1 .0; right = p .1 .1 .0; labelled = p .1 .1 .1 .0; simple = p .1 .1 .1 .1 .0; star = p .1 .1 .1 .1 .1 .0 }
+    record {
+      there = p .0;
+      live = p .1 .0;
+      right = p .1 .1 .0;
+      labelled = p .1 .1 .1 .0;
+      simple = p .1 .1 .1 .1 .0;
+      star = p .1 .1 .1 .1 .1 .0;
+      wall = p .1 .1 .1 .1 .1 .1 .0;
+    }
 
 pub grants-get : (m : Monitor) (s o : ℕ) (x : Mode) → GrantedGet m s o x → checks (Get s o x) m ≡ Granted
 unfolding checks
 grants-get m s o x g =
-    all-pass (checkList (Get s o x) m) (g .there, (g .live, (g .right, (g .labelled, (g .simple, (g .star, tt))))))
+    all-pass (checkList (Get s o x) m) (g .there, (g .live, (g .right, (g .labelled, (g .simple, (g .star, (g .wall, tt)))))))
 
 pub record GrantedRelease (m : Monitor) (s o : ℕ) : Type 0 where
   pub there : enrolled m s ≡ true
@@ -116,3 +126,19 @@ granted-change m s o l e =
 pub grants-change : (m : Monitor) (s o : ℕ) (l : Level) → GrantedChange m s o l → checks (ChangeLevel s o l) m ≡ Granted
 unfolding checks
 grants-change m s o l g = all-pass (checkList (ChangeLevel s o l) m) (g .there, (g .live, (g .owned, (g .raised, (g .simple, (g .star, tt))))))
+
+pub record GrantedCompanies (m : Monitor) (s o n : ℕ) : Type 0 where
+  pub there : enrolled m s ≡ true
+  pub live : object m o .live ≡ true
+  pub owned : owns s (object m o) ≡ true
+  pub wall : wallAll (afterwards (SetCompanies s o n) m .objects) ≡ true
+
+pub granted-companies : (m : Monitor) (s o n : ℕ) → checks (SetCompanies s o n) m ≡ Granted → GrantedCompanies m s o n
+unfolding checks
+granted-companies m s o n e =
+    let p = all-passed (checkList (SetCompanies s o n) m) refl e in
+    record { there = p .0; live = p .1 .0; owned = p .1 .1 .0; wall = p .1 .1 .1 .0 }
+
+pub grants-companies : (m : Monitor) (s o n : ℕ) → GrantedCompanies m s o n → checks (SetCompanies s o n) m ≡ Granted
+unfolding checks
+grants-companies m s o n g = all-pass (checkList (SetCompanies s o n) m) (g .there, (g .live, (g .owned, (g .wall, tt))))

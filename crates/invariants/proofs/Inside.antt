@@ -9,7 +9,7 @@ use Rattle.model.specs.declared.Profile.{Profile}
 use Rattle.model.specs.declared.Monitor.{Monitor}
 use Rattle.model.specs.declared.Mode.{Mode}
 use Rattle.model.specs.declared.Request.{Request}
-use Rattle.model.specs.declared.Request.the-variants.{Get, Release, Give, Rescind, Create, Delete, ChangeLevel}
+use Rattle.model.specs.declared.Request.the-variants.{Get, Release, Give, Rescind, Create, Delete, ChangeLevel, SetCompanies}
 use Rattle.model.specs.declared.Decision.the-variants.{Granted}
 use Rattle.model.specs.State.{enrolled, object}
 use Rattle.model.specs.Profiles.{LabelInside, Inside}
@@ -36,6 +36,7 @@ changed-inside p (Rescind s t o x) ob v I = record { number = I .number; label =
 changed-inside p (Create s o c) ob v I = record { number = λ e. v .1; label = tt }
 changed-inside p (Delete s o) ob v I = record { number = λ e. clash (sym e); label = tt }
 changed-inside p (ChangeLevel s o l) ob v I = record { number = I .number; label = v .2 }
+changed-inside p (SetCompanies s o n) ob v I = record { number = I .number; label = I .label }
 
 -- granted or not: what the request would leave is inside
 pub inside-afterwards : (q : Request) (m : Monitor) → Within (m .profile) q → Inside m → Inside (afterwards q m)

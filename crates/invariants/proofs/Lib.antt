@@ -4,10 +4,13 @@ pub mod Form
 pub mod Inside
 pub mod Pairs
 pub mod Secure
+pub mod Star
+pub mod Wall
 pub mod Relabelling
 pub mod Steps
 pub mod Outcomes
 pub mod Added
+pub mod WallAdded
 pub mod ModePairs
 pub mod TakingBack
 pub mod RequestsAlone

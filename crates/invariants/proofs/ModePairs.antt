@@ -1,8 +1,8 @@
 -- The star test by the table of mode pairs; and a get: of every access that is held, the entry with the one that is wanted.
 -- Assumes nothing.
 use Prim.Native.Nat.{ℕ, _<_}
-use mathlib.Core.Path.{_≡_, refl, ap, subst}
-use mathlib.Core.Logic.{_↔_, _≢_, _⊎_, ⊎-elim, inl, inr}
+use mathlib.Core.Path.{_≡_, ap, subst}
+use mathlib.Core.Logic.{_↔_, _≢_, _⊎_, ⊎-elim}
 use mathlib.Core.Bool.{true}
 use mathlib.Core.List.{List}
 use Rattle.model.specs.declared.Object.{Object}
@@ -19,8 +19,8 @@ use Rattle.model.proofs.ModePairs.{entry-star, turned, same-object, star-table}
 use Rattle.invariants.specs.Access.{withAccess}
 use Rattle.invariants.specs.Sound.{Sound}
 use Rattle.invariants.proofs.Pairs.{PairsFor}
-use Rattle.invariants.proofs.Secure.{StarFor, star-out, star-in}
-use Rattle.invariants.proofs.Added.{same-unheld, held-now, held-still, holds-now}
+use Rattle.invariants.proofs.Star.{StarFor, star-out, star-in}
+use Rattle.invariants.proofs.Added.{same-unheld, held-or-added, held-still, holds-now}
 
 -- ---- the test that the checks use
 
@@ -39,11 +39,6 @@ module _ (m : Monitor) (S : Sound m) (s o : ℕ) (x : Mode) (s-below : s < 16) (
   label-same : (p : ℕ) → object (withAccess m s o x) p .label ≡ object m p .label
   label-same p = ap (λ (ob : Object). ob .label) (same-unheld m s o x p)
 
-  -- what is held was held, or is the access wanted
-  held-or-wanted : (t p : ℕ) (y : Mode) → Holds (withAccess m s o x) t p y → Holds m t p y ⊎ ((t ≡ s) × (p ≡ o) × (y ≡ x))
-  held-or-wanted =
-      held-now m (S .formed) s o x (λ t p y. Holds m t p y ⊎ ((t ≡ s) × (p ≡ o) × (y ≡ x))) (inr (refl, refl, refl)) (λ t p y e. inl e)
-
   table-added : (needsLabel x ≡ true → object m o .label ≢ Absent) → KeptByHeld m s o x → Tabled (withAccess m s o x)
   table-added there K t p q y z g h =
       rw (label-same p, label-same q)
@@ -51,12 +46,12 @@ module _ (m : Monitor) (S : Sound m) (s o : ℕ) (x : Mode) (s-below : s < 16) (
       (λ a. ⊎-elim
       (λ b. star-table m .0 (S .secure .star) t p q y z a b)
       (λ b. rw (b .1, b .2) (K p y (subst (λ (i : ℕ). Holds m i p y) (b .0) a)))
-      (held-or-wanted t q z h))
+      (held-or-added m (S .formed) s o x t q z h))
       (λ a. ⊎-elim
       (λ b. rw (a .1, a .2) (turned z x _ _ (K q z (subst (λ (i : ℕ). Holds m i q z) (a .0) b))))
       (λ b. rw (a .1, a .2, b .1, b .2) (same-object x x (object m o .label) there))
-      (held-or-wanted t q z h))
-      (held-or-wanted t p y g))
+      (held-or-added m (S .formed) s o x t q z h))
+      (held-or-added m (S .formed) s o x t p y g))
 
   -- adding the access, to an object that is labelled where its mode needs it, keeps star exactly where the entry with each access held is kept
   pub star-added : (needsLabel x ≡ true → object m o .label ≢ Absent) → Star (withAccess m s o x) ↔ KeptByHeld m s o x

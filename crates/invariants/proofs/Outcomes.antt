@@ -5,12 +5,12 @@ use native.Mathlib.Omega.{arith}
 use mathlib.Core.Path.{_≡_, sym, ap, _∙_, subst}
 use mathlib.Core.Logic.{_↔_}
 use mathlib.Core.Bool.{Bool, true, false, not, cond}
-use borrow.Author.Tests.{leb-true}
+use borrow.Author.Tests.{leb-true, eqb-true}
 use Rattle.model.specs.declared.Object.{Object}
 use Rattle.model.specs.declared.Monitor.{Monitor}
 use Rattle.model.specs.declared.Label.the-variants.{Present}
 use Rattle.model.specs.declared.Request.{Request}
-use Rattle.model.specs.declared.Request.the-variants.{Get, Release, Give, Rescind, Create, Delete, ChangeLevel}
+use Rattle.model.specs.declared.Request.the-variants.{Get, Release, Give, Rescind, Create, Delete, ChangeLevel, SetCompanies}
 use Rattle.model.specs.declared.Decision.the-variants.{Granted, Already}
 use Rattle.model.specs.declared.Response.{Response}
 use Rattle.model.specs.Modes.{has, remove}
@@ -20,7 +20,7 @@ use Rattle.model.specs.Rules.{target, changed, already, afterwards, checks, ste
 use Rattle.model.proofs.Tests.{split, clash, and-left, and-right, not-on}
 use Rattle.model.proofs.Modes.{add-same, remove-same}
 use Rattle.model.proofs.Levels.{same-label}
-use Rattle.model.proofs.Equal.{with-held-same, with-rights-same, with-label-same, with-object-same}
+use Rattle.model.proofs.Equal.{with-held-same, with-rights-same, with-label-same, with-companies-same, with-object-same}
 use Rattle.invariants.proofs.Steps.{granted-or-refused, step-granted, step-refused}
 
 -- ---- the state was so already
@@ -38,6 +38,7 @@ record-same (Create s o c) ob e = clash (sym e)
 record-same (Delete s o) ob e = clash (sym e)
 record-same (ChangeLevel s o l) ob e =
     with-label-same ob (Present l) (sym (same-label (ob .label) (Present l) e))
+record-same (SetCompanies s o n) ob e = with-companies-same ob n (sym (eqb-true (ob .companies) n e))
 
 pub state-same : (q : Request) (m : Monitor) → already q (object m (target q)) ≡ true → afterwards q m ≡ m
 state-same q m e = with-object-same m (target q) _ (record-same q _ e)

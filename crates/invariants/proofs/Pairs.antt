@@ -1,22 +1,24 @@
--- Properties of pairs of accesses that one subject holds: what keeps them, for any such property. Star is one.
+-- Properties of pairs of accesses that one subject holds: what keeps them, for any such property. Star is one, and the wall another.
 -- Assumes nothing.
-use Prim.Native.Nat.{ℕ}
+use Prim.Native.Nat.{ℕ, _<_, _≤_}
+use native.Mathlib.Omega.{arith}
 use native.Mathlib.Decide.{ℕ-discrete}
 use mathlib.Core.Path.{_≡_, refl, sym, ap, _∙_, subst}
-use mathlib.Core.Logic.{_≢_}
+use mathlib.Core.Logic.{_≢_, ⊎-elim}
 use mathlib.Core.Bool.{Bool, true}
 use mathlib.Core.List.{List}
-use lib.ListN.{set}
+use lib.ListN.{length, getD, set}
 use lib.Seq.{getD-set-other}
 use Rattle.model.specs.declared.Object.{Object}
 use Rattle.model.specs.declared.Monitor.{Monitor}
 use Rattle.model.specs.declared.Mode.{Mode}
 use Rattle.model.specs.declared.Request.{Request}
-use Rattle.model.specs.declared.Request.the-variants.{Get, Release, Give, Rescind, Create, Delete, ChangeLevel}
+use Rattle.model.specs.declared.Request.the-variants.{Get, Release, Give, Rescind, Create, Delete, ChangeLevel, SetCompanies}
+use Rattle.model.specs.Tests.{allBelow}
 use Rattle.model.specs.Modes.{has, remove}
 use Rattle.model.specs.State.{noObject, objectAt, object, rightsOf, heldBy, withRights, withHeld, WellFormed}
 use Rattle.model.specs.Rules.{changed, afterwards}
-use Rattle.model.proofs.Tests.{set-all, apart, split}
+use Rattle.model.proofs.Tests.{set-all, apart, split, below-out, below-in, beyond, le-or-lt}
 use Rattle.model.proofs.Modes.{held-add, held-remove, has-none}
 use Rattle.invariants.proofs.Form.{no-modes}
 
@@ -33,7 +35,7 @@ PairsFor R s l =
 pub pairs-idle : (R : Mode → Object → Mode → Object → Type 0) (s : ℕ) (l : List Object) → ((o : ℕ) → heldBy (objectAt l o) s ≡ 0) → PairsFor R s l
 pairs-idle R s l z p q x y r w = none-held x _ (z p) r
 
--- the kinds by which nobody gains an access and what R looks at does not change
+-- the kinds by which nobody gains an access, and neither the label nor the company numbers of an object on which one is held change
 abbrev pub Fewer : Request → Type 0
 Fewer (Get s o x) = ⊥
 Fewer (Release s o x) = Unit {0}
@@ -42,6 +44,7 @@ Fewer (Rescind s t o x) = Unit {0}
 Fewer (Create s o c) = Unit {0}
 Fewer (Delete s o) = Unit {0}
 Fewer (ChangeLevel s o l) = ⊥
+Fewer (SetCompanies s o n) = ⊥
 
 -- R asks nothing of modes that do not matter, and sees of an object the view alone
 module _ {A : Type 0} (matters : Mode → Bool) (view : Object → A) (R : Mode → Object → Mode → Object → Type 0)
@@ -61,6 +64,12 @@ module _ {A : Type 0} (matters : Mode → Bool) (view : Object → A) (R : Mode 
       let f = go p .keeps x a r in
       let g = go q .keeps y b w in
       seen x y _ _ _ _ (f .1) (g .1) (h p q x y (f .0) (g .0)))
+
+  -- an object that has the same accesses and looks the same
+  pub pairs-unseen : (s : ℕ) (l : List Object) (o : ℕ) (ob : Object) → PairsFor R s l → ob .held ≡ objectAt l o .held → view ob ≡ view (objectAt l o)
+      → PairsFor R s (set l o ob)
+  pairs-unseen s l o ob h held same =
+      pairs-less s l o ob h (record { keeps = λ x n e. (sym (ap (λ (r : List ℕ). has x (getD r s 0)) held) ∙ e, same) })
 
   -- an object on which s holds nothing that matters, in the place of any other
   pub pairs-free : (s : ℕ) (l : List Object) (o : ℕ) (ob : Object) → PairsFor R s l
@@ -105,3 +114,15 @@ module _ {A : Type 0} (matters : Mode → Bool) (view : Object → A) (R : Mode 
   pairs-fewer (Create s o c) m W before f j = pairs-free j (m .objects) o _ (before j) (λ x n e. none-held x _ (no-modes j) e)
   pairs-fewer (Delete s o) m W before f j = pairs-free j (m .objects) o _ (before j) (λ x n e. none-held x _ (no-modes j) e)
   pairs-fewer (ChangeLevel s o l) m W before f j = absurd f
+  pairs-fewer (SetCompanies s o n) m W before f j = absurd f
+
+-- a test of one subject that decides R, asked of all sixteen: beyond them nobody holds anything
+module _ (R : Mode → Object → Mode → Object → Type 0) (test : ℕ → List Object → Bool)
+    (out : (s : ℕ) (l : List Object) → test s l ≡ true → PairsFor R s l) (into : (s : ℕ) (l : List Object) → PairsFor R s l → test s l ≡ true) where
+  pub pairs-all-out : (l : List Object) → ((o : ℕ) → length (objectAt l o .held) ≡ 16) → allBelow 16 (λ (s : ℕ). test s l) ≡ true → (s : ℕ) → PairsFor R s l
+  pairs-all-out l n e s =
+      ⊎-elim (λ (w : 16 ≤ s). pairs-idle R s l (λ o. beyond (objectAt l o .held) s 0 (omega (arith, n o))))
+      (λ (w : s < 16). out s l (below-out 16 (λ (i : ℕ). test i l) e s w)) (le-or-lt 16 s)
+
+  pub pairs-all-in : (l : List Object) → ((s : ℕ) → PairsFor R s l) → allBelow 16 (λ (s : ℕ). test s l) ≡ true
+  pairs-all-in l h = below-in 16 (λ (s : ℕ). test s l) (λ s b. into s l (h s))

@@ -24,7 +24,8 @@ use Rattle.model.proofs.Equal.{with-label-same}
 use Rattle.model.proofs.Lowering.{first-label-free, same-label-passes}
 use Rattle.invariants.specs.Sound.{Sound}
 use Rattle.invariants.proofs.Granted.{grants-change}
-use Rattle.invariants.proofs.Secure.{object-secure, simple-in, star-all-in, star-for, star-free}
+use Rattle.invariants.proofs.Secure.{object-secure, simple-in}
+use Rattle.invariants.proofs.Star.{star-all-in, star-for, star-free}
 
 module _ (m : Monitor) (S : Sound m) (o : ℕ) (l : Level) (live : object m o .live ≡ true) where
   -- what the owner's change has left to pass: 14, 8 and 9

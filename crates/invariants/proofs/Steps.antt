@@ -27,7 +27,9 @@ use Rattle.invariants.specs.Sound.{Sound}
 use Rattle.invariants.proofs.Granted.{only-refusals}
 use Rattle.invariants.proofs.Form.{changed-formed}
 use Rattle.invariants.proofs.Inside.{inside-afterwards}
-use Rattle.invariants.proofs.Secure.{SecureObject, object-secure, changed-secure, StarFor, star-of, changed-star}
+use Rattle.invariants.proofs.Secure.{SecureObject, object-secure, changed-secure}
+use Rattle.invariants.proofs.Star.{StarFor, star-of, changed-star}
+use Rattle.invariants.proofs.Wall.{WallFor, wall-of, changed-wall}
 
 -- ---- the two cases of a step
 
@@ -55,13 +57,15 @@ step-all P q m p f =
 
 -- ---- soundness is kept
 
-pub secure-of : (m : Monitor) → ((o : ℕ) → SecureObject (m .subjects) (object m o)) → ((s : ℕ) → StarFor s (m .objects)) → Secure m
-secure-of m h t =
+pub secure-of : (m : Monitor) → ((o : ℕ) → SecureObject (m .subjects) (object m o)) → ((s : ℕ) → StarFor s (m .objects))
+    → ((s : ℕ) → WallFor s (m .objects)) → Secure m
+secure-of m h t w =
     record {
       discretionary = λ s o. h o .discretionary s;
       labelled = λ s o. h o .labelled s;
       simple = λ s o. h o .simple s;
       star = star-of m t;
+      wall = wall-of m w;
     }
 
 pub sound-afterwards : (q : Request) (m : Monitor) → InRange q → Within (m .profile) q → Sound m → checks q m ≡ Granted → Sound (afterwards q m)
@@ -79,7 +83,8 @@ sound-afterwards q m r v S e =
       inside = inside-afterwards q m v (S .inside);
       secure = secure-of (afterwards q m)
           (objects-after (λ j ob. SecureObject (m .subjects) ob) q m (object-secure m (S .secure)) (changed-secure m W (S .secure) q e))
-          (changed-star q m W (S .secure) (λ o. F o .shape .held-length) e);
+          (changed-star q m W (S .secure) (λ o. F o .shape .held-length) e)
+          (changed-wall q m W (S .secure) (λ o. F o .shape .held-length) e);
     }
 
 pub sound-step : (q : Request) (m : Monitor) → InRange q → Within (m .profile) q → Sound m → Sound (step q m .monitor)

@@ -29,7 +29,8 @@ request-target f =
     (pick (eqb (f .kind) 3) _ _ refl
     (pick (eqb (f .kind) 4) _ _ refl
     (pick (eqb (f .kind) 5) _ _ refl
-    (pick (eqb (f .kind) 6) _ _ refl refl)))))
+    (pick (eqb (f .kind) 6) _ _ refl
+    (pick (eqb (f .kind) 7) _ _ refl refl))))))
   where
     pick : (b : Bool) (x y : Request) → target x ≡ f .object → target y ≡ f .object → target (cond b x y) ≡ f .object
     pick true x y p q = p

@@ -1,6 +1,6 @@
 -- A request on the rows by its checks: refused before anything is stored, refused by what the change would break, or granted.
 -- Assumes nothing.
-use Prim.Native.Nat.{ℕ, _+_, _<_}
+use Prim.Native.Nat.{ℕ, _<_}
 use mathlib.Core.Path.{_≡_, refl, sym, ap, ap₂, _∙_}
 use mathlib.Core.Bool.{Bool, true, false, cond, not}
 use native.Mathlib.Omega.{arith}
@@ -13,23 +13,20 @@ use Rattle.model.specs.declared.Mode.{Mode}
 use Rattle.model.specs.declared.Object.{Object}
 use Rattle.model.specs.declared.Monitor.{Monitor}
 use Rattle.model.specs.declared.Request.{Request}
-use Rattle.model.specs.declared.Request.the-variants.{Get, Delete, ChangeLevel}
+use Rattle.model.specs.declared.Request.the-variants.{Get, Delete, ChangeLevel, SetCompanies}
 use Rattle.model.specs.declared.Decision.{Decision}
-use Rattle.model.specs.declared.Decision.the-variants.{Granted, Already, NotEnrolled, NotLive, NoRight, NoLabel, SimpleBroken, StarBroken, LabelLowered}
+use Rattle.model.specs.declared.Decision.the-variants.{Granted, Already, NotEnrolled, NotLive, NoRight, NoLabel, SimpleBroken, StarBroken, LabelLowered, WallBroken}
 use Rattle.model.specs.declared.Response.{Response}
-use Rattle.model.specs.Tests.{implies, unless}
-use Rattle.model.specs.Modes.{needsLabel}
+use Rattle.model.specs.Tests.{unless}
 use Rattle.model.specs.State.{noObject, object}
 use Rattle.model.specs.Decisions.{number, refuses}
 use Rattle.model.specs.Requests.{InRange}
-use Rattle.model.specs.Rules.{notLowered, target, already, changed, checks, afterwards, simpleAll, starFor, starAll}
+use Rattle.model.specs.Rules.{notLowered, target, already, changed, checks, afterwards, simpleAll, starAll, wallAll}
 use Rattle.model.proofs.Tests.{cond-true, cond-false, not-not, pass, stop}
-use Rattle.star.specs.Between.{starBetween}
-use Rattle.star.proofs.Between.{between-one}
 use Rattle.unit.specs.Rows.{Rows, rowCount, objectIn, objectsIn, stateIn}
 use Rattle.unit.proofs.Tabulated.{tabulate-length}
-use Rattle.unit.proofs.Stores.{label-stored}
-use Rattle.kinds.specs.Stages.{beforeStar, afterChange, first}
+use Rattle.unit.proofs.Stores.{label-stored, companies-stored}
+use Rattle.kinds.specs.Stages.{beforeStar, afterGet, afterChange, first}
 use Rattle.kinds.specs.Carried.{stores, carried, Does}
 use Rattle.kinds.proofs.Effects.{stored-state, step-refused, step-granted, granted}
 
@@ -63,12 +60,9 @@ unfolding unless first
 before true d v w u r e = e
 before false d v w u r e = cond-true (refuses d) d w r
 
--- get: star comes last
-starLast : ℕ → ℕ → Mode → Monitor → Decision
-starLast s o x m = unless (implies (needsLabel x) (starFor s (afterwards (Get s o x) m .objects))) StarBroken Granted
-
-get-stages : (s o : ℕ) (x : Mode) (m : Monitor) → first (beforeStar s o x m) (starLast s o x m) ≡ checks (Get s o x) m
-unfolding checks beforeStar starLast first
+-- get: star and the wall come last, of the state with the access in it
+get-stages : (s o : ℕ) (x : Mode) (m : Monitor) → first (beforeStar s o x m) (afterGet s x (afterwards (Get s o x) m)) ≡ checks (Get s o x) m
+unfolding checks beforeStar afterGet first
 get-stages s o x m =
     before _ NotEnrolled _ _ _ refl (before _ NotLive _ _ _ refl (before _ NoRight _ _ _ refl
     (before _ NoLabel _ _ _ refl (before _ SimpleBroken _ _ _ refl refl))))
@@ -90,6 +84,15 @@ level-after : (o : ℕ) (l : Level) (m : Monitor) → o < length (m .objects) �
 unfolding levelLast afterChange
 level-after o l m h = ap (levelLast o l m) (sym (getD-set-same (m .objects) o (changed (ChangeLevel 0 o l) (object m o)) noObject h))
 
+-- company numbers: the checks of delete, then the wall of the state after it
+wallLast : Monitor → Decision
+wallLast m = unless (wallAll (m .objects)) WallBroken Granted
+
+companies-stages : (s o n : ℕ) (m : Monitor)
+    → first (checks (Delete s o) m) (wallLast (afterwards (SetCompanies s o n) m)) ≡ checks (SetCompanies s o n) m
+unfolding checks wallLast first
+companies-stages s o n m = before _ NotEnrolled _ _ _ refl (before _ NotLive _ _ _ refl (before _ NoRight _ _ _ refl refl))
+
 refused-first : (d later : Decision) → refuses d ≡ true → first d later ≡ d
 unfolding first
 refused-first d later t = cond-true _ _ _ t
@@ -99,30 +102,15 @@ unfolding first
 passed-first d later t = cond-false _ _ _ t
 
 module _ (u : Rows) (n : length u ≡ rowCount) (s o : ℕ) (x : Mode) (R : InRange (Get s o x)) (d : Decision) (d-is : d ≡ beforeStar s o x (stateIn u)) where
-  staged : checks (Get s o x) (stateIn u) ≡ first d (starLast s o x (stateIn u))
-  staged = sym (get-stages s o x (stateIn u)) ∙ ap (λ (k : Decision). first k (starLast s o x (stateIn u))) (sym d-is)
+  staged : checks (Get s o x) (stateIn u) ≡ first d (afterGet s x (afterwards (Get s o x) (stateIn u)))
+  staged = sym (get-stages s o x (stateIn u)) ∙ ap (λ (k : Decision). first k (afterGet s x (afterwards (Get s o x) (stateIn u)))) (sym d-is)
 
   pub get-refused : refuses d ≡ true → checks (Get s o x) (stateIn u) ≡ d
   get-refused t = staged ∙ refused-first d _ t
 
-  -- e has no star check
-  pub get-free : refuses d ≡ false → needsLabel x ≡ false → checks (Get s o x) (stateIn u) ≡ Granted
-  unfolding starLast implies unless
-  get-free t e = staged ∙ passed-first d _ t ∙ rw e
-
-  module _ (t : refuses d ≡ false) (e : needsLabel x ≡ true) (w : Rows) (w-is : w ≡ stores (Get s o x) u) (broken : Bool) (broken-is : broken ≡ not (starBetween s (s + 1) (objectsIn w))) where
-    kept : starFor s (afterwards (Get s o x) (stateIn u) .objects) ≡ not broken
-    kept =
-        ap (λ (m : Monitor). starFor s (m .objects)) (sym (ap stateIn w-is ∙ stored-state (Get s o x) u n R))
-        ∙ sym (between-one s (objectsIn w) (R .0)) ∙ sym (not-not _) ∙ ap not (sym broken-is)
-
-    pub get-broken : broken ≡ true → checks (Get s o x) (stateIn u) ≡ StarBroken
-    unfolding starLast implies unless
-    get-broken b = staged ∙ passed-first d _ t ∙ rw (e, kept, b)
-
-    pub get-kept : broken ≡ false → checks (Get s o x) (stateIn u) ≡ Granted
-    unfolding starLast implies unless
-    get-kept b = staged ∙ passed-first d _ t ∙ rw (e, kept, b)
+  pub get-last : refuses d ≡ false → (w : Rows) → w ≡ stores (Get s o x) u → (last : Decision) → last ≡ afterGet s x (stateIn w) → checks (Get s o x) (stateIn u) ≡ last
+  get-last t w w-is last last-is =
+      staged ∙ passed-first d _ t ∙ ap (afterGet s x) (sym (ap stateIn w-is ∙ stored-state (Get s o x) u n R)) ∙ sym last-is
 
 module _ (u : Rows) (n : length u ≡ rowCount) (s o : ℕ) (l : Level) (h : o < 64) (d : Decision) (d-is : d ≡ checks (Delete s o) (stateIn u)) where
   level-staged : checks (ChangeLevel s o l) (stateIn u) ≡ first d (fromLowering o l (stateIn u) (afterChange o (afterwards (ChangeLevel s o l) (stateIn u))))
@@ -144,3 +132,26 @@ module _ (u : Rows) (n : length u ≡ rowCount) (s o : ℕ) (l : Level) (h : o <
     level-last e w w-is last last-is =
         level-staged ∙ passed-first d _ t ∙ pass _ LabelLowered _ (sym raised-is ∙ e)
         ∙ ap (afterChange o) (sym (ap stateIn w-is ∙ label-stored u n o h (Present l))) ∙ sym last-is
+
+module _ (u : Rows) (n : length u ≡ rowCount) (s o k : ℕ) (h : o < 64) (d : Decision) (d-is : d ≡ checks (Delete s o) (stateIn u)) where
+  companies-staged : checks (SetCompanies s o k) (stateIn u) ≡ first d (wallLast (afterwards (SetCompanies s o k) (stateIn u)))
+  companies-staged = sym (companies-stages s o k (stateIn u)) ∙ ap (λ (c : Decision). first c (wallLast (afterwards (SetCompanies s o k) (stateIn u)))) (sym d-is)
+
+  pub companies-refused : refuses d ≡ true → checks (SetCompanies s o k) (stateIn u) ≡ d
+  companies-refused t = companies-staged ∙ refused-first d _ t
+
+  module _ (t : refuses d ≡ false) (w : Rows) (w-is : w ≡ stores (SetCompanies s o k) u) (broken : Bool) (broken-is : broken ≡ not (wallAll (objectsIn w))) where
+    left-last : checks (SetCompanies s o k) (stateIn u) ≡ wallLast (stateIn w)
+    unfolding stores changed
+    left-last = companies-staged ∙ passed-first d _ t ∙ ap wallLast (sym (ap stateIn w-is ∙ companies-stored u n o h k))
+
+    kept : wallAll (objectsIn w) ≡ not broken
+    kept = sym (not-not _) ∙ ap not (sym broken-is)
+
+    pub companies-broken : broken ≡ true → checks (SetCompanies s o k) (stateIn u) ≡ WallBroken
+    unfolding wallLast
+    companies-broken b = left-last ∙ stop _ WallBroken _ (kept ∙ ap not b)
+
+    pub companies-kept : broken ≡ false → checks (SetCompanies s o k) (stateIn u) ≡ Granted
+    unfolding wallLast
+    companies-kept b = left-last ∙ pass _ WallBroken _ (kept ∙ ap not b)

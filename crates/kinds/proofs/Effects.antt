@@ -6,7 +6,7 @@ use mathlib.Core.Bool.{Bool, true, false, cond}
 use lib.ListN.{length, length-set}
 use Rattle.model.specs.declared.Label.the-variants.{Present}
 use Rattle.model.specs.declared.Request.{Request}
-use Rattle.model.specs.declared.Request.the-variants.{Get, Release, Give, Rescind, Create, Delete, ChangeLevel}
+use Rattle.model.specs.declared.Request.the-variants.{Get, Release, Give, Rescind, Create, Delete, ChangeLevel, SetCompanies}
 use Rattle.model.specs.declared.Decision.the-variants.{Granted, Already}
 use Rattle.model.specs.declared.Monitor.{Monitor}
 use Rattle.model.specs.declared.Response.{Response}
@@ -18,7 +18,7 @@ use Rattle.model.proofs.Tests.{split, cond-true, cond-false, cond-all}
 use Rattle.unit.specs.Rows.{Rows, rowCount, stateIn}
 use Rattle.unit.specs.Stored.{setHeld, setObject}
 use Rattle.unit.proofs.Readings.{read-held}
-use Rattle.unit.proofs.Stores.{rights-stored, held-stored, sets-stored, label-stored, object-stored, held-put-back}
+use Rattle.unit.proofs.Stores.{rights-stored, held-stored, sets-stored, label-stored, companies-stored, object-stored, held-put-back}
 use Rattle.kinds.specs.Carried.{stores, carried}
 
 pub stored-state : (q : Request) (u : Rows) → length u ≡ rowCount → InRange q → stateIn (stores q u) ≡ afterwards q (stateIn u)
@@ -30,6 +30,7 @@ stored-state (Rescind s t o x) u n r = sets-stored u n o (r .2) t _ _
 stored-state (Create s o c) u n r = object-stored u o (created s c) n (r .1)
 stored-state (Delete s o) u n r = object-stored u o noObject n (r .1)
 stored-state (ChangeLevel s o l) u n r = label-stored u n o (r .1) (Present l)
+stored-state (SetCompanies s o k) u n r = companies-stored u n o (r .1) k
 
 -- no request changes how many rows there are
 stores-length : (q : Request) (u : Rows) → length (stores q u) ≡ length u
@@ -41,6 +42,7 @@ stores-length (Rescind s t o x) u = simp length-set
 stores-length (Create s o c) u = simp length-set
 stores-length (Delete s o) u = simp length-set
 stores-length (ChangeLevel s o l) u = simp length-set
+stores-length (SetCompanies s o k) u = simp length-set
 
 pub carried-length : (q : Request) (u : Rows) → length (carried q u) ≡ length u
 unfolding carried

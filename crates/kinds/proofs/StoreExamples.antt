@@ -4,7 +4,7 @@
 use mathlib.Core.Path.{_≡_, refl}
 use mathlib.Core.Bool.{true, false}
 use Rattle.model.specs.declared.Mode.the-variants.{Write, Append, Execute}
-use Rattle.model.specs.declared.Request.the-variants.{Get, Release, Give, Rescind, Create, Delete, ChangeLevel}
+use Rattle.model.specs.declared.Request.the-variants.{Get, Release, Give, Rescind, Create, Delete, ChangeLevel, SetCompanies}
 use Rattle.model.specs.Modes.{has, add, remove}
 use Rattle.model.specs.Requests.{creation}
 use Rattle.model.specs.Rules.{changed, afterwards}
@@ -25,5 +25,7 @@ pub records-in-rows : (stores (Create 0 1 (creation false)) (unitOf example) ≡
     × (stores (Create 0 1 (creation true)) (unitOf example) ≡ unitOf (afterwards (Create 0 1 (creation true)) example))
     × (stores (Delete 5 2) (unitOf example) ≡ unitOf (afterwards (Delete 5 2) example))
     × (stores (ChangeLevel 15 63 (record { class = 7; needs = 0x0102 })) (unitOf example) ≡ unitOf (afterwards (ChangeLevel 15 63 (record { class = 7; needs = 0x0102 })) example))
+    × (stores (SetCompanies 15 63 0x1203) (unitOf example) ≡ unitOf (afterwards (SetCompanies 15 63 0x1203) example))
+    × (stores (ChangeLevel 5 2 (record { class = 9; needs = 0x1335 })) (unitOf example) ≡ unitOf (afterwards (ChangeLevel 5 2 (record { class = 9; needs = 0x1335 })) example))
 unfolding stores changed unitOf monitorRow tabulate objectOf labelIn labelBytes rowOf setObject
-records-in-rows = (refl, refl, refl, refl)
+records-in-rows = (refl, refl, refl, refl, refl, refl)

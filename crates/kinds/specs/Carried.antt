@@ -5,15 +5,15 @@ use mathlib.Core.Path.{_≡_}
 use mathlib.Core.Bool.{cond}
 use Rattle.model.specs.declared.Label.the-variants.{Present}
 use Rattle.model.specs.declared.Request.{Request}
-use Rattle.model.specs.declared.Request.the-variants.{Get, Release, Give, Rescind, Create, Delete, ChangeLevel}
+use Rattle.model.specs.declared.Request.the-variants.{Get, Release, Give, Rescind, Create, Delete, ChangeLevel, SetCompanies}
 use Rattle.model.specs.Modes.{add, remove}
 use Rattle.model.specs.State.{noObject, object, rightsOf, heldBy}
 use Rattle.model.specs.Decisions.{number, refuses}
 use Rattle.model.specs.Rules.{created, step}
 use Rattle.unit.specs.Rows.{Rows, stateIn}
-use Rattle.unit.specs.Stored.{setRights, setHeld, setLabel, setObject}
+use Rattle.unit.specs.Stored.{setRights, setHeld, setLabel, setCompanies, setObject}
 
--- what a granted request stores: one set, in rescind two, in create and delete a record, in change of level a label
+-- what a granted request stores: one set, in rescind two, in create and delete a record, in change of level a label, in kind 8 company numbers
 unfoldable pub stores : Request → Rows → Rows
 stores (Get s o x) u = setHeld u o s (add x (heldBy (object (stateIn u) o) s))
 stores (Release s o x) u = setHeld u o s (remove x (heldBy (object (stateIn u) o) s))
@@ -22,6 +22,7 @@ stores (Rescind s t o x) u = setHeld (setRights u o t (remove x (rightsOf (objec
 stores (Create s o c) u = setObject u o (created s c)
 stores (Delete s o) u = setObject u o noObject
 stores (ChangeLevel s o l) u = setLabel u o (Present l)
+stores (SetCompanies s o n) u = setCompanies u o n
 
 -- a refusal leaves "the whole state", and every byte of the unit
 unfoldable pub carried : Request → Rows → Rows

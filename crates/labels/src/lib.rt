@@ -144,6 +144,7 @@ pub fn number(d: Decision) -> u8
         Decision::ZeroSeed => 15,
         Decision::OutsideProfile => 16,
         Decision::EmptyJournal => 17,
+        Decision::WallBroken => 18,
     }
 }
 

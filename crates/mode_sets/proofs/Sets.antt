@@ -8,7 +8,7 @@ use lib.Bits.{bitAnd, bitOr}
 use borrow.Author.Tests.{eqb-true}
 use Rattle.model.specs.declared.Mode.{Mode}
 use Rattle.model.specs.Tests.{allBelow}
-use Rattle.model.specs.Modes.{weight, has, add, remove, anyObserves, anyNeedsLabel}
+use Rattle.model.specs.Modes.{weight, has, add, remove, anyObserves, anyAlters, anyNeedsLabel, anyHeld}
 use Rattle.model.proofs.Tests.{below-out, same-bool}
 use Rattle.model.proofs.Modes.{allModes, modes-out}
 
@@ -37,6 +37,14 @@ pub observes-and : (n : ℕ) → n < 256 → not (eqb (bitAnd n 12) 0) ≡ anyOb
 unfolding has
 observes-and = some-and 12 anyObserves refl
 
+pub alters-and : (n : ℕ) → n < 256 → not (eqb (bitAnd n 6) 0) ≡ anyAlters n
+unfolding has
+alters-and = some-and 6 anyAlters refl
+
 pub needs-label-and : (n : ℕ) → n < 256 → not (eqb (bitAnd n 14) 0) ≡ anyNeedsLabel n
 unfolding has
 needs-label-and = some-and 14 anyNeedsLabel refl
+
+pub held-and : (n : ℕ) → n < 256 → not (eqb (bitAnd n 15) 0) ≡ anyHeld n
+unfolding has
+held-and = some-and 15 anyHeld refl

@@ -1,7 +1,7 @@
 // Modes and sets of modes. Each function computes the definition that its contract names, for every argument.
 ghost use mathlib.Core.Path.{_≡_};
 ghost use Rattle.model.specs.Levels.{subset};
-ghost use Rattle.model.specs.Modes.{weight, has, add, remove, observes, needsLabel, anyObserves, anyNeedsLabel};
+ghost use Rattle.model.specs.Modes.{weight, has, add, remove, observes, alters, needsLabel, anyObserves, anyAlters, anyNeedsLabel, anyHeld};
 use model::Mode;
 
 // ---- modes
@@ -24,6 +24,17 @@ pub fn observes(x: Mode) -> bool
         Mode::Read => true,
         Mode::Write => true,
         Mode::Append => false,
+        Mode::Execute => false,
+    }
+}
+
+pub fn alters(x: Mode) -> bool
+    ensures { λ r. ⌜ r ≡ alters x ⌝ }
+{
+    match x {
+        Mode::Read => false,
+        Mode::Write => true,
+        Mode::Append => true,
         Mode::Execute => false,
     }
 }
@@ -66,11 +77,25 @@ pub fn any_observes(n: u8) -> bool
     n & 12 != 0
 }
 
+// w or a
+pub fn any_alters(n: u8) -> bool
+    ensures { λ r. ⌜ r ≡ anyAlters n ⌝ }
+{
+    n & 6 != 0
+}
+
 // r, w or a
 pub fn any_needs_label(n: u8) -> bool
     ensures { λ r. ⌜ r ≡ anyNeedsLabel n ⌝ }
 {
     n & 14 != 0
+}
+
+// any of the four
+pub fn any_held(n: u8) -> bool
+    ensures { λ r. ⌜ r ≡ anyHeld n ⌝ }
+{
+    n & 15 != 0
 }
 
 // Each of the four modes that is in h is in r.

@@ -9,7 +9,7 @@ use Rattle.model.specs.declared.Subject.{Subject}
 use Rattle.model.specs.declared.Object.{Object}
 use Rattle.model.specs.declared.Monitor.{Monitor}
 use Rattle.model.specs.declared.Request.{Request}
-use Rattle.model.specs.declared.Request.the-variants.{Get, Release, Give, Rescind, Create, Delete, ChangeLevel}
+use Rattle.model.specs.declared.Request.the-variants.{Get, Release, Give, Rescind, Create, Delete, ChangeLevel, SetCompanies}
 use Rattle.model.specs.State.{noObject, object, rightsOf, heldBy, withRights, withHeld, WellFormedObject, WellFormed}
 use Rattle.model.specs.Requests.{InRange}
 use Rattle.model.specs.Rules.{target, changed, afterwards}
@@ -24,6 +24,7 @@ target-below (Rescind s t o x) r = r .2
 target-below (Create s o c) r = r .1
 target-below (Delete s o) r = r .1
 target-below (ChangeLevel s o l) r = r .1
+target-below (SetCompanies s o n) r = r .1
 
 -- the request's object has the record that the request makes
 pub object-there : (q : Request) (m : Monitor) → WellFormed m → target q < 64 → object (afterwards q m) (target q) ≡ changed q (object m (target q))

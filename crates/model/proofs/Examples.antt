@@ -15,9 +15,10 @@ use Rattle.model.specs.declared.Decision.the-variants.{Granted, NotLive,
 use Rattle.model.specs.Tests.{implies, unless}
 use Rattle.model.specs.Levels.{dominates, levelDominates, compare}
 use Rattle.model.specs.Modes.{has, add, remove}
+use Rattle.model.specs.Companies.{company, compatible, confined}
 use Rattle.model.specs.State.{noObject, nobody, object, rightsOf, heldBy, withOwner, withLabel, withRows, withObject, fresh, widest}
 use Rattle.model.specs.Requests.{creation}
-use Rattle.model.specs.Rules.{created, notLowered, changed, checks, simpleAll, starPair, starFrom, starFor}
+use Rattle.model.specs.Rules.{created, notLowered, changed, checks, simpleAll, starPair, starFrom, starFor, wallPair, wallFrom, wallFor}
 
 abbrev level : ℕ → ℕ → Label
 level class needs = Present (record { class = class; needs = needs })
@@ -34,11 +35,11 @@ low held = withRows (withLabel (withOwner noObject 1) (level 0 0)) (replicate 16
 
 -- an absent label is not class 0 with no needs: r, w and a are refused, e is not
 pub unlabelled-closed : (checks (Get 1 0 Read) (state Absent 0 0) ≡ NoLabel) × (checks (Get 1 0 Append) (state Absent 0 0) ≡ NoLabel)
-unfolding checks changed has add implies unless starFor starFrom starPair dominates
+unfolding checks changed has add implies unless starFor starFrom starPair wallFor wallFrom wallPair compatible confined company dominates
 unlabelled-closed = (refl, refl)
 
 pub execute-needs-no-label : checks (Get 1 0 Execute) (state Absent 0 0) ≡ Granted
-unfolding checks changed has add implies unless starFor starFrom starPair dominates
+unfolding checks changed has add implies unless starFor starFrom starPair wallFor wallFrom wallPair compatible confined company dominates
 execute-needs-no-label = refl
 
 -- class and needs both count, and two levels may be apart
@@ -48,7 +49,7 @@ needs-count = (refl, refl, refl)
 
 -- not dominated is not dominates: subject 1 has (3, 0003) and the label is (0, 0004), neither above the other
 pub apart-is-refused : (checks (Get 1 0 Read) (state (level 0 4) 0 0) ≡ SimpleBroken) × (checks (Get 1 0 Read) (state (level 0 3) 0 0) ≡ Granted)
-unfolding checks changed has add implies unless starFor starFrom starPair dominates levelDominates compare
+unfolding checks changed has add implies unless starFor starFrom starPair wallFor wallFrom wallPair compatible confined company dominates levelDominates compare
 apart-is-refused = (refl, refl)
 
 -- give and rescind need ownership and the right itself; the right alone, or ownership alone, is not enough
@@ -81,10 +82,10 @@ change-looks-at-all = refl
 -- star: who reads class 1 may not append to class 0, and who appends only reads nothing
 pub star-one-way : (starFor 1 (withObject (state (level 1 1) 0 8) 1 (low 2) .objects) ≡ false)
     × (starFor 1 (withObject (state (level 1 1) 0 2) 1 (low 8) .objects) ≡ true)
-unfolding starFor starFrom starPair has implies dominates levelDominates compare
+unfolding starFor starFrom starPair wallFor wallFrom wallPair compatible confined company has implies dominates levelDominates compare
 star-one-way = (refl, refl)
 
 -- life comes before right, right before label
 pub checks-in-order : (checks (Get 0 1 Write) (state Absent 0 0) ≡ NotLive) × (checks (Get 0 0 Write) (state Absent 0 0) ≡ NoRight)
-unfolding checks changed has add implies unless starFor starFrom starPair dominates
+unfolding checks changed has add implies unless starFor starFrom starPair wallFor wallFrom wallPair compatible confined company dominates
 checks-in-order = (refl, refl)

@@ -13,9 +13,10 @@ use Rattle.model.specs.declared.Object.{Object}
 use Rattle.model.specs.Tests.{implies, unless}
 use Rattle.model.specs.Levels.{compare, levelDominates, dominates, sameLabel}
 use Rattle.model.specs.Modes.{has}
+use Rattle.model.specs.Companies.{company, compatible, confined}
 use Rattle.model.specs.State.{nobody, noObject, fresh, widest, object, withLabel}
 use Rattle.model.specs.Requests.{fields, modeAllowed, unusedZero, fieldsFormed, within, wellFormed, request, creation, decodeFields, decode}
-use Rattle.model.specs.Rules.{created, changed, already, simpleAll, starPair, starFrom, starFor, starAll, notLowered, checks, answer, step}
+use Rattle.model.specs.Rules.{created, changed, already, simpleAll, starPair, starFrom, starFor, starAll, notLowered, checks, answer, step, wallPair, wallFrom, wallFor}
 use Rattle.model.specs.Runs.{respond}
 use Rattle.model.specs.Journal.{Entry, Journaled, entered, withoutEntries, ask, restored, takeBack, takingBack, Act, asks, takesBack, acted, answers}
 
@@ -67,7 +68,7 @@ pub what-is-entered : (answers (create ∷ create ∷ label ∷ label ∷ asks [
     × (entries (create ∷ create ∷ []) ≡ about noObject ∷ [])
     × (entries (create ∷ create ∷ label ∷ label ∷ asks [] ∷ []) ≡ about new ∷ about noObject ∷ [])
     × (entries (create ∷ label ∷ delete ∷ []) ≡ about labelled ∷ about new ∷ about noObject ∷ [])
-unfolding acted answers ask entered bytesToBits toBits odd fromBits field decode decodeFields fields wellFormed fieldsFormed within modeAllowed unusedZero request respond step checks already changed starAll starFor starFrom starPair implies unless answer simpleAll notLowered has sameLabel dominates levelDominates compare
+unfolding acted answers ask entered bytesToBits toBits odd fromBits field decode decodeFields fields wellFormed fieldsFormed within modeAllowed unusedZero request respond step checks already changed starAll starFor starFrom starPair wallFor wallFrom wallPair compatible confined company implies unless answer simpleAll notLowered has sameLabel dominates levelDominates compare
 what-is-entered = (refl, refl, refl, refl)
 
 -- object 1 after the three requests and n takings-back
@@ -82,11 +83,11 @@ pub taken-back-in-turn : (afterwards [] ≡ noObject)
     × (afterwards (takesBack ∷ takesBack ∷ takesBack ∷ []) ≡ noObject)
     × (afterwards (takesBack ∷ takesBack ∷ takesBack ∷ takesBack ∷ []) ≡ noObject)
     × (answers (takesBack ∷ takesBack ∷ takesBack ∷ takesBack ∷ []) (acted (create ∷ label ∷ delete ∷ []) begun) ≡ 0 ∷ 0 ∷ 0 ∷ 17 ∷ [])
-unfolding acted answers ask entered takeBack takingBack restored bytesToBits toBits odd fromBits field decode decodeFields fields wellFormed fieldsFormed within modeAllowed unusedZero request respond step checks already changed starAll starFor starFrom starPair implies unless answer simpleAll notLowered has sameLabel dominates levelDominates compare
+unfolding acted answers ask entered takeBack takingBack restored bytesToBits toBits odd fromBits field decode decodeFields fields wellFormed fieldsFormed within modeAllowed unusedZero request respond step checks already changed starAll starFor starFrom starPair wallFor wallFrom wallPair compatible confined company implies unless answer simpleAll notLowered has sameLabel dominates levelDominates compare
 taken-back-in-turn = (refl, refl, refl, refl, refl, refl)
 
 -- a taking-back enters nothing, so it is not taken back itself: what is asked after it is
 pub no-entry-of-its-own : (entries (create ∷ label ∷ takesBack ∷ []) ≡ about noObject ∷ [])
     × (entries (create ∷ label ∷ takesBack ∷ delete ∷ []) ≡ about new ∷ about noObject ∷ [])
-unfolding acted answers ask entered takeBack restored bytesToBits toBits odd fromBits field decode decodeFields fields wellFormed fieldsFormed within modeAllowed unusedZero request respond step checks already changed starAll starFor starFrom starPair implies unless answer simpleAll notLowered has sameLabel dominates levelDominates compare
+unfolding acted answers ask entered takeBack restored bytesToBits toBits odd fromBits field decode decodeFields fields wellFormed fieldsFormed within modeAllowed unusedZero request respond step checks already changed starAll starFor starFrom starPair wallFor wallFrom wallPair compatible confined company implies unless answer simpleAll notLowered has sameLabel dominates levelDominates compare
 no-entry-of-its-own = (refl, refl)

@@ -7,6 +7,7 @@ pub mod Levels
 pub mod Comparisons
 pub mod ModePairs
 pub mod TwoAccesses
+pub mod Companies
 pub mod Within
 pub mod Profiles
 pub mod Packing
@@ -21,5 +22,6 @@ pub mod Lowering
 pub mod ByteExamples
 pub mod StateExamples
 pub mod JournalExamples
+pub mod WallExamples
 pub mod Arrays
 pub mod Buffers

@@ -17,8 +17,9 @@ use Rattle.model.specs.declared.Decision.the-variants.{Granted, NotEnrol
 use Rattle.model.specs.Tests.{implies, unless, firstFailing}
 use Rattle.model.specs.Levels.{Dominates, dominates, levelDominates, compare, present}
 use Rattle.model.specs.Modes.{has}
+use Rattle.model.specs.Companies.{company, compatible, confined}
 use Rattle.model.specs.State.{noObject, nobody, enrolled, object, withOwner, withLabel, withRows, withObject, fresh, widest}
-use Rattle.model.specs.Rules.{owns, notLowered, changed, afterwards, checks, simpleAll, starPair, starFrom, starFor, starAll}
+use Rattle.model.specs.Rules.{owns, notLowered, changed, afterwards, checks, simpleAll, starPair, starFrom, starFor, starAll, wallPair, wallFrom, wallFor}
 use Rattle.model.proofs.Tests.{clash}
 use Rattle.model.proofs.Levels.{dominates-decides, dominates-refl}
 
@@ -94,25 +95,25 @@ changes label class needs = checks (ChangeLevel 1 0 (level class needs)) (state 
 
 -- "An owner could take a heat trace from class 3 to class 0 and publish it. Operators no longer allow this."
 pub no-publishing : (changes (Present (level 3 0)) 0 0 ≡ LabelLowered) × (changes (Present (level 3 1)) 0 0 ≡ LabelLowered)
-unfolding checks changed notLowered unless implies has dominates levelDominates compare simpleAll starAll starFor starFrom starPair
+unfolding checks changed notLowered unless implies has dominates levelDominates compare simpleAll starAll starFor starFrom starPair wallFor wallFrom wallPair compatible confined company
 no-publishing = (refl, refl)
 
 -- one class less, one need less, and labels apart in both directions
 pub neither-part-falls : (changes (Present (level 2 1)) 1 1 ≡ LabelLowered) × (changes (Present (level 2 3)) 2 1 ≡ LabelLowered)
     × (changes (Present (level 2 1)) 3 2 ≡ LabelLowered) × (changes (Present (level 2 1)) 1 3 ≡ LabelLowered)
-unfolding checks changed notLowered unless implies has dominates levelDominates compare simpleAll starAll starFor starFrom starPair
+unfolding checks changed notLowered unless implies has dominates levelDominates compare simpleAll starAll starFor starFrom starPair wallFor wallFrom wallPair compatible confined company
 neither-part-falls = (refl, refl, refl, refl)
 
 -- the highest class less one, and the last need of class 0; from the lowest label to the highest at once
 pub whole-range : (changes (Present (level 15 0)) 14 0 ≡ LabelLowered) × (changes (Present (level 0 0x8000)) 0 0 ≡ LabelLowered)
     × (changes (Present (level 0 0)) 15 0xFFFF ≡ Granted)
-unfolding checks changed notLowered unless implies has dominates levelDominates compare simpleAll starAll starFor starFrom starPair
+unfolding checks changed notLowered unless implies has dominates levelDominates compare simpleAll starAll starFor starFrom starPair wallFor wallFrom wallPair compatible confined company
 whole-range = (refl, refl, refl)
 
 -- the same label, a class more, a need more; a first label, also of class 0
 pub raising-passes : (changes (Present (level 2 1)) 2 1 ≡ Granted) × (changes (Present (level 2 1)) 3 1 ≡ Granted) × (changes (Present (level 2 1)) 2 3 ≡ Granted)
     × (changes Absent 0 0 ≡ Granted) × (changes Absent 3 3 ≡ Granted)
-unfolding checks changed notLowered unless implies has dominates levelDominates compare simpleAll starAll starFor starFrom starPair
+unfolding checks changed notLowered unless implies has dominates levelDominates compare simpleAll starAll starFor starFrom starPair wallFor wallFrom wallPair compatible confined company
 raising-passes = (refl, refl, refl, refl, refl)
 
 -- "checked after 6 and before 8": a lowering by who is not enrolled, of a record that has a label and is not live, by who is not the owner
@@ -128,5 +129,5 @@ pub lowering-before-eight : (checks (ChangeLevel 1 0 (level 0 2)) (state (Presen
     × (checks (ChangeLevel 1 0 (level 1 3)) (state (Present (level 1 1)) 8 0 0) ≡ SimpleBroken)
     × (checks (ChangeLevel 1 0 (level 0 2)) (state (Present (level 1 1)) 0 8 2) ≡ LabelLowered)
     × (checks (ChangeLevel 1 0 (level 1 3)) (state (Present (level 1 1)) 0 8 2) ≡ StarBroken)
-unfolding checks changed notLowered unless implies has dominates levelDominates compare simpleAll starAll starFor starFrom starPair
+unfolding checks changed notLowered unless implies has dominates levelDominates compare simpleAll starAll starFor starFrom starPair wallFor wallFrom wallPair compatible confined company
 lowering-before-eight = (refl, refl, refl, refl)

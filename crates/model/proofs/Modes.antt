@@ -9,7 +9,7 @@ use Rattle.model.specs.declared.Mode.{Mode}
 use Rattle.model.specs.declared.Mode.the-variants.{Read, Write, Append, Execute}
 use Rattle.model.specs.Tests.{allBelow, implies}
 use Rattle.model.specs.Levels.{subset}
-use Rattle.model.specs.Modes.{has, add, remove, weight, observes, alters, needsLabel, anyObserves, anyAlters, anyNeedsLabel}
+use Rattle.model.specs.Modes.{has, add, remove, weight, observes, alters, needsLabel, anyObserves, anyAlters, anyNeedsLabel, anyHeld}
 use Rattle.model.proofs.Tests.{below-out, same-bool, beq-same, and-left, and-right, and-both, or-cases, or-left, or-right, toT, clash, implies-out, implies-in}
 
 -- the same mode
@@ -146,3 +146,12 @@ needs-label-some n e f =
     or-cases (anyObserves n) (anyAlters n) e
     (λ q. observes-some n q (λ x h o. f x h (or-left (observes x) (alters x) o)))
     (λ q. alters-some n q (λ x h o. f x h (or-right (observes x) (alters x) o)))
+
+pub any-held : (x : Mode) (n : ℕ) → has x n ≡ true → anyHeld n ≡ true
+any-held Read n e = or-left (anyNeedsLabel n) _ (any-needs-label Read n e refl)
+any-held Write n e = or-left (anyNeedsLabel n) _ (any-needs-label Write n e refl)
+any-held Append n e = or-left (anyNeedsLabel n) _ (any-needs-label Append n e refl)
+any-held Execute n e = or-right (anyNeedsLabel n) _ e
+
+pub held-some : {P : Type 0} (n : ℕ) → anyHeld n ≡ true → ((x : Mode) → has x n ≡ true → P) → P
+held-some n e f = or-cases (anyNeedsLabel n) (has Execute n) e (λ q. needs-label-some n q (λ x h o. f x h)) (λ q. f Execute q)

@@ -13,6 +13,7 @@ use Rattle.model.specs.declared.Label.{Label}
 use Rattle.model.specs.declared.Label.the-variants.{Absent, Present}
 use Rattle.model.specs.declared.Subject.{Subject}
 use Rattle.model.specs.declared.Object.{Object}
+use Rattle.model.specs.Companies.{companiesWidth}
 use Rattle.model.specs.State.{subjectCount, classWidth, needsWidth, noObject, LabelFits, WellFormedObject}
 use Rattle.model.specs.Layout.{labelWidth, ownerWidth, labelOffset, setWidth, pairWidth, setsWidth, objectWidth, labelBits, setsBits, objectBits}
 use Rattle.model.specs.Reading.{labelFrom, labelForm, rightsFrom, heldFrom, liveFrom, objectFrom, objectForm}
@@ -110,42 +111,62 @@ sets-back (suc n) b h =
 pub object-length : (ob : Object) → length (ob .rights) ≡ subjectCount → length (ob .held) ≡ subjectCount → length (objectBits ob) ≡ objectWidth
 unfolding objectBits
 object-length ob p q =
-    ap suc (length-append (toBits ownerWidth (ob .owner)) (labelBits (ob .label) ++ setsBits (ob .rights) (ob .held)))
+    let behind = toBits companiesWidth (ob .companies) ++ setsBits (ob .rights) (ob .held) in
+    ap suc (length-append (toBits ownerWidth (ob .owner)) (labelBits (ob .label) ++ behind))
     ∙ omega (
       arith,
       length-toBits ownerWidth (ob .owner),
-      length-append (labelBits (ob .label)) (setsBits (ob .rights) (ob .held)),
+      length-append (labelBits (ob .label)) behind,
       label-length (ob .label),
+      length-append (toBits companiesWidth (ob .companies)) (setsBits (ob .rights) (ob .held)),
+      length-toBits companiesWidth (ob .companies),
       sets-length subjectCount (ob .rights) (ob .held) p q,
     )
 
--- where the parts of an object's record stand behind its first bit: the owner, then the label, then the sets
+-- where the parts of an object's record stand behind its first bit: the owner, then the label, the company numbers and the sets
+abbrev companiesBehind : ℕ
+companiesBehind = ownerWidth + labelWidth
+
 abbrev setsBehind : ℕ
-setsBehind = ownerWidth + labelWidth
+setsBehind = companiesBehind + companiesWidth
 
 module _ (ob : Object) (p : length (ob .rights) ≡ subjectCount) (q : length (ob .held) ≡ subjectCount) where
+  -- the company numbers and the sets
+  abbrev last-parts : List Bool
+  last-parts = toBits companiesWidth (ob .companies) ++ setsBits (ob .rights) (ob .held)
+
   tail-of : List Bool
-  tail-of = toBits ownerWidth (ob .owner) ++ (labelBits (ob .label) ++ setsBits (ob .rights) (ob .held))
+  tail-of = toBits ownerWidth (ob .owner) ++ (labelBits (ob .label) ++ last-parts)
 
   owner-part : take ownerWidth tail-of ≡ toBits ownerWidth (ob .owner)
   unfolding tail-of
-  owner-part = take-at (toBits ownerWidth (ob .owner)) (labelBits (ob .label) ++ setsBits (ob .rights) (ob .held)) ownerWidth (length-toBits ownerWidth (ob .owner))
+  owner-part = take-at (toBits ownerWidth (ob .owner)) (labelBits (ob .label) ++ last-parts) ownerWidth (length-toBits ownerWidth (ob .owner))
 
-  behind-owner : drop ownerWidth tail-of ≡ labelBits (ob .label) ++ setsBits (ob .rights) (ob .held)
+  behind-owner : drop ownerWidth tail-of ≡ labelBits (ob .label) ++ last-parts
   unfolding tail-of
-  behind-owner = drop-at (toBits ownerWidth (ob .owner)) (labelBits (ob .label) ++ setsBits (ob .rights) (ob .held)) ownerWidth (length-toBits ownerWidth (ob .owner))
+  behind-owner = drop-at (toBits ownerWidth (ob .owner)) (labelBits (ob .label) ++ last-parts) ownerWidth (length-toBits ownerWidth (ob .owner))
 
   label-part : take labelWidth (drop ownerWidth tail-of) ≡ labelBits (ob .label)
-  label-part = ap (take labelWidth) behind-owner ∙ take-at (labelBits (ob .label)) (setsBits (ob .rights) (ob .held)) labelWidth (label-length (ob .label))
+  label-part = ap (take labelWidth) behind-owner ∙ take-at (labelBits (ob .label)) last-parts labelWidth (label-length (ob .label))
 
-  behind-label : drop setsBehind tail-of ≡ setsBits (ob .rights) (ob .held)
+  behind-label : drop companiesBehind tail-of ≡ last-parts
   behind-label =
       sym (drop-drop labelWidth ownerWidth tail-of) ∙ ap (drop labelWidth) behind-owner
-      ∙ drop-at (labelBits (ob .label)) (setsBits (ob .rights) (ob .held)) labelWidth (label-length (ob .label))
+      ∙ drop-at (labelBits (ob .label)) last-parts labelWidth (label-length (ob .label))
+
+  companies-part : take companiesWidth (drop companiesBehind tail-of) ≡ toBits companiesWidth (ob .companies)
+  companies-part =
+      ap (take companiesWidth) behind-label
+      ∙ take-at (toBits companiesWidth (ob .companies)) (setsBits (ob .rights) (ob .held)) companiesWidth (length-toBits companiesWidth (ob .companies))
+
+  behind-companies : drop setsBehind tail-of ≡ setsBits (ob .rights) (ob .held)
+  behind-companies =
+      sym (drop-drop companiesWidth companiesBehind tail-of) ∙ ap (drop companiesWidth) behind-label
+      ∙ drop-at (toBits companiesWidth (ob .companies)) (setsBits (ob .rights) (ob .held)) companiesWidth (length-toBits companiesWidth (ob .companies))
 
   sets-part : take setsWidth (drop setsBehind tail-of) ≡ setsBits (ob .rights) (ob .held)
   sets-part =
-      ap (take setsWidth) behind-label
+      ap (take setsWidth) behind-companies
       ∙ take-all setsWidth (setsBits (ob .rights) (ob .held)) (omega (arith, sets-length subjectCount (ob .rights) (ob .held) p q))
 
 pub object-read : (u : List Subject) (ob : Object) → WellFormedObject u ob → objectFrom (objectBits ob) ≡ ob
@@ -161,10 +182,12 @@ object-read u ob F =
     let live-eq : true ≡ ob .live = sym e in
     let owner-eq : fromBits (take ownerWidth t) ≡ ob .owner = ap fromBits (owner-part ob P Q) ∙ fromBits-toBits ownerWidth (F .shape .owner-fits) in
     let label-eq : labelFrom (take labelWidth (drop ownerWidth t)) ≡ ob .label = ap labelFrom (label-part ob P Q) ∙ label-read (ob .label) (F .shape .label-fits) in
+    let companies-eq : fromBits (take companiesWidth (drop companiesBehind t)) ≡ ob .companies =
+    ap fromBits (companies-part ob P Q) ∙ fromBits-toBits companiesWidth (F .shape .companies-fit) in
     let rows = sets-read subjectCount (ob .rights) (ob .held) P Q (F .shape .rights-fit) (F .shape .held-fit) in
     let rights-eq : map rightsFrom (cut subjectCount pairWidth S) ≡ ob .rights = ap (λ (k : List Bool). map rightsFrom (cut subjectCount pairWidth k)) (sets-part ob P Q) ∙ rows .0 in
     let held-eq : map heldFrom (cut subjectCount pairWidth S) ≡ ob .held = ap (λ (k : List Bool). map heldFrom (cut subjectCount pairWidth k)) (sets-part ob P Q) ∙ rows .1 in
-    let full = object-ext (liveFrom b) ob live-eq owner-eq label-eq rights-eq held-eq in
+    let full = object-ext (liveFrom b) ob live-eq owner-eq label-eq companies-eq rights-eq held-eq in
     ap (λ (k : Bool). cond k (liveFrom b) noObject) e ∙ full)
     (λ e. ap (λ (k : Bool). cond k (liveFrom b) noObject) e ∙ sym (F .shape .not-live e))
 
@@ -194,14 +217,20 @@ object-back (true ∷ b) h e =
     let label : length (take labelWidth (drop ownerWidth b)) ≡ labelWidth = length-take-le labelWidth (drop ownerWidth b) (rw (length-drop ownerWidth b) (omega arith)) in
     let rest : length (drop setsBehind b) ≡ setsWidth = length-drop setsBehind b ∙ omega arith in
     let sets : take setsWidth (drop setsBehind b) ≡ drop setsBehind b = take-all setsWidth (drop setsBehind b) (omega arith) in
-    let d : drop labelWidth (drop ownerWidth b) ≡ drop setsBehind b = drop-drop labelWidth ownerWidth b in
+    let numbers : length (take companiesWidth (drop companiesBehind b)) ≡ companiesWidth =
+    length-take-le companiesWidth (drop companiesBehind b) (rw (length-drop companiesBehind b) (omega arith)) in
+    let c : drop labelWidth (drop ownerWidth b) ≡ drop companiesBehind b = drop-drop labelWidth ownerWidth b in
+    let d : drop companiesWidth (drop companiesBehind b) ≡ drop setsBehind b = drop-drop companiesWidth companiesBehind b in
     ap (λ (r : List Bool). true ∷ r)
     (rw (
       toBits-fromBits-at ownerWidth (take ownerWidth b) (length-take-le ownerWidth b (omega arith)),
       label-back (take labelWidth (drop ownerWidth b)) label e,
+      toBits-fromBits-at companiesWidth (take companiesWidth (drop companiesBehind b)) numbers,
       sets,
       sets-back subjectCount (drop setsBehind b) rest,
       ← d,
+      take-append-drop companiesWidth (drop companiesBehind b),
+      ← c,
       take-append-drop labelWidth (drop ownerWidth b),
     )
     (take-append-drop ownerWidth b))

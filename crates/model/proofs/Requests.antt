@@ -14,7 +14,7 @@ use Rattle.model.specs.declared.Mode.the-variants.{Read, Write, Append, 
 use Rattle.model.specs.declared.Profile.{Profile}
 use Rattle.model.specs.declared.Fields.{Fields}
 use Rattle.model.specs.declared.Request.{Request}
-use Rattle.model.specs.declared.Request.the-variants.{Get, Release, Give, Rescind, Create, Delete, ChangeLevel}
+use Rattle.model.specs.declared.Request.the-variants.{Get, Release, Give, Rescind, Create, Delete, ChangeLevel, SetCompanies}
 use Rattle.model.specs.declared.Decoded.{Decoded}
 use Rattle.model.specs.declared.Decoded.the-variants.{Malformed, Says}
 use Rattle.model.specs.Requests.{requestSize, fields, modeNumber, modeOf, modeAllowed, unusedZero, fieldsFormed, wellFormed, request, creation, decodeFields, decode, fieldsOf, pack, encode, InRange, Within}
@@ -58,17 +58,17 @@ create-number x e =
 
 -- the parts of the test of the fields
 module _ (f : Fields) (e : fieldsFormed f ≡ true) where
-  pub in-kinds : (leb 1 (f .kind) && leb (f .kind) 7) ≡ true
+  pub in-kinds : (leb 1 (f .kind) && leb (f .kind) 8) ≡ true
   unfolding fieldsFormed
-  in-kinds = and-left (leb 1 (f .kind) && leb (f .kind) 7) _ e
+  in-kinds = and-left (leb 1 (f .kind) && leb (f .kind) 8) _ e
 
   pub actor-in : f .actor < 16
   unfolding fieldsFormed
-  actor-in = ltb-true _ _ (and-left (ltb (f .actor) 16) _ (and-right (leb 1 (f .kind) && leb (f .kind) 7) _ e))
+  actor-in = ltb-true _ _ (and-left (ltb (f .actor) 16) _ (and-right (leb 1 (f .kind) && leb (f .kind) 8) _ e))
 
   after-actor : (ltb (f .other) 16 && (ltb (f .object) 64 && (modeAllowed (f .kind) (f .mode) && unusedZero f))) ≡ true
   unfolding fieldsFormed
-  after-actor = and-right (ltb (f .actor) 16) _ (and-right (leb 1 (f .kind) && leb (f .kind) 7) _ e)
+  after-actor = and-right (ltb (f .actor) 16) _ (and-right (leb 1 (f .kind) && leb (f .kind) 8) _ e)
 
   pub other-in : f .other < 16
   other-in = ltb-true _ _ (and-left (ltb (f .other) 16) _ after-actor)
@@ -88,7 +88,7 @@ module _ (k a t o x c n z : ℕ) where
   unfolding unusedZero
   spare-zero e =
       eqb-true z 0
-      (and-right (eqb k 7 || (eqb c 0 && eqb n 0)) (eqb z 0) (and-right (eqb k 3 || (eqb k 4 || eqb t 0)) _ e))
+      (and-right (eqb k 7 || (eqb k 8 || eqb n 0)) (eqb z 0) (and-right (eqb k 7 || eqb c 0) _ (and-right (eqb k 3 || (eqb k 4 || eqb t 0)) _ e)))
 
   other-zero : eqb k 3 ≡ false → eqb k 4 ≡ false → unusedZero it ≡ true → t ≡ 0
   unfolding unusedZero
@@ -96,46 +96,59 @@ module _ (k a t o x c n z : ℕ) where
       or-cases (eqb k 3) (eqb k 4 || eqb t 0) (and-left (eqb k 3 || (eqb k 4 || eqb t 0)) _ e) (λ w. apart w p)
       (λ w. or-cases (eqb k 4) (eqb t 0) w (λ v. apart v q) (λ v. eqb-true t 0 v))
 
-  level-zero : eqb k 7 ≡ false → unusedZero it ≡ true → (c ≡ 0) × (n ≡ 0)
+  class-zero : eqb k 7 ≡ false → unusedZero it ≡ true → c ≡ 0
   unfolding unusedZero
-  level-zero p e =
-      or-cases (eqb k 7) (eqb c 0 && eqb n 0) (and-left (eqb k 7 || (eqb c 0 && eqb n 0)) _ (and-right (eqb k 3 || (eqb k 4 || eqb t 0)) _ e)) (λ w. apart w p)
-      (λ w. (eqb-true c 0 (and-left (eqb c 0) _ w), eqb-true n 0 (and-right (eqb c 0) _ w)))
+  class-zero p e =
+      or-cases (eqb k 7) (eqb c 0) (and-left (eqb k 7 || eqb c 0) _ (and-right (eqb k 3 || (eqb k 4 || eqb t 0)) _ e))
+      (λ w. apart w p) (λ w. eqb-true c 0 w)
 
-  -- of a kind that has no level
-  plain-back : (u y : ℕ) → eqb k 7 ≡ false → unusedZero it ≡ true → u ≡ t → y ≡ x
+  needs-zero : eqb k 7 ≡ false → eqb k 8 ≡ false → unusedZero it ≡ true → n ≡ 0
+  unfolding unusedZero
+  needs-zero p q e =
+      or-cases (eqb k 7) (eqb k 8 || eqb n 0)
+      (and-left (eqb k 7 || (eqb k 8 || eqb n 0)) _ (and-right (eqb k 7 || eqb c 0) _ (and-right (eqb k 3 || (eqb k 4 || eqb t 0)) _ e)))
+      (λ w. apart w p) (λ w. or-cases (eqb k 8) (eqb n 0) w (λ v. apart v q) (λ v. eqb-true n 0 v))
+
+  -- of a kind that has neither a level nor company numbers
+  plain-back : (u y : ℕ) → eqb k 7 ≡ false → eqb k 8 ≡ false → unusedZero it ≡ true → u ≡ t → y ≡ x
       → _≡_ {A = Fields} (record { kind = k; actor = a; other = u; object = o; mode = y; class = 0; needs = 0; spare = 0 }) it
-  plain-back u y e h p q =
-      let r = sym (level-zero e h .0) in
-      let s = sym (level-zero e h .1) in
+  plain-back u y e g h p q =
+      let r = sym (class-zero e h) in
+      let s = sym (needs-zero e g h) in
       let v = sym (spare-zero h) in
       λ i. record { kind = k; actor = a; other = p i; object = o; mode = q i; class = r i; needs = s i; spare = v i }
 
-beyond-seven : {P : Type 0} (k : ℕ) → (leb 1 k && leb k 7) ≡ true → 7 < k → P
-beyond-seven k h g = absurd (omega (arith, g, leb-true k 7 (and-right (leb 1 k) (leb k 7) h)))
+beyond-eight : {P : Type 0} (k : ℕ) → (leb 1 k && leb k 8) ≡ true → 8 < k → P
+beyond-eight k h g = absurd (omega (arith, g, leb-true k 8 (and-right (leb 1 k) (leb k 8) h)))
 
 -- the fields of the request that well-formed fields say
-request-fields : (k a t o x c n z : ℕ) → (leb 1 k && leb k 7) ≡ true → modeAllowed k x ≡ true → unusedZero (it k a t o x c n z) ≡ true
+request-fields : (k a t o x c n z : ℕ) → (leb 1 k && leb k 8) ≡ true → modeAllowed k x ≡ true → unusedZero (it k a t o x c n z) ≡ true
     → fieldsOf (request (it k a t o x c n z)) ≡ it k a t o x c n z
 unfolding request modeAllowed
 request-fields zero a t o x c n z h m u = clash (sym h)
 request-fields (suc zero) a t o x c n z h m u =
-    plain-back 1 a t o x c n z 0 _ refl u (sym (other-zero 1 a t o x c n z refl refl u)) (mode-number x m)
+    plain-back 1 a t o x c n z 0 _ refl refl u (sym (other-zero 1 a t o x c n z refl refl u)) (mode-number x m)
 request-fields (suc (suc zero)) a t o x c n z h m u =
-    plain-back 2 a t o x c n z 0 _ refl u (sym (other-zero 2 a t o x c n z refl refl u)) (mode-number x m)
-request-fields (suc (suc (suc zero))) a t o x c n z h m u = plain-back 3 a t o x c n z t _ refl u refl (mode-number x m)
-request-fields (suc (suc (suc (suc zero)))) a t o x c n z h m u = plain-back 4 a t o x c n z t _ refl u refl (mode-number x m)
+    plain-back 2 a t o x c n z 0 _ refl refl u (sym (other-zero 2 a t o x c n z refl refl u)) (mode-number x m)
+request-fields (suc (suc (suc zero))) a t o x c n z h m u = plain-back 3 a t o x c n z t _ refl refl u refl (mode-number x m)
+request-fields (suc (suc (suc (suc zero)))) a t o x c n z h m u = plain-back 4 a t o x c n z t _ refl refl u refl (mode-number x m)
 request-fields (suc (suc (suc (suc (suc zero))))) a t o x c n z h m u =
-    plain-back 5 a t o x c n z 0 _ refl u (sym (other-zero 5 a t o x c n z refl refl u)) (create-number x m)
+    plain-back 5 a t o x c n z 0 _ refl refl u (sym (other-zero 5 a t o x c n z refl refl u)) (create-number x m)
 request-fields (suc (suc (suc (suc (suc (suc zero)))))) a t o x c n z h m u =
-    plain-back 6 a t o x c n z 0 0 refl u (sym (other-zero 6 a t o x c n z refl refl u)) (sym (eqb-true x 0 m))
+    plain-back 6 a t o x c n z 0 0 refl refl u (sym (other-zero 6 a t o x c n z refl refl u)) (sym (eqb-true x 0 m))
 request-fields (suc (suc (suc (suc (suc (suc (suc zero))))))) a t o x c n z h m u =
     let p = other-zero 7 a t o x c n z refl refl u in
     let q = eqb-true x 0 m in
     let r = spare-zero 7 a t o x c n z u in
     λ i. record { kind = 7; actor = a; other = sym p i; object = o; mode = sym q i; class = c; needs = n; spare = sym r i }
-request-fields (suc (suc (suc (suc (suc (suc (suc (suc k)))))))) a t o x c n z h m u =
-    beyond-seven (suc (suc (suc (suc (suc (suc (suc (suc k)))))))) h (omega arith)
+request-fields (suc (suc (suc (suc (suc (suc (suc (suc zero)))))))) a t o x c n z h m u =
+    let p = other-zero 8 a t o x c n z refl refl u in
+    let q = eqb-true x 0 m in
+    let g = class-zero 8 a t o x c n z refl u in
+    let r = spare-zero 8 a t o x c n z u in
+    λ i. record { kind = 8; actor = a; other = sym p i; object = o; mode = sym q i; class = sym g i; needs = n; spare = sym r i }
+request-fields (suc (suc (suc (suc (suc (suc (suc (suc (suc k))))))))) a t o x c n z h m u =
+    beyond-eight (suc (suc (suc (suc (suc (suc (suc (suc (suc k))))))))) h (omega arith)
 
 -- what the fields say is in range
 request-in : (f : Fields) → FieldsFit f → fieldsFormed f ≡ true → InRange (request f)
@@ -149,7 +162,8 @@ request-in f F e =
     (pick (eqb (f .kind) 3) _ _ (a, t, o)
     (pick (eqb (f .kind) 4) _ _ (a, t, o)
     (pick (eqb (f .kind) 5) _ _ (a, o)
-    (pick (eqb (f .kind) 6) _ _ (a, o) (a, o, (F .class, F .needs)))))))
+    (pick (eqb (f .kind) 6) _ _ (a, o)
+    (pick (eqb (f .kind) 7) _ _ (a, o, (F .class, F .needs)) (a, o, F .needs)))))))
   where
     pick : (b : Bool) (x y : Request) → InRange x → InRange y → InRange (cond b x y)
     pick true x y p q = p
@@ -232,8 +246,9 @@ fieldsOf-fit (Rescind s t o x) r = omega (arith, r .0, r .1, r .2, mode-below x)
 fieldsOf-fit (Create s o c) r = omega (arith, r .0, r .1, create-mode-below (c .execute))
 fieldsOf-fit (Delete s o) r = omega (arith, r .0, r .1)
 fieldsOf-fit (ChangeLevel s o l) r = omega (arith, r .0, r .1, r .2 .0, r .2 .1)
+fieldsOf-fit (SetCompanies s o n) r = omega (arith, r .0, r .1, r .2)
 
-pub in-range : (f : Fields) → (leb 1 (f .kind) && leb (f .kind) 7) ≡ true → f .actor < 16 → f .other < 16 → f .object < 64
+pub in-range : (f : Fields) → (leb 1 (f .kind) && leb (f .kind) 8) ≡ true → f .actor < 16 → f .other < 16 → f .object < 64
     → modeAllowed (f .kind) (f .mode) ≡ true → unusedZero f ≡ true → fieldsFormed f ≡ true
 unfolding fieldsFormed
 in-range f k a t o m u =
@@ -248,6 +263,7 @@ fieldsOf-formed (Rescind s t o x) r = in-range _ refl (r .0) (r .1) (r .2) (mode
 fieldsOf-formed (Create s o c) r = in-range _ refl (r .0) (omega arith) (r .1) (create-moded (c .execute)) refl
 fieldsOf-formed (Delete s o) r = in-range _ refl (r .0) (omega arith) (r .1) refl refl
 fieldsOf-formed (ChangeLevel s o l) r = in-range _ refl (r .0) (omega arith) (r .1) refl refl
+fieldsOf-formed (SetCompanies s o n) r = in-range _ refl (r .0) (omega arith) (r .1) refl refl
 
 request-back : (q : Request) → request (fieldsOf q) ≡ q
 unfolding request
@@ -258,6 +274,7 @@ request-back (Rescind s t o x) = ap (Rescind s t o) (mode-back x)
 request-back (Create s o c) = ap (λ (e : Bool). Create s o (creation e)) (create-back (c .execute))
 request-back (Delete s o) = refl
 request-back (ChangeLevel s o l) = refl
+request-back (SetCompanies s o n) = refl
 
 -- six bytes say each request in range and inside the profile
 pub encode-decode : (p : Profile) (q : Request) → InRange q → Within p q → decode p (encode q) ≡ Says q

@@ -2,19 +2,19 @@
 -- Assumes nothing.
 use Prim.Native.Nat.{ℕ, _<_}
 use native.Mathlib.Omega.{arith}
-use mathlib.Core.Path.{_≡_, refl}
+use mathlib.Core.Path.{_≡_, refl, ap}
 use mathlib.Core.Bool.{Bool, true, false, cond, not}
 use lib.Dec.{eqb, ltb}
-use borrow.Author.Tests.{lt-ltb, ltb-true}
+use borrow.Author.Tests.{lt-ltb, ltb-true, eqb-true}
 use Rattle.model.specs.declared.Profile.{Profile}
 use Rattle.model.specs.declared.Fields.{Fields}
 use Rattle.model.specs.declared.Request.{Request}
-use Rattle.model.specs.declared.Request.the-variants.{Get, Release, Give, Rescind, Create, Delete, ChangeLevel}
+use Rattle.model.specs.declared.Request.the-variants.{Get, Release, Give, Rescind, Create, Delete, ChangeLevel, SetCompanies}
 use Rattle.bits.specs.Bits.{odd}
 use Rattle.model.specs.Levels.{need}
 use Rattle.model.specs.Profiles.{LevelInside}
 use Rattle.model.specs.Requests.{fieldsFormed, levelOf, within, wellFormed, request, fieldsOf, Within}
-use Rattle.model.proofs.Tests.{and-left, and-right, and-both, apart, not-on, below-out}
+use Rattle.model.proofs.Tests.{and-left, and-right, and-both, or-cases, or-left, or-right, split, clash, cond-all, apart, not-on, below-out}
 use Rattle.model.proofs.Levels.{at-least-decides}
 
 -- ---- the two tests of the fields, and what the second says
@@ -31,12 +31,12 @@ pub well-formed : (p : Profile) (f : Fields) → fieldsFormed f ≡ true → wit
 unfolding wellFormed
 well-formed p f a b = and-both a b
 
--- no field is outside the profile
+-- no field is outside the profile, where the needs of kind 8 are not looked at
 pub record FieldsWithin (p : Profile) (f : Fields) : Type 0 where
   pub actor : f .actor < p .subjects
   pub other : f .other < p .subjects
   pub object : f .object < p .objects
-  pub level : LevelInside p (levelOf f)
+  pub level : eqb (f .kind) 8 ≡ false → LevelInside p (levelOf f)
 
 pub within-fields : (p : Profile) (f : Fields) → within p f ≡ true → FieldsWithin p f
 unfolding within
@@ -47,14 +47,20 @@ within-fields p f e =
       actor = ltb-true _ _ (and-left (ltb (f .actor) (p .subjects)) _ e);
       other = ltb-true _ _ (and-left (ltb (f .other) (p .subjects)) _ a);
       object = ltb-true _ _ (and-left (ltb (f .object) (p .objects)) _ t);
-      level = at-least-decides (p .highest) (levelOf f) .0 (and-right (ltb (f .object) (p .objects)) _ t);
+      level = λ k.
+          or-cases (eqb (f .kind) 8) _ (and-right (ltb (f .object) (p .objects)) _ t)
+          (λ q. apart q k) (λ q. at-least-decides (p .highest) (levelOf f) .0 q);
     }
 
 pub fields-within : (p : Profile) (f : Fields) → FieldsWithin p f → within p f ≡ true
 unfolding within
 fields-within p f F =
     and-both (lt-ltb _ _ (F .actor))
-    (and-both (lt-ltb _ _ (F .other)) (and-both (lt-ltb _ _ (F .object)) (at-least-decides (p .highest) (levelOf f) .1 (F .level))))
+    (and-both (lt-ltb _ _ (F .other))
+    (and-both (lt-ltb _ _ (F .object))
+    (split (eqb (f .kind) 8)
+    (λ q. or-left _ _ q)
+    (λ q. or-right (eqb (f .kind) 8) _ (at-least-decides (p .highest) (levelOf f) .1 (F .level q))))))
 
 -- what the fields say is inside the profile
 pub request-within : (p : Profile) (f : Fields) → within p f ≡ true → Within p (request f)
@@ -69,8 +75,14 @@ request-within p f e =
     (pick (eqb (f .kind) 3) _ _ (a, t, o)
     (pick (eqb (f .kind) 4) _ _ (a, t, o)
     (pick (eqb (f .kind) 5) _ _ (a, o)
-    (pick (eqb (f .kind) 6) _ _ (a, o) (a, o, F .level))))))
+    (pick (eqb (f .kind) 6) _ _ (a, o)
+    (cond-all (Within p) (eqb (f .kind) 7) (ChangeLevel (f .actor) (f .object) (levelOf f)) (SetCompanies (f .actor) (f .object) (f .needs))
+    (λ q. (a, o, F .level (seven q))) (λ q. (a, o))))))))
   where
+    -- a kind that is 7 is not 8
+    seven : eqb (f .kind) 7 ≡ true → eqb (f .kind) 8 ≡ false
+    seven q = ap (λ (k : ℕ). eqb k 8) (eqb-true (f .kind) 7 q)
+
     pick : (b : Bool) (x y : Request) → Within p x → Within p y → Within p (cond b x y)
     pick true x y h k = h
     pick false x y h k = k
@@ -86,13 +98,14 @@ lowest-inside p =
 
 -- and so are the fields of a request that is
 fieldsOf-inside : (p : Profile) (q : Request) → Within p q → FieldsWithin p (fieldsOf q)
-fieldsOf-inside p (Get s o x) v = record { actor = v .0; other = omega (arith, v .0); object = v .1; level = lowest-inside p }
-fieldsOf-inside p (Release s o x) v = record { actor = v .0; other = omega (arith, v .0); object = v .1; level = lowest-inside p }
-fieldsOf-inside p (Give s t o x) v = record { actor = v .0; other = v .1; object = v .2; level = lowest-inside p }
-fieldsOf-inside p (Rescind s t o x) v = record { actor = v .0; other = v .1; object = v .2; level = lowest-inside p }
-fieldsOf-inside p (Create s o c) v = record { actor = v .0; other = omega (arith, v .0); object = v .1; level = lowest-inside p }
-fieldsOf-inside p (Delete s o) v = record { actor = v .0; other = omega (arith, v .0); object = v .1; level = lowest-inside p }
-fieldsOf-inside p (ChangeLevel s o l) v = record { actor = v .0; other = omega (arith, v .0); object = v .1; level = v .2 }
+fieldsOf-inside p (Get s o x) v = record { actor = v .0; other = omega (arith, v .0); object = v .1; level = λ k. lowest-inside p }
+fieldsOf-inside p (Release s o x) v = record { actor = v .0; other = omega (arith, v .0); object = v .1; level = λ k. lowest-inside p }
+fieldsOf-inside p (Give s t o x) v = record { actor = v .0; other = v .1; object = v .2; level = λ k. lowest-inside p }
+fieldsOf-inside p (Rescind s t o x) v = record { actor = v .0; other = v .1; object = v .2; level = λ k. lowest-inside p }
+fieldsOf-inside p (Create s o c) v = record { actor = v .0; other = omega (arith, v .0); object = v .1; level = λ k. lowest-inside p }
+fieldsOf-inside p (Delete s o) v = record { actor = v .0; other = omega (arith, v .0); object = v .1; level = λ k. lowest-inside p }
+fieldsOf-inside p (ChangeLevel s o l) v = record { actor = v .0; other = omega (arith, v .0); object = v .1; level = λ k. v .2 }
+fieldsOf-inside p (SetCompanies s o n) v = record { actor = v .0; other = omega (arith, v .0); object = v .1; level = λ k. clash k }
 
 pub fieldsOf-within : (p : Profile) (q : Request) → Within p q → within p (fieldsOf q) ≡ true
 fieldsOf-within p q v = fields-within p (fieldsOf q) (fieldsOf-inside p q v)

@@ -4,14 +4,14 @@ use Prim.Native.Nat.{ℕ}
 use mathlib.Core.Bool.{Bool}
 use lib.Dec.{leb}
 use Rattle.model.specs.declared.Decision.{Decision}
-use Rattle.model.specs.declared.Decision.the-variants.{Granted, Already, MalformedRequest, NotEnrolled, NotLive, AlreadyLive, NoRight, NoLabel, SimpleBroken, StarBroken, WrongLength, StrayBits, AbsentSubject, ShortBuffer, LabelLowered, ZeroSeed, OutsideProfile, EmptyJournal}
+use Rattle.model.specs.declared.Decision.the-variants.{Granted, Already, MalformedRequest, NotEnrolled, NotLive, AlreadyLive, NoRight, NoLabel, SimpleBroken, StarBroken, WrongLength, StrayBits, AbsentSubject, ShortBuffer, LabelLowered, ZeroSeed, OutsideProfile, EmptyJournal, WallBroken}
 
 abbrev pub number : Decision → ℕ
 -- "granted and the state changed"; "An accepted table or image returns 0", "a writing returns 0"
 number Granted = 0
 -- "granted and the state was so already"
 number Already = 1
--- "request not 6 bytes; kind not 1 to 7; ..; an unused field not 0"; of a page: an object "above 63"
+-- "request not 6 bytes; kind not 1 to 7", nor 8 of change request §10, "..; an unused field not 0"; of a page: an object "above 63"
 number MalformedRequest = 2
 -- "actor, or in kinds 3 and 4 the other subject, not enrolled"
 number NotEnrolled = 3
@@ -43,6 +43,8 @@ number ZeroSeed = 15
 number OutsideProfile = 16
 -- of a taking-back: "Refused: 17, an empty journal" (change request §9)
 number EmptyJournal = 17
+-- "Refused: 18, the wall would break" (change request §10); image: is broken
+number WallBroken = 18
 
 -- every number from 2 on is a refusal
 abbrev pub refuses : Decision → Bool

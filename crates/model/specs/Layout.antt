@@ -10,6 +10,7 @@ use Rattle.model.specs.declared.Label.the-variants.{Absent, Present}
 use Rattle.model.specs.declared.Subject.{Subject}
 use Rattle.model.specs.declared.Object.{Object}
 use Rattle.model.specs.declared.Monitor.{Monitor}
+use Rattle.model.specs.Companies.{companiesWidth}
 use Rattle.model.specs.State.{subjectCount, objectCount, classWidth, needsWidth}
 
 -- "subject records of 21 bits (enrolled 1, class 4, needs 16)"; a label has the same form
@@ -23,6 +24,10 @@ ownerWidth = 4
 abbrev pub labelOffset : ℕ
 labelOffset = 1 + ownerWidth
 
+-- "these 16 bits after the needs of each object record": the company numbers (change request §10)
+abbrev pub companiesOffset : ℕ
+companiesOffset = labelOffset + labelWidth
+
 -- "then for subjects 0 to 15 four right bits and four access bits"
 abbrev pub setWidth : ℕ
 setWidth = 4
@@ -31,12 +36,12 @@ abbrev pub pairWidth : ℕ
 pairWidth = setWidth + setWidth
 
 abbrev pub setsOffset : ℕ
-setsOffset = labelOffset + labelWidth
+setsOffset = companiesOffset + companiesWidth
 
 abbrev pub setsWidth : ℕ
 setsWidth = subjectCount * pairWidth
 
--- "object records of 154 bits"
+-- "object records of 154 bits", and these 16
 abbrev pub objectWidth : ℕ
 objectWidth = setsOffset + setsWidth
 
@@ -54,7 +59,7 @@ objectsWidth = objectCount * objectWidth
 abbrev pub objectsSize : ℕ
 objectsSize = objectsWidth / 8
 
--- "In all 1,274 bytes"
+-- "has 1,402 bytes" (change request §10)
 abbrev pub imageSize : ℕ
 imageSize = tableSize + objectsSize
 
@@ -73,9 +78,12 @@ setsBits [] hs = []
 setsBits (r ∷ rs) [] = []
 setsBits (r ∷ rs) (h ∷ hs) = (toBits setWidth r ++ toBits setWidth h) ++ setsBits rs hs
 
--- "live 1, owner 4", the label, the sets
+-- "live 1, owner 4", the label, the company numbers, the sets
 unfoldable pub objectBits : Object → List Bool
-objectBits ob = ob .live ∷ (toBits ownerWidth (ob .owner) ++ (labelBits (ob .label) ++ setsBits (ob .rights) (ob .held)))
+objectBits ob =
+    ob .live
+    ∷ (toBits ownerWidth (ob .owner)
+    ++ (labelBits (ob .label) ++ (toBits companiesWidth (ob .companies) ++ setsBits (ob .rights) (ob .held))))
 
 -- "The table is 16 subject records"
 abbrev pub tableBits : List Subject → List Bool

@@ -2,6 +2,7 @@
 pub mod Tests
 pub mod Levels
 pub mod Modes
+pub mod Companies
 pub mod State
 pub mod Profiles
 pub mod Properties

@@ -52,3 +52,7 @@ anyAlters n = has Append n || has Write n
 
 abbrev pub anyNeedsLabel : ℕ → Bool
 anyNeedsLabel n = anyObserves n || anyAlters n
+
+-- the set has some mode, e too
+abbrev pub anyHeld : ℕ → Bool
+anyHeld n = anyNeedsLabel n || has Execute n

@@ -1,4 +1,4 @@
--- "Four properties make a state secure", over all subjects, objects and modes.
+-- "Four properties make a state secure", and the wall of change request §10 beside them, over all subjects, objects and modes.
 -- Assumes nothing.
 use Prim.Native.Nat.{ℕ}
 use mathlib.Core.Path.{_≡_}
@@ -7,6 +7,7 @@ use Rattle.model.specs.declared.Monitor.{Monitor}
 use Rattle.model.specs.declared.Mode.{Mode}
 use Rattle.model.specs.Levels.{Dominates, present}
 use Rattle.model.specs.Modes.{has, observes, alters, needsLabel}
+use Rattle.model.specs.Companies.{Compatible, Confined}
 use Rattle.model.specs.State.{clearance, object, rightsOf, heldBy}
 
 -- subject s holds access x on object o
@@ -35,9 +36,19 @@ Star m =
     (s p q : ℕ) (x y : Mode) → Holds m s p x → observes x ≡ true → Holds m s q y → alters y ≡ true
     → Dominates (object m q .label) (object m p .label)
 
--- "Four properties make a state secure": these and nothing else
+-- the wall (change request §10), of two rules
+pub record Wall (m : Monitor) : Type 0 where
+  -- "For any two accesses held by one subject, each class has a 0 or equal numbers"
+  pub compatible : (s p q : ℕ) (x y : Mode) → Holds m s p x → Holds m s q y → Compatible (object m p .companies) (object m q .companies)
+  -- "Where it holds r or w on P and a or w on Q, each nonzero number of P equals that of Q"
+  pub confined : (s p q : ℕ) (x y : Mode) → Holds m s p x → observes x ≡ true → Holds m s q y → alters y ≡ true
+      → Confined (object m p .companies) (object m q .companies)
+
+-- "Four properties make a state secure"; "The security that replies and images keep includes the wall" (change request §10): these and
+-- nothing else
 pub record Secure (m : Monitor) : Type 0 where
   pub discretionary : Discretionary m
   pub labelled : Labelled m
   pub simple : Simple m
   pub star : Star m
+  pub wall : Wall m

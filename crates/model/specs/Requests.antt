@@ -13,7 +13,7 @@ use Rattle.model.specs.declared.Profile.{Profile}
 use Rattle.model.specs.declared.Fields.{Fields}
 use Rattle.model.specs.declared.Creation.{Creation}
 use Rattle.model.specs.declared.Request.{Request}
-use Rattle.model.specs.declared.Request.the-variants.{Get, Release, Give, Rescind, Create, Delete, ChangeLevel}
+use Rattle.model.specs.declared.Request.the-variants.{Get, Release, Give, Rescind, Create, Delete, ChangeLevel, SetCompanies}
 use Rattle.model.specs.declared.Decoded.{Decoded}
 use Rattle.model.specs.declared.Decoded.the-variants.{Malformed, Says}
 use Rattle.model.specs.State.{subjectCount, objectCount, classWidth, needsWidth, LevelFits}
@@ -86,24 +86,26 @@ modeNumber Execute = 4
 abbrev pub modeOf : ℕ → Mode
 modeOf x = cond (eqb x 1) Read (cond (eqb x 2) Write (cond (eqb x 3) Append Execute))
 
--- "mode 1 to 4" for kinds 1 to 4, "mode 0 or 4" for create, "mode 0" for kinds 6 and 7
+-- "mode 1 to 4" for kinds 1 to 4, "mode 0 or 4" for create, "mode 0" for kinds 6 and 7, and "Request kind 8, mode 0" (change request §10)
 unfoldable pub modeAllowed : ℕ → ℕ → Bool
 modeAllowed kind mode =
     cond (leb kind 4) (leb 1 mode && leb mode 4)
     (cond (eqb kind 5) (eqb mode 0 || eqb mode 4)
     (eqb mode 0))
 
--- "A field that the kind does not use is 0, and so is spare; the other subject stands in kinds 3 and 4, class and needs in kind 7 only"
+-- "A field that the kind does not use is 0, and so is spare; the other subject stands in kinds 3 and 4, class and needs in kind 7 only"; in
+-- kind 8 "the needs field holding the four" company numbers (change request §10)
 unfoldable pub unusedZero : Fields → Bool
 unusedZero f =
     (eqb (f .kind) 3 || (eqb (f .kind) 4 || eqb (f .other) 0))
-    && ((eqb (f .kind) 7 || (eqb (f .class) 0 && eqb (f .needs) 0))
-    && eqb (f .spare) 0)
+    && ((eqb (f .kind) 7 || eqb (f .class) 0)
+    && ((eqb (f .kind) 7 || (eqb (f .kind) 8 || eqb (f .needs) 0))
+    && eqb (f .spare) 0))
 
 -- the first row of "Refused causes", but for the length: what must be so of the fields under every profile
 unfoldable pub fieldsFormed : Fields → Bool
 fieldsFormed f =
-    (leb 1 (f .kind) && leb (f .kind) 7)
+    (leb 1 (f .kind) && leb (f .kind) 8)
     && (ltb (f .actor) subjectCount
     && (ltb (f .other) subjectCount
     && (ltb (f .object) objectCount
@@ -114,13 +116,14 @@ fieldsFormed f =
 abbrev pub levelOf : Fields → Level
 levelOf f = record { class = f .class; needs = f .needs }
 
--- "A subject, object, class or need outside it in a request is malformed" (change request §8)
+-- "A subject, object, class or need outside it in a request is malformed" (change request §8); the company numbers of kind 8 are "not
+-- bounded by the profile" (change request §10)
 unfoldable pub within : Profile → Fields → Bool
 within p f =
     ltb (f .actor) (p .subjects)
     && (ltb (f .other) (p .subjects)
     && (ltb (f .object) (p .objects)
-    && levelInside p (levelOf f)))
+    && (eqb (f .kind) 8 || levelInside p (levelOf f))))
 
 -- what must be so of the fields for a monitor of a profile; the test under every profile stays beside it, so that a profile that says more
 -- than sixteen subjects or sixty-four objects lets no other number pass
@@ -140,7 +143,8 @@ request f =
     (cond (eqb (f .kind) 4) (Rescind (f .actor) (f .other) (f .object) (modeOf (f .mode)))
     (cond (eqb (f .kind) 5) (Create (f .actor) (f .object) (creation (eqb (f .mode) 4)))
     (cond (eqb (f .kind) 6) (Delete (f .actor) (f .object))
-    (ChangeLevel (f .actor) (f .object) (levelOf f)))))))
+    (cond (eqb (f .kind) 7) (ChangeLevel (f .actor) (f .object) (levelOf f))
+    (SetCompanies (f .actor) (f .object) (f .needs))))))))
 
 unfoldable pub decodeFields : Profile → Fields → Decoded
 decodeFields p f = cond (wellFormed p f) (Says (request f)) Malformed
@@ -159,6 +163,7 @@ fieldsOf (Rescind s t o x) = record { kind = 4; actor = s; other = t; object = o
 fieldsOf (Create s o c) = record { kind = 5; actor = s; other = 0; object = o; mode = cond (c .execute) 4 0; class = 0; needs = 0; spare = 0 }
 fieldsOf (Delete s o) = record { kind = 6; actor = s; other = 0; object = o; mode = 0; class = 0; needs = 0; spare = 0 }
 fieldsOf (ChangeLevel s o l) = record { kind = 7; actor = s; other = 0; object = o; mode = 0; class = l .class; needs = l .needs; spare = 0 }
+fieldsOf (SetCompanies s o n) = record { kind = 8; actor = s; other = 0; object = o; mode = 0; class = 0; needs = n; spare = 0 }
 
 -- "bit-packed, most significant first"
 abbrev pub packedBits : Fields → List Bool
@@ -181,6 +186,7 @@ InRange (Rescind s t o x) = (s < subjectCount) × (t < subjectCount) × (o < obj
 InRange (Create s o c) = (s < subjectCount) × (o < objectCount)
 InRange (Delete s o) = (s < subjectCount) × (o < objectCount)
 InRange (ChangeLevel s o l) = (s < subjectCount) × (o < objectCount) × LevelFits l
+InRange (SetCompanies s o n) = (s < subjectCount) × (o < objectCount) × (n < 65536)
 
 -- no "subject, object, class or need outside" the profile in a request (change request §8)
 abbrev pub Within : Profile → Request → Type 0
@@ -191,3 +197,4 @@ Within p (Rescind s t o x) = (s < p .subjects) × (t < p .subjects) × (o < p .o
 Within p (Create s o c) = (s < p .subjects) × (o < p .objects)
 Within p (Delete s o) = (s < p .subjects) × (o < p .objects)
 Within p (ChangeLevel s o l) = (s < p .subjects) × (o < p .objects) × LevelInside p l
+Within p (SetCompanies s o n) = (s < p .subjects) × (o < p .objects)

@@ -1,4 +1,4 @@
--- The seven rules ("Requests" in the scope): the checks of each kind in order, the record after it, and when the state was so already.
+-- The eight rules ("Requests" in the scope, the last in change request §10): the checks of each kind in order, the record after it, and when the state was so already.
 -- Assumes nothing.
 use Prim.Native.Nat.{ℕ}
 use mathlib.Core.Bool.{Bool, false, cond, not, _&&_}
@@ -12,17 +12,18 @@ use Rattle.model.specs.declared.Monitor.{Monitor}
 use Rattle.model.specs.declared.Mode.{Mode}
 use Rattle.model.specs.declared.Creation.{Creation}
 use Rattle.model.specs.declared.Request.{Request}
-use Rattle.model.specs.declared.Request.the-variants.{Get, Release, Give, Rescind, Create, Delete, ChangeLevel}
+use Rattle.model.specs.declared.Request.the-variants.{Get, Release, Give, Rescind, Create, Delete, ChangeLevel, SetCompanies}
 use Rattle.model.specs.declared.Decision.{Decision}
-use Rattle.model.specs.declared.Decision.the-variants.{Granted, Already, NotEnrolled, NotLive, AlreadyLive, NoRight, NoLabel, SimpleBroken, StarBroken, LabelLowered}
+use Rattle.model.specs.declared.Decision.the-variants.{Granted, Already, NotEnrolled, NotLive, AlreadyLive, NoRight, NoLabel, SimpleBroken, StarBroken, LabelLowered, WallBroken}
 use Rattle.model.specs.declared.Response.{Response}
 use Rattle.model.specs.Tests.{allBelow, allOf, implies, firstFailing}
 use Rattle.model.specs.Levels.{dominates, present, sameLabel}
-use Rattle.model.specs.Modes.{has, add, remove, observes, needsLabel, anyObserves, anyAlters}
-use Rattle.model.specs.State.{subjectCount, noObject, clearanceAt, clearance, enrolled, object, rightsOf, heldBy, withOwner, withRights, withHeld, withLabel, withObject}
+use Rattle.model.specs.Modes.{has, add, remove, observes, needsLabel, anyObserves, anyAlters, anyHeld}
+use Rattle.model.specs.Companies.{compatible, confined}
+use Rattle.model.specs.State.{subjectCount, noObject, clearanceAt, clearance, enrolled, object, rightsOf, heldBy, withOwner, withRights, withHeld, withLabel, withCompanies, withObject}
 use Rattle.model.specs.Decisions.{refuses}
 
--- ---- the tests of the simple and the star property
+-- ---- the tests of the simple and the star property, and of the wall
 
 -- simple, at one object for all subjects: who holds r or w has a clearance that dominates its label
 unfoldable pub simpleAll : List Subject → Object → Bool
@@ -44,6 +45,26 @@ starFor s l = allOf (starFrom s l) l
 unfoldable pub starAll : List Object → Bool
 starAll l = allBelow subjectCount (λ (s : ℕ). starFor s l)
 
+-- the wall, for one subject and two objects: where it holds an access on q too, each class has a 0 or equal numbers, and where it observes p
+-- and alters q, each nonzero number of p equals that of q
+unfoldable pub wallPair : ℕ → Object → Object → Bool
+wallPair s p q =
+    implies (anyHeld (heldBy q s))
+    (compatible (p .companies) (q .companies)
+    && implies (anyObserves (heldBy p s) && anyAlters (heldBy q s)) (confined (p .companies) (q .companies)))
+
+-- where it holds an access on p, this for every q
+unfoldable pub wallFrom : ℕ → List Object → Object → Bool
+wallFrom s l p = implies (anyHeld (heldBy p s)) (allOf (wallPair s p) l)
+
+-- the wall, for one subject over all objects
+unfoldable pub wallFor : ℕ → List Object → Bool
+wallFor s l = allOf (wallFrom s l) l
+
+-- the wall, for all subjects
+unfoldable pub wallAll : List Object → Bool
+wallAll l = allBelow subjectCount (λ (s : ℕ). wallFor s l)
+
 -- ---- the effect of each kind
 
 -- the object that a request is about
@@ -55,6 +76,7 @@ target (Rescind s t o x) = o
 target (Create s o c) = o
 target (Delete s o) = o
 target (ChangeLevel s o l) = o
+target (SetCompanies s o n) = o
 
 -- "live, unlabelled, owned by the actor, who gains r, w, a, and e if mode is 4"
 abbrev pub created : ℕ → Creation → Object
@@ -75,6 +97,8 @@ changed (Create s o c) ob = created s c
 changed (Delete s o) ob = noObject
 -- "the label becomes class and needs"
 changed (ChangeLevel s o l) ob = withLabel ob (Present l)
+-- "lets the owner set them", the company numbers (change request §10)
+changed (SetCompanies s o n) ob = withCompanies ob n
 
 -- the state after it
 abbrev pub afterwards : Request → Monitor → Monitor
@@ -89,8 +113,9 @@ already (Rescind s t o x) ob = not (has x (rightsOf ob t)) && not (has x (heldBy
 already (Create s o c) ob = false
 already (Delete s o) ob = false
 already (ChangeLevel s o l) ob = sameLabel (ob .label) (Present l)
+already (SetCompanies s o n) ob = eqb (ob .companies) n
 
--- ---- the checks of each kind, "in the order 2, 3, then 4 or 5, then 6, 7, 8, 9", with 14 between 6 and 8; 2 is in decoding
+-- ---- the checks of each kind, "in the order 2, 3, then 4 or 5, then 6, 7, 8, 9", with 14 between 6 and 8 and 18 behind 9; 2 is in decoding
 
 abbrev pub owns : ℕ → Object → Bool
 owns s ob = eqb (ob .owner) s
@@ -105,7 +130,7 @@ notLowered old new = implies (present old) (dominates new old)
 
 -- each check with its answer
 abbrev pub checkList : Request → Monitor → List (Bool × Decision)
--- "checks 4, 6 (the actor's right); 7 (not e); 8 (r, w); 9 (r, w, a)"
+-- "checks 4, 6 (the actor's right); 7 (not e); 8 (r, w); 9 (r, w, a)"; 18 "checked last in get", of every mode
 checkList (Get s o x) m =
     (enrolled m s, NotEnrolled)
     ∷ (object m o .live, NotLive)
@@ -113,6 +138,7 @@ checkList (Get s o x) m =
     ∷ (implies (needsLabel x) (present (object m o .label)), NoLabel)
     ∷ (implies (observes x) (dominates (clearance m s) (object m o .label)), SimpleBroken)
     ∷ (implies (needsLabel x) (starFor s (afterwards (Get s o x) m .objects)), StarBroken)
+    ∷ (wallFor s (afterwards (Get s o x) m .objects), WallBroken)
     ∷ []
 -- "check 4"
 checkList (Release s o x) m =
@@ -150,6 +176,13 @@ checkList (ChangeLevel s o l) m =
     ∷ (notLowered (object m o .label) (Present l), LabelLowered)
     ∷ (simpleAll (m .subjects) (changed (ChangeLevel s o l) (object m o)), SimpleBroken)
     ∷ (starAll (afterwards (ChangeLevel s o l) m .objects), StarBroken)
+    ∷ []
+-- "it has checks 4, 6 (owner) and the wall over all subjects in the state after it" (change request §10)
+checkList (SetCompanies s o n) m =
+    (enrolled m s, NotEnrolled)
+    ∷ (object m o .live, NotLive)
+    ∷ (owns s (object m o), NoRight)
+    ∷ (wallAll (afterwards (SetCompanies s o n) m .objects), WallBroken)
     ∷ []
 
 -- the first check that fails gives its answer, Granted where none does

@@ -36,9 +36,9 @@ widest = record { subjects = subjectCount; objects = objectCount; highest = reco
 abbrev pub noModes : List ℕ
 noModes = replicate subjectCount 0
 
--- "An object that isn't live has no owner, label, right or access"
+-- "An object that isn't live has no owner, label, right or access", nor a company number
 abbrev pub noObject : Object
-noObject = record { live = false; owner = 0; label = Absent; rights = noModes; held = noModes }
+noObject = record { live = false; owner = 0; label = Absent; companies = 0; rights = noModes; held = noModes }
 
 -- "absent": a subject that is not enrolled
 abbrev pub nobody : Subject
@@ -67,15 +67,23 @@ rightsOf ob s = getD (ob .rights) s 0
 abbrev pub heldBy : Object → ℕ → ℕ
 heldBy ob s = getD (ob .held) s 0
 
--- one part of a record becomes another: an owner, with whom it is live; the label; both rows; the right or access set of subject s
+-- one part of a record becomes another: an owner, with whom it is live; the label; the company numbers; both rows; the right or access set
+-- of subject s
 abbrev pub withOwner : Object → ℕ → Object
-withOwner ob s = record { live = true; owner = s; label = ob .label; rights = ob .rights; held = ob .held }
+withOwner ob s =
+    record { live = true; owner = s; label = ob .label; companies = ob .companies; rights = ob .rights; held = ob .held }
 
 abbrev pub withLabel : Object → Label → Object
-withLabel ob l = record { live = ob .live; owner = ob .owner; label = l; rights = ob .rights; held = ob .held }
+withLabel ob l =
+    record { live = ob .live; owner = ob .owner; label = l; companies = ob .companies; rights = ob .rights; held = ob .held }
+
+abbrev pub withCompanies : Object → ℕ → Object
+withCompanies ob n =
+    record { live = ob .live; owner = ob .owner; label = ob .label; companies = n; rights = ob .rights; held = ob .held }
 
 abbrev pub withRows : Object → List ℕ → List ℕ → Object
-withRows ob rights held = record { live = ob .live; owner = ob .owner; label = ob .label; rights = rights; held = held }
+withRows ob rights held =
+    record { live = ob .live; owner = ob .owner; label = ob .label; companies = ob .companies; rights = rights; held = held }
 
 abbrev pub withRights : Object → ℕ → ℕ → Object
 withRights ob s n = withRows ob (set (ob .rights) s n) (ob .held)
@@ -110,7 +118,9 @@ pub record ObjectShape (ob : Object) : Type 0 where
   pub held-fit : (s : ℕ) → heldBy ob s < 16
   pub owner-fits : ob .owner < subjectCount
   pub label-fits : LabelFits (ob .label)
-  -- "An object that isn't live has no owner, label, right or access"
+  -- "four 4-bit company numbers"
+  pub companies-fit : ob .companies < 65536
+  -- "An object that isn't live has no owner, label, right or access", nor a company number
   pub not-live : ob .live ≡ false → ob ≡ noObject
 
 -- the record of an object, beside the subjects of its monitor

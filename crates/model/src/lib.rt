@@ -34,16 +34,18 @@ pub enum Mode {
     Execute,
 }
 
-// Rights and held accesses: for each of the sixteen subjects a set of modes, r 8, w 4, a 2, e 1.
+// Companies: the numbers of four conflict classes, four bits for each, the first class highest. Rights and held accesses: for each of the
+// sixteen subjects a set of modes, r 8, w 4, a 2, e 1.
 pub struct Object {
     pub live: bool,
     pub owner: u8,
     pub label: Label,
+    pub companies: u16,
     pub rights: [u8; 16],
     pub held: [u8; 16],
 }
 
-// What stands where no object is live: no owner, label, right or access.
+// What stands where no object is live: no owner, label, company, right or access.
 pub fn no_object() -> Object
     ensures { λ r. ⌜ r ≡ noObject ⌝ }
 {
@@ -51,6 +53,7 @@ pub fn no_object() -> Object
         live: false,
         owner: 0,
         label: Label::Absent,
+        companies: 0,
         rights: [0u8; 16],
         held: [0u8; 16],
     }
@@ -91,10 +94,12 @@ impl Monitor {
     // A label's record: present, class, needs. A subject's record in the table has the same form.
     pub const LABEL_BITS: usize = 1 + 4 + 16;
 
-    // Where the label stands in an object's record, behind live and owner, and the sets behind it.
+    // Where the label stands in an object's record, behind live and owner, then the company numbers and the sets behind it.
     pub const LABEL_AT: usize = 1 + 4;
 
-    pub const SETS_AT: usize = Self::LABEL_AT + Self::LABEL_BITS;
+    pub const COMPANIES_AT: usize = Self::LABEL_AT + Self::LABEL_BITS;
+
+    pub const SETS_AT: usize = Self::COMPANIES_AT + 16;
 
     pub const OBJECT_BITS: usize = Self::SETS_AT + Self::SUBJECTS * 8;
 
@@ -143,6 +148,7 @@ pub enum Request {
     Create(u8, u8, Creation),
     Delete(u8, u8),
     ChangeLevel(u8, u8, Level),
+    SetCompanies(u8, u8, u16),
 }
 
 // What a byte string says.
@@ -171,6 +177,7 @@ pub enum Decision {
     ZeroSeed,
     OutsideProfile,
     EmptyJournal,
+    WallBroken,
 }
 
 // The answer to a request or to a beginning, and the monitor after it.

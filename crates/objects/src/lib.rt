@@ -21,7 +21,7 @@ use unit::is_owner;
 use unit::row_of;
 use unit::set_rows;
 
-// 5: live, unlabelled, owned by the actor, who gains r, w, a, and e if how says so.
+// 5: live, unlabelled and without a company, owned by the actor, who gains r, w, a, and e if how says so.
 pub fn create(unit: &mut [[u8; 16]], s: u8, o: u8, how: Creation) -> u8
     requires { do ⌜ (← ⟦unit.len()⟧) ≡ rowCount ⌝ }
     requires { ⌜ (s < subjectCount) × (o < objectCount) ⌝ }
@@ -35,7 +35,7 @@ pub fn create(unit: &mut [[u8; 16]], s: u8, o: u8, how: Creation) -> u8
     let none = [0u8; Monitor::SUBJECTS];
     let mut rights = none;
     rights[s as usize] = owner_rights(how.execute);
-    let rest = row_of(1, s, Label::Absent);
+    let rest = row_of(1, s, Label::Absent, 0);
     set_rows(unit, o, rights, none, rest);
     0
 }
@@ -57,12 +57,12 @@ pub fn delete(unit: &mut [[u8; 16]], s: u8, o: u8) -> u8
         return number(d);
     }
     let none = [0u8; Monitor::SUBJECTS];
-    let rest = row_of(0, 0, Label::Absent);
+    let rest = row_of(0, 0, Label::Absent, 0);
     set_rows(unit, o, none, none, rest);
     0
 }
 
-// The checks of delete, with which change of level begins: 3, 4, and 6: the actor is owner.
+// The checks of delete, with which change of level and the setting of company numbers begin: 3, 4, and 6: the actor is owner.
 pub fn by_owner(unit: &[[u8; 16]], s: u8, o: u8) -> Decision
     requires { do ⌜ (← ⟦unit.len()⟧) ≡ rowCount ⌝ }
     requires { ⌜ (s < subjectCount) × (o < objectCount) ⌝ }

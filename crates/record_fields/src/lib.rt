@@ -1,10 +1,11 @@
-// The fields of an image's records, written one behind the other across byte borders: a label, the sets of the subjects.
+// The fields of an image's records, written one behind the other across byte borders: a label, the company numbers, the sets of the subjects.
 // The bits of a byte that is not full yet wait in a register, which each function is given and hands back.
 ghost use mathlib.Core.Path.{_≡_};
 ghost use Prim.Native.Nat.{_+_, _*_, _%_, _≤_, _<_};
 ghost use lib.ListN.{length};
 ghost use Rattle.bits.specs.Bits.{toBits};
 ghost use Rattle.bits.specs.Stream.{Appends};
+ghost use Rattle.model.specs.Companies.{companiesWidth};
 ghost use Rattle.model.specs.Layout.{labelWidth, setsWidth, imageSize, labelBits, setsBits};
 use model::Label;
 use model::Monitor;
@@ -39,6 +40,16 @@ pub fn write_label(out: &mut [u8], at: usize, acc: u32, label: Label) -> u32
     let first = bits::append(out, at, acc, 5, word >> 16);
     let second = bits::append(out, at + 5, first, 8, word >> 8);
     bits::append(out, at + 13, second, 8, word)
+}
+
+// The four company numbers, as sixteen bits.
+pub fn write_companies(out: &mut [u8], at: usize, acc: u32, companies: u16) -> u32
+    requires { ⌜ (at + companiesWidth ≤ 8 * imageSize) × (imageSize ≤ length (now out)) ⌝ }
+    ensures { λ r. ⌜ Appends (now (out .entry)) at acc (toBits companiesWidth companies) (now (out .exit)) (at + companiesWidth) r ⌝ }
+{
+    let word = companies as u32;
+    let first = bits::append(out, at, acc, 8, word >> 8);
+    bits::append(out, at + 8, first, 8, word)
 }
 
 // The right bits and the access bits of the sixteen subjects: eight bits for each.

@@ -10,7 +10,7 @@ use borrow.Author.Tests.{leb-true}
 use Rattle.model.specs.declared.Profile.{Profile}
 use Rattle.model.specs.declared.Monitor.{Monitor}
 use Rattle.model.specs.declared.Request.{Request}
-use Rattle.model.specs.declared.Request.the-variants.{Get, Release, Give, Rescind, Create, Delete, ChangeLevel}
+use Rattle.model.specs.declared.Request.the-variants.{Get, Release, Give, Rescind, Create, Delete, ChangeLevel, SetCompanies}
 use Rattle.model.specs.declared.Decoded.{Decoded}
 use Rattle.model.specs.declared.Decoded.the-variants.{Malformed, Says}
 use Rattle.model.specs.declared.Decision.{Decision}
@@ -57,6 +57,7 @@ never-malformed q m = never-answers MalformedRequest (distinct _ _ refl) (checkL
     go (Create s o c) = refl
     go (Delete s o) = refl
     go (ChangeLevel s o l) = refl
+    go (SetCompanies s o n) = refl
 
 -- 2: exactly the first row and what is outside the profile of the monitor, on every monitor
 pub reply-2-exactly : (g : List ℕ) (m : Monitor) → (reply g m ≡ 2) ↔ MalformedBytes (m .profile) g
@@ -68,7 +69,7 @@ reply-2-exactly g m = (
   λ w. ap (λ (d : Decoded). number (carryOut d m .decision)) (malformed-exactly (m .profile) g .1 w),
 )
 
--- 3 to 9 and 14: the reply is k exactly when cause k holds and no earlier one does
+-- 3 to 9, 14 and 18: the reply is k exactly when cause k holds and no earlier one does
 pub reply-first-cause : (m : Monitor) → Reached m → (g : List ℕ) (q : Request) → decode (m .profile) g ≡ Says q → (d : Decision) → refuses d ≡ true
     → (reply g m ≡ number d) ↔ FirstIn (requestCauses q m) d
 reply-first-cause m R g q e d r =

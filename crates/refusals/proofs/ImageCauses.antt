@@ -12,7 +12,7 @@ use Rattle.model.specs.declared.Subject.{Subject}
 use Rattle.model.specs.declared.Object.{Object}
 use Rattle.model.specs.declared.Profile.{Profile}
 use Rattle.model.specs.declared.Monitor.{Monitor}
-use Rattle.model.specs.declared.Decision.the-variants.{Granted, NoRight, NoLabel, SimpleBroken, StarBroken, WrongLength, StrayBits, AbsentSubject, OutsideProfile}
+use Rattle.model.specs.declared.Decision.the-variants.{Granted, NoRight, NoLabel, SimpleBroken, StarBroken, WrongLength, StrayBits, AbsentSubject, OutsideProfile, WallBroken}
 use Rattle.model.specs.State.{noObject, clearanceAt, clearance, enrolled, object, rightsOf, heldBy, fresh, WellFormed}
 use Rattle.model.specs.Properties.{Secure}
 use Rattle.model.specs.Layout.{tableSize, imageSize}
@@ -22,7 +22,7 @@ use Rattle.model.specs.Levels.{present}
 use Rattle.model.proofs.Tests.{apart, and-false, or-false, all-false, implies-false, below-false, replicate-at}
 use Rattle.model.proofs.Levels.{absent}
 use Rattle.images.proofs.Shapes.{table-shape, fresh-shape, image-shape}
-use Rattle.images.proofs.StateTests.{formed-out, matrix-out, matrix-in, labelled-out, labelled-in, simple-all-out, simple-all-in, stars-out, stars-in}
+use Rattle.images.proofs.StateTests.{formed-out, matrix-out, matrix-in, labelled-out, labelled-in, simple-all-out, simple-all-in, stars-out, stars-in, walls-out, walls-in}
 use Rattle.images.proofs.Images.{image-passed}
 use Rattle.refusals.specs.First.{AnswersFirst}
 use Rattle.refusals.specs.Causes.{ProfileOutside, StrayInImage, ClearanceOutside, LabelOutside, OutsideInImage, AbsentActs, tableCauses, imageCauses}
@@ -114,7 +114,8 @@ image-answers p b =
     (answers-check _ NoLabel _ _ _ refl (λ e w. w (labelled-out m S e)) (decided _ (labelled-in m S))
     (answers-check _ SimpleBroken _ _ _ refl (λ e w. w (simple-all-out m S e)) (decided _ (simple-all-in m S))
     (answers-check _ StarBroken _ _ _ refl (λ e w. w (stars-out m S e)) (decided _ (stars-in m S))
-    answers-end))))))))
+    (answers-check _ WallBroken _ _ _ refl (λ e w. w (walls-out m S e)) (decided _ (walls-in m S))
+    answers-end)))))))))
 
 -- ---- acceptance
 
@@ -145,7 +146,7 @@ image-accepted-exactly p b = (
                   λ w. w (S .discretionary),
                   (
                     λ w. w (S .labelled),
-                    (λ w. w (S .simple), (λ w. w (S .star), tt)),
+                    (λ w. w (S .simple), (λ w. w (S .star), (λ w. w (S .wall), tt))),
                   ),
                 ),
               ),

@@ -9,3 +9,4 @@ pub mod ImageCauses
 pub mod FirstRefusal
 pub mod Outside
 pub mod ModePairs
+pub mod Wall

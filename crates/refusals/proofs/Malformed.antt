@@ -15,6 +15,7 @@ use Rattle.model.specs.declared.Request.{Request}
 use Rattle.model.specs.declared.Decoded.{Decoded}
 use Rattle.model.specs.declared.Decoded.the-variants.{Malformed, Says}
 use Rattle.model.specs.Requests.{fields, modeAllowed, unusedZero, fieldsFormed, levelOf, within, wellFormed, decode}
+use Rattle.model.specs.Profiles.{levelInside}
 use Rattle.model.proofs.Tests.{split, apart, clash, and-left, and-right, and-false, or-cases, or-false, cond-true, cond-false, le-or-lt}
 use Rattle.model.proofs.Within.{within-fields, formed-of, within-of}
 use Rattle.model.proofs.Requests.{in-kinds, actor-in, other-in, object-in, last-two, decode-says, says-decode}
@@ -25,6 +26,9 @@ use Rattle.refusals.proofs.ProfileCauses.{level-outside, level-not-outs
 
 eqb-false : (a b : ℕ) → eqb a b ≡ false → a ≢ b
 eqb-false a b e w = apart (eq-eqb a b w) e
+
+not-eqb : (a b : ℕ) → a ≢ b → eqb a b ≡ false
+not-eqb a b h = split (eqb a b) (λ w. absurd (h (eqb-true a b w))) (λ w. w)
 
 -- ---- a field test that fails
 
@@ -76,27 +80,38 @@ unused-fails f e =
     let a = or-false (eqb (f .kind) 3) (eqb (f .kind) 4 || eqb (f .other) 0) w in
     let b = or-false (eqb (f .kind) 4) (eqb (f .other) 0) (a .1) in
     inl (eqb-false _ _ (a .0), eqb-false _ _ (b .0), eqb-false _ _ (b .1)))
-    (λ w. and-false (eqb (f .kind) 7 || (eqb (f .class) 0 && eqb (f .needs) 0)) (eqb (f .spare) 0) w
+    (λ w. and-false (eqb (f .kind) 7 || eqb (f .class) 0) _ w
     (λ v.
-    let a = or-false (eqb (f .kind) 7) (eqb (f .class) 0 && eqb (f .needs) 0) v in
-    inr (inl (eqb-false _ _ (a .0), and-false (eqb (f .class) 0) (eqb (f .needs) 0) (a .1) (λ u. inl (eqb-false _ _ u)) (λ u. inr (eqb-false _ _ u)))))
-    (λ v. inr (inr (eqb-false _ _ v))))
+    let a = or-false (eqb (f .kind) 7) (eqb (f .class) 0) v in
+    inr (inl (eqb-false _ _ (a .0), eqb-false _ _ (a .1))))
+    (λ v. and-false (eqb (f .kind) 7 || (eqb (f .kind) 8 || eqb (f .needs) 0)) (eqb (f .spare) 0) v
+    (λ u.
+    let a = or-false (eqb (f .kind) 7) (eqb (f .kind) 8 || eqb (f .needs) 0) u in
+    let b = or-false (eqb (f .kind) 8) (eqb (f .needs) 0) (a .1) in
+    inr (inr (inl (eqb-false _ _ (a .0), eqb-false _ _ (b .0), eqb-false _ _ (b .1)))))
+    (λ u. inr (inr (inr (eqb-false _ _ u))))))
 
 unused-passes : (f : Fields) → unusedZero f ≡ true → UnusedSet f → ⊥
 unfolding unusedZero
-unused-passes f e (inl p) =
-    or-cases (eqb (f .kind) 3) (eqb (f .kind) 4 || eqb (f .other) 0) (and-left (eqb (f .kind) 3 || (eqb (f .kind) 4 || eqb (f .other) 0)) _ e)
-    (λ w. p .0 (eqb-true _ _ w))
-    (λ w. or-cases (eqb (f .kind) 4) (eqb (f .other) 0) w (λ v. p .1 (eqb-true _ _ v)) (λ v. p .2 (eqb-true _ _ v)))
-unused-passes f e (inr (inl p)) =
-    let rest = and-right (eqb (f .kind) 3 || (eqb (f .kind) 4 || eqb (f .other) 0)) _ e in
-    or-cases (eqb (f .kind) 7) (eqb (f .class) 0 && eqb (f .needs) 0) (and-left (eqb (f .kind) 7 || (eqb (f .class) 0 && eqb (f .needs) 0)) _ rest)
-    (λ w. p .0 (eqb-true _ _ w))
-    (λ w. ⊎-elim (λ (u : f .class ≢ 0). u (eqb-true _ _ (and-left (eqb (f .class) 0) _ w)))
-    (λ (u : f .needs ≢ 0). u (eqb-true _ _ (and-right (eqb (f .class) 0) _ w))) (p .1))
-unused-passes f e (inr (inr p)) =
-    let rest = and-right (eqb (f .kind) 3 || (eqb (f .kind) 4 || eqb (f .other) 0)) _ e in
-    p (eqb-true _ _ (and-right (eqb (f .kind) 7 || (eqb (f .class) 0 && eqb (f .needs) 0)) _ rest))
+unused-passes f e w =
+    let other = and-left (eqb (f .kind) 3 || (eqb (f .kind) 4 || eqb (f .other) 0)) _ e in
+    let behind = and-right (eqb (f .kind) 3 || (eqb (f .kind) 4 || eqb (f .other) 0)) _ e in
+    let class = and-left (eqb (f .kind) 7 || eqb (f .class) 0) _ behind in
+    let last = and-right (eqb (f .kind) 7 || eqb (f .class) 0) _ behind in
+    let needs = and-left (eqb (f .kind) 7 || (eqb (f .kind) 8 || eqb (f .needs) 0)) _ last in
+    let spare = and-right (eqb (f .kind) 7 || (eqb (f .kind) 8 || eqb (f .needs) 0)) _ last in
+    elim w [
+      | inl p ↦ one-of-two (f .kind) 3 4 (f .other) other (p .0) (p .1) (p .2)
+      | inr (inl p) ↦ or-cases (eqb (f .kind) 7) (eqb (f .class) 0) class (λ v. p .0 (eqb-true _ _ v)) (λ v. p .1 (eqb-true _ _ v))
+      | inr (inr (inl p)) ↦ one-of-two (f .kind) 7 8 (f .needs) needs (p .0) (p .1) (p .2)
+      | inr (inr (inr p)) ↦ p (eqb-true _ _ spare)
+    ]
+  where
+    -- a field that stands in two kinds, and is 0 in every other
+    one-of-two : (k a b n : ℕ) → (eqb k a || (eqb k b || eqb n 0)) ≡ true → k ≢ a → k ≢ b → n ≢ 0 → ⊥
+    one-of-two k a b n e x y z =
+        or-cases (eqb k a) (eqb k b || eqb n 0) e (λ v. x (eqb-true _ _ v))
+        (λ v. or-cases (eqb k b) (eqb n 0) v (λ u. y (eqb-true _ _ u)) (λ u. z (eqb-true _ _ u)))
 
 -- ---- the theorem
 
@@ -104,8 +119,8 @@ form-fails : (p : Profile) (b : List ℕ) → fieldsFormed (fields b) ≡ false 
 unfolding fieldsFormed
 form-fails p b e =
     let f = fields b in
-    and-false (leb 1 (f .kind) && leb (f .kind) 7) _ e
-    (λ w. and-false (leb 1 (f .kind)) (leb (f .kind) 7) w (λ v. kind-below (leb-false 1 _ v)) (λ v. kind-above (leb-false _ 7 v)))
+    and-false (leb 1 (f .kind) && leb (f .kind) 8) _ e
+    (λ w. and-false (leb 1 (f .kind)) (leb (f .kind) 8) w (λ v. kind-below (leb-false 1 _ v)) (λ v. kind-above (leb-false _ 8 v)))
     (λ w. and-false (ltb (f .actor) 16) _ w (λ v. actor-above (ltb-false _ 16 v))
     (λ v. and-false (ltb (f .other) 16) _ v (λ u. other-above (ltb-false _ 16 u))
     (λ u. and-false (ltb (f .object) 64) _ u (λ t. object-above (ltb-false _ 64 t))
@@ -118,11 +133,20 @@ within-fails p b e =
     and-false (ltb (f .actor) (p .subjects)) _ e (λ v. actor-outside (ltb-false _ _ v))
     (λ w. and-false (ltb (f .other) (p .subjects)) _ w (λ v. other-outside (ltb-false _ _ v))
     (λ u. and-false (ltb (f .object) (p .objects)) _ u (λ v. object-outside (ltb-false _ _ v))
-    (λ t. ⊎-elim (λ (h : p .highest .class < f .class). class-outside h) (λ (h : NeedOutside p (f .needs)). need-outside h) (level-outside p (levelOf f) t))))
+    (λ t.
+    let level = or-false (eqb (f .kind) 8) (levelInside p (levelOf f)) t in
+    ⊎-elim (λ (h : p .highest .class < f .class). class-outside h) (λ (h : NeedOutside p (f .needs)). need-outside (eqb-false _ _ (level .0)) h)
+    (level-outside p (levelOf f) (level .1)))))
 
 fields-fail : (p : Profile) (b : List ℕ) → wellFormed p (fields b) ≡ false → MalformedBytes p b
 unfolding wellFormed
 fields-fail p b e = and-false (fieldsFormed (fields b)) (within p (fields b)) e (form-fails p b) (within-fails p b)
+
+-- kind 8 has no class
+no-class : (f : Fields) → eqb (f .kind) 8 ≡ true → unusedZero f ≡ true → f .class ≡ 0
+no-class f k e =
+    split (eqb (f .class) 0) (λ w. eqb-true _ _ w)
+    (λ w. absurd (unused-passes f e (inr (inl (λ z. absurd (omega (arith, z, eqb-true (f .kind) 8 k)), eqb-false _ _ w)))))
 
 -- bytes that say a request are none of these
 pub says-not-malformed : (p : Profile) (b : List ℕ) (q : Request) → decode p b ≡ Says q → MalformedBytes p b → ⊥
@@ -135,7 +159,7 @@ says-not-malformed p b q e w =
     elim w [
       | not-six-bytes h ↦ h (d .0)
       | kind-below h ↦ absurd (omega (arith, h, leb-true 1 (f .kind) (and-left (leb 1 (f .kind)) _ kinds)))
-      | kind-above h ↦ absurd (omega (arith, h, leb-true (f .kind) 7 (and-right (leb 1 (f .kind)) _ kinds)))
+      | kind-above h ↦ absurd (omega (arith, h, leb-true (f .kind) 8 (and-right (leb 1 (f .kind)) _ kinds)))
       | actor-above h ↦ absurd (omega (arith, h, actor-in f F))
       | other-above h ↦ absurd (omega (arith, h, other-in f F))
       | object-above h ↦ absurd (omega (arith, h, object-in f F))
@@ -144,8 +168,10 @@ says-not-malformed p b q e w =
       | actor-outside h ↦ absurd (omega (arith, h, I .actor))
       | other-outside h ↦ absurd (omega (arith, h, I .other))
       | object-outside h ↦ absurd (omega (arith, h, I .object))
-      | class-outside h ↦ level-not-outside p (levelOf f) (I .level) (inl h)
-      | need-outside h ↦ level-not-outside p (levelOf f) (I .level) (inr h)
+      | class-outside h ↦ split (eqb (f .kind) 8)
+          (λ k. absurd (omega (arith, h, no-class f k (and-right (modeAllowed (f .kind) (f .mode)) _ (last-two f F)))))
+          (λ k. level-not-outside p (levelOf f) (I .level k) (inl h))
+      | need-outside k h ↦ level-not-outside p (levelOf f) (I .level (not-eqb _ _ k)) (inr h)
     ]
 
 pub malformed-exactly : (p : Profile) (b : List ℕ) → (decode p b ≡ Malformed) ↔ MalformedBytes p b

@@ -14,20 +14,22 @@ use Rattle.model.specs.declared.Monitor.{Monitor}
 use Rattle.model.specs.declared.Mode.{Mode}
 use Rattle.model.specs.declared.Mode.the-variants.{Read, Write, Append, Execute}
 use Rattle.model.specs.declared.Request.{Request}
-use Rattle.model.specs.declared.Request.the-variants.{Get, Release, Give, Rescind, Create, Delete, ChangeLevel}
-use Rattle.model.specs.declared.Decision.the-variants.{NotEnrolled, NotLive, AlreadyLive, NoRight, NoLabel, SimpleBroken, StarBroken, LabelLowered}
+use Rattle.model.specs.declared.Request.the-variants.{Get, Release, Give, Rescind, Create, Delete, ChangeLevel, SetCompanies}
+use Rattle.model.specs.declared.Decision.the-variants.{NotEnrolled, NotLive, AlreadyLive, NoRight, NoLabel, SimpleBroken, StarBroken, LabelLowered, WallBroken}
 use Rattle.model.specs.Tests.{implies}
 use Rattle.model.specs.Levels.{present, dominates, Dominates}
 use Rattle.model.specs.Modes.{has, observes, needsLabel}
 use Rattle.model.specs.State.{clearance, enrolled, object, rightsOf, heldBy, withLabel}
-use Rattle.model.specs.Properties.{Simple, Star, Permits}
+use Rattle.model.specs.Properties.{Simple, Star, Wall, Permits}
 use Rattle.model.specs.Requests.{InRange}
-use Rattle.model.specs.Rules.{notLowered, changed, afterwards, checks, owns, simpleAll, starAll}
+use Rattle.model.specs.Rules.{notLowered, target, changed, afterwards, checks, owns, simpleAll, starAll, wallAll}
 use Rattle.model.proofs.Levels.{absent}
 use Rattle.model.proofs.Lowering.{not-lowered-decides}
 use Rattle.model.proofs.Tests.{apart, and-left, and-right, and-false, implies-out, implies-in, implies-false, not-on, not-off}
 use Rattle.model.proofs.After.{object-there, objects-after}
-use Rattle.invariants.proofs.Secure.{simple-in, simple-out, star-in, star-for, star-of, star-get, star-all-in, star-all-out}
+use Rattle.invariants.proofs.Secure.{simple-in, simple-out}
+use Rattle.invariants.proofs.Star.{star-in, star-for, star-of, star-get, star-all-in, star-all-out}
+use Rattle.invariants.proofs.Wall.{wall-in, wall-for, wall-of, wall-get, wall-all-in, wall-all-out}
 use Rattle.invariants.specs.Sound.{Sound}
 use Rattle.invariants.proofs.Added.{simple-get-in, simple-get-out}
 use Rattle.refusals.specs.First.{AnswersFirst}
@@ -96,6 +98,16 @@ module _ (m : Monitor) (S : Sound m) where
   label-there : (o : ℕ) (x : Mode) → implies (needsLabel x) (present (object m o .label)) ≡ true → ((x ≢ Execute) × (object m o .label ≡ Absent)) → ⊥
   label-there o x e w = not-absent (object m o .label) (implies-out (needsLabel x) _ e (not-execute x (w .0))) (w .1)
 
+  -- every row of accesses has sixteen sets
+  rows-whole : (q : Request) → length (changed q (object m (target q)) .held) ≡ 16 → (o : ℕ) → length (object (afterwards q m) o .held) ≡ 16
+  rows-whole q e = objects-after (λ j ob. length (ob .held) ≡ 16) q m (λ j. S .formed .objects-formed j .shape .held-length) e
+
+  -- company numbers: the wall over all subjects
+  wall-set-in : (s o n : ℕ) → wallAll (afterwards (SetCompanies s o n) m .objects) ≡ true → Wall (afterwards (SetCompanies s o n) m)
+  unfolding changed
+  wall-set-in s o n e =
+      wall-of (afterwards (SetCompanies s o n) m) (wall-all-out _ (rows-whole (SetCompanies s o n) (S .formed .objects-formed o .shape .held-length)) e)
+
   -- a change of level: simple at the object for all subjects, star over all
   module _ (s o : ℕ) (l : Level) (o-below : o < 64) where
     labelled-now : object (afterwards (ChangeLevel s o l) m) o ≡ withLabel (object m o) (Present l)
@@ -118,8 +130,7 @@ module _ (m : Monitor) (S : Sound m) where
     star-change-in : starAll (afterwards (ChangeLevel s o l) m .objects) ≡ true → Star (afterwards (ChangeLevel s o l) m)
     unfolding changed
     star-change-in e =
-        star-of (afterwards (ChangeLevel s o l) m)
-        (star-all-out _ (objects-after (λ j ob. length (ob .held) ≡ 16) (ChangeLevel s o l) m (λ j. S .formed .objects-formed j .shape .held-length) (S .formed .objects-formed o .shape .held-length)) e)
+        star-of (afterwards (ChangeLevel s o l) m) (star-all-out _ (rows-whole (ChangeLevel s o l) (S .formed .objects-formed o .shape .held-length)) e)
 
   -- a get: simple at the actor and the object
   simple-after-get : (s o : ℕ) (x : Mode) → InRange (Get s o x) → implies (observes x) (dominates (clearance m s) (object m o .label)) ≡ true
@@ -146,7 +157,10 @@ module _ (m : Monitor) (S : Sound m) where
       (answers-check _ StarBroken _ _ _ refl
       (λ e w. w (star-of (afterwards (Get s o x) m) (star-get s o x m (S .formed) (S .secure .star) e)))
       (λ e T. fails e (implies-in _ _ (λ n. star-in s _ (star-for (afterwards (Get s o x) m) T s))))
-      answers-end)))))
+      (answers-check _ WallBroken _ _ _ refl
+      (λ e w. w (wall-of (afterwards (Get s o x) m) (wall-get s o x m (S .formed) (S .secure .wall) e)))
+      (λ e T. fails e (wall-in s _ (wall-for (afterwards (Get s o x) m) T s)))
+      answers-end))))))
   request-answers (Release s o x) r =
       answers-check _ NotEnrolled _ _ _ refl (not-absent (clearance m s)) (absent (clearance m s))
       (answers-check _ NotLive _ _ _ refl (λ e w. w e) fails
@@ -180,3 +194,10 @@ module _ (m : Monitor) (S : Sound m) where
       (answers-check _ StarBroken _ _ _ refl
       (λ e w. w (star-change-in s o l (r .1) e)) (λ e T. fails e (star-all-in _ (star-for (afterwards (ChangeLevel s o l) m) T)))
       answers-end)))))
+  request-answers (SetCompanies s o n) r =
+      answers-check _ NotEnrolled _ _ _ refl (not-absent (clearance m s)) (absent (clearance m s))
+      (answers-check _ NotLive _ _ _ refl (λ e w. w e) fails
+      (answers-check _ NoRight _ _ _ refl (is-owner s (object m o)) (not-owner s (object m o))
+      (answers-check _ WallBroken _ _ _ refl
+      (λ e w. w (wall-set-in s o n e)) (λ e T. fails e (wall-all-in _ (wall-for (afterwards (SetCompanies s o n) m) T)))
+      answers-end)))

@@ -17,11 +17,11 @@ use Rattle.model.specs.declared.Mode.{Mode}
 use Rattle.model.specs.declared.Mode.the-variants.{Execute}
 use Rattle.model.specs.declared.Fields.{Fields}
 use Rattle.model.specs.declared.Request.{Request}
-use Rattle.model.specs.declared.Request.the-variants.{Get, Release, Give, Rescind, Create, Delete, ChangeLevel}
-use Rattle.model.specs.declared.Decision.the-variants.{NotEnrolled, NotLive, AlreadyLive, NoRight, NoLabel, SimpleBroken, StarBroken, WrongLength, StrayBits, AbsentSubject, LabelLowered, OutsideProfile}
+use Rattle.model.specs.declared.Request.the-variants.{Get, Release, Give, Rescind, Create, Delete, ChangeLevel, SetCompanies}
+use Rattle.model.specs.declared.Decision.the-variants.{NotEnrolled, NotLive, AlreadyLive, NoRight, NoLabel, SimpleBroken, StarBroken, WrongLength, StrayBits, AbsentSubject, LabelLowered, OutsideProfile, WallBroken}
 use Rattle.model.specs.Levels.{need, Dominates}
 use Rattle.model.specs.State.{clearanceAt, clearance, objectAt, object, rightsOf, heldBy}
-use Rattle.model.specs.Properties.{Permits, Discretionary, Labelled, Simple, Star}
+use Rattle.model.specs.Properties.{Permits, Discretionary, Labelled, Simple, Star, Wall}
 use Rattle.model.specs.Requests.{fields}
 use Rattle.model.specs.Rules.{afterwards}
 use Rattle.model.specs.Layout.{labelWidth, labelOffset, tableSize, imageSize}
@@ -51,19 +51,21 @@ ModeNotAllowed kind mode =
     ⊎ (((kind ≡ 5) × (mode ≢ 0) × (mode ≢ 4))
     ⊎ ((5 < kind) × (mode ≢ 0)))
 
--- "an unused field not 0"
+-- "an unused field not 0"; needs stand in kind 8 too, where they are the company numbers (change request §10)
 abbrev pub UnusedSet : Fields → Type 0
 UnusedSet f =
     ((f .kind ≢ 3) × (f .kind ≢ 4) × (f .other ≢ 0))
-    ⊎ (((f .kind ≢ 7) × ((f .class ≢ 0) ⊎ (f .needs ≢ 0)))
-    ⊎ (f .spare ≢ 0))
+    ⊎ (((f .kind ≢ 7) × (f .class ≢ 0))
+    ⊎ (((f .kind ≢ 7) × (f .kind ≢ 8) × (f .needs ≢ 0))
+    ⊎ (f .spare ≢ 0)))
 
--- "request not 6 bytes; kind not 1 to 7; actor or other above 15; object above 63; mode not allowed; an unused field not 0"; "A subject,
--- object, class or need outside it in a request is malformed", by the profile of the monitor
+-- "request not 6 bytes; kind not 1 to 7", nor 8 of change request §10, "actor or other above 15; object above 63; mode not allowed; an
+-- unused field not 0"; "A subject, object, class or need outside it in a request is malformed", by the profile of the monitor; the company
+-- numbers of kind 8 are "not bounded by the profile"
 pub data MalformedBytes (p : Profile) (b : List ℕ) : Type 0 where
   not-six-bytes : length b ≢ 6 → MalformedBytes p b
   kind-below : fields b .kind < 1 → MalformedBytes p b
-  kind-above : 7 < fields b .kind → MalformedBytes p b
+  kind-above : 8 < fields b .kind → MalformedBytes p b
   actor-above : 15 < fields b .actor → MalformedBytes p b
   other-above : 15 < fields b .other → MalformedBytes p b
   object-above : 63 < fields b .object → MalformedBytes p b
@@ -73,9 +75,9 @@ pub data MalformedBytes (p : Profile) (b : List ℕ) : Type 0 where
   other-outside : p .subjects ≤ fields b .other → MalformedBytes p b
   object-outside : p .objects ≤ fields b .object → MalformedBytes p b
   class-outside : p .highest .class < fields b .class → MalformedBytes p b
-  need-outside : NeedOutside p (fields b .needs) → MalformedBytes p b
+  need-outside : fields b .kind ≢ 8 → NeedOutside p (fields b .needs) → MalformedBytes p b
 
--- ---- 3 to 9 and 14, of requests
+-- ---- 3 to 9, 14 and 18, of requests
 
 -- a subject that is absent
 abbrev pub NotIn : Monitor → ℕ → Type 0
@@ -87,10 +89,10 @@ Lacks m s o x = Permits m s o x → ⊥
 
 -- 3: "actor, or in kinds 3 and 4 the other subject, not enrolled"; 4: "object not live"; 5: "create on a live object"; 6: "right or
 -- ownership missing"; 7: "no label"; 8: "simple property would break"; 9: "star property would break", both in the state after it;
--- 14: "a new label that does not dominate the old" (change request §3).
+-- 14: "a new label that does not dominate the old" (change request §3); 18: "the wall would break" (change request §10), in the state after it.
 -- Each kind has the checks that its row of the table of kinds names
 abbrev pub requestCauses : Request → Monitor → Causes
--- "checks 4, 6 (the actor's right); 7 (not e); 8 (r, w); 9 (r, w, a)"
+-- "checks 4, 6 (the actor's right); 7 (not e); 8 (r, w); 9 (r, w, a)"; 18 "checked last in get"
 requestCauses (Get s o x) m =
     row NotEnrolled (NotIn m s)
     (row NotLive (object m o .live ≢ true)
@@ -98,7 +100,8 @@ requestCauses (Get s o x) m =
     (row NoLabel ((x ≢ Execute) × (object m o .label ≡ Absent))
     (row SimpleBroken (Simple (afterwards (Get s o x) m) → ⊥)
     (row StarBroken (Star (afterwards (Get s o x) m) → ⊥)
-    none)))))
+    (row WallBroken (Wall (afterwards (Get s o x) m) → ⊥)
+    none))))))
 -- "check 4"
 requestCauses (Release s o x) m =
     row NotEnrolled (NotIn m s)
@@ -136,8 +139,15 @@ requestCauses (ChangeLevel s o l) m =
     (row SimpleBroken (Simple (afterwards (ChangeLevel s o l) m) → ⊥)
     (row StarBroken (Star (afterwards (ChangeLevel s o l) m) → ⊥)
     none)))))
+-- "checks 4, 6 (owner) and the wall over all subjects in the state after it" (change request §10)
+requestCauses (SetCompanies s o n) m =
+    row NotEnrolled (NotIn m s)
+    (row NotLive (object m o .live ≢ true)
+    (row NoRight (object m o .owner ≢ s)
+    (row WallBroken (Wall (afterwards (SetCompanies s o n) m) → ⊥)
+    none)))
 
--- ---- 16, 10, 11, 12 and 6 to 9, of tables and images
+-- ---- 16, 10, 11, 12, 6 to 9 and 18, of tables and images
 
 -- an absent record: its first bit is 0, and another of its own bits is set
 abbrev pub Stray : List Bool → Type 0
@@ -191,7 +201,7 @@ tableCauses p b =
     (row OutsideProfile (ClearanceOutside p (tableFrom b))
     none)))
 
--- "images 10, 11, 12, 6, 7, 8, 9, each over the whole image before the next", with 16 as for tables
+-- "images 10, 11, 12, 6, 7, 8, 9, each over the whole image before the next", with 16 as for tables, and 18 "after 9"
 abbrev pub imageCauses : Profile → List ℕ → Causes
 imageCauses p b =
     row OutsideProfile (ProfileOutside p)
@@ -203,4 +213,5 @@ imageCauses p b =
     (row NoLabel (Labelled (monitorFrom p b) → ⊥)
     (row SimpleBroken (Simple (monitorFrom p b) → ⊥)
     (row StarBroken (Star (monitorFrom p b) → ⊥)
-    none))))))))
+    (row WallBroken (Wall (monitorFrom p b) → ⊥)
+    none)))))))))

@@ -30,11 +30,12 @@ use Rattle.request_orders.specs.RightsLists.{GiveOrRelease, give, releas
 use Rattle.request_orders.proofs.Commuting.{Commuting}
 use Rattle.request_orders.proofs.Updates.{gives-comm, releases-comm, give-release-comm}
 
--- an object with the same life, owner and label, whose owner has the same rights
+-- an object with the same life, owner, label and company numbers, whose owner has the same rights
 pub record SameOwner (a b : Object) : Type 0 where
   pub live : a .live ≡ b .live
   pub owner : a .owner ≡ b .owner
   pub label : a .label ≡ b .label
+  pub companies : a .companies ≡ b .companies
   pub rights : rightsOf a (b .owner) ≡ rightsOf b (b .owner)
 
 -- the states that gives and releases lead to from m
@@ -83,11 +84,12 @@ module _ (m : Monitor) where
         live = E .live;
         owner = E .owner;
         label = E .label;
+        companies = E .companies;
         rights = set-all (λ j k. j ≡ object m o .owner → k ≡ rightsOf (object m o) (object m o .owner)) (object n o .rights) t _ 0
             (λ j e. ap (rightsOf (object n o)) e ∙ E .rights)
             (λ e. add-same x _ (had t e) ∙ ap (rightsOf (object n o)) e ∙ E .rights) (object m o .owner) refl;
       }
-  owner-keeps _ n (release s o x) P g = let E = P .objects o in record { live = E .live; owner = E .owner; label = E .label; rights = E .rights }
+  owner-keeps _ n (release s o x) P g = let E = P .objects o in record { live = E .live; owner = E .owner; label = E .label; companies = E .companies; rights = E .rights }
 
   owners-kept : (q : Request) (n : Monitor) → Ranged q → OwnersKept m n → checks q n ≡ Granted → OwnersKept m (afterwards q n)
   owners-kept q n w P g =
@@ -112,7 +114,7 @@ module _ (m : Monitor) where
   pub rights-commuting : Sound m → Commuting m (OwnersKept m) Ranged
   rights-commuting S =
       record {
-        start = record { sound = S; profile = refl; subjects = refl; objects = λ o. record { live = refl; owner = refl; label = refl; rights = refl } };
+        start = record { sound = S; profile = refl; subjects = refl; objects = λ o. record { live = refl; owner = refl; label = refl; companies = refl; rights = refl } };
         profile = λ n P. P .profile;
         keeps = owners-kept;
         alone = λ q n w P. let e = same-checks q n (w .1) P in (λ g. sym e ∙ g, λ g. e ∙ g);

@@ -12,7 +12,7 @@ use Rattle.model.specs.declared.Profile.{Profile}
 use Rattle.model.specs.declared.Monitor.{Monitor}
 use Rattle.model.specs.declared.Mode.{Mode}
 use Rattle.model.specs.declared.Request.{Request}
-use Rattle.model.specs.declared.Request.the-variants.{Get, Release, Give, Rescind, Create, Delete, ChangeLevel}
+use Rattle.model.specs.declared.Request.the-variants.{Get, Release, Give, Rescind, Create, Delete, ChangeLevel, SetCompanies}
 use Rattle.model.specs.declared.Decoded.{Decoded}
 use Rattle.model.specs.declared.Decoded.the-variants.{Malformed, Says}
 use Rattle.model.specs.declared.Response.{Response}
@@ -138,7 +138,7 @@ apart-kinds k b = (λ v w. give-release (v .3 .1) (w .3), λ v e. not-said e (v 
 pub no-other-kind : (k : Profile) (b : List ℕ) (q : Request) → decode k b ≡ Says q → NothingElse k b ↔ GiveOrRelease q
 no-other-kind k b q e = (λ w. w q e, λ g r f. subst GiveOrRelease (says-one e f) g)
 
--- of the seven kinds these are two
+-- of the eight kinds these are two
 abbrev pub giveOrRelease : Request → Bool
 giveOrRelease (Get s o x) = false
 giveOrRelease (Release s o x) = true
@@ -147,6 +147,7 @@ giveOrRelease (Rescind s t o x) = false
 giveOrRelease (Create s o c) = false
 giveOrRelease (Delete s o) = false
 giveOrRelease (ChangeLevel s o l) = false
+giveOrRelease (SetCompanies s o n) = false
 
 pub two-kinds : (q : Request) → GiveOrRelease q → giveOrRelease q ≡ true
 two-kinds _ (give s t o x) = refl

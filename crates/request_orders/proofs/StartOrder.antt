@@ -1,9 +1,10 @@
--- When the order of gets matters: the theorems of change request §6.
+-- When the order of gets matters: the theorems of change request §6, with the wall of change request §10.
 -- Assumes nothing.
 use Prim.Native.Nat.{ℕ, _<_}
 use native.Mathlib.Omega.{arith}
 use mathlib.Core.Path.{_≡_, refl, sym, ap, _∙_, subst}
-use mathlib.Core.Logic.{_↔_, _≢_}
+use mathlib.Core.Logic.{_↔_, _≢_, _⊎_, inl, inr, ⊎-elim}
+use mathlib.Core.Bool.{true}
 use mathlib.Core.List.{List, [], _∷_}
 use lib.ListN.{length, getD}
 use Rattle.model.specs.declared.Monitor.{Monitor}
@@ -11,8 +12,9 @@ use Rattle.model.specs.declared.Mode.{Mode}
 use Rattle.model.specs.declared.Request.the-variants.{Get}
 use Rattle.model.specs.declared.Decoded.the-variants.{Says}
 use Rattle.model.specs.declared.Response.{Response}
-use Rattle.model.specs.declared.Decision.the-variants.{Granted}
-use Rattle.model.specs.Properties.{Star, Holds}
+use Rattle.model.specs.declared.Decision.{Decision}
+use Rattle.model.specs.declared.Decision.the-variants.{Granted, StarBroken, WallBroken}
+use Rattle.model.specs.Properties.{Holds}
 use Rattle.model.specs.Decisions.{number, refuses}
 use Rattle.model.specs.Requests.{decode}
 use Rattle.model.specs.Rules.{changed, checks}
@@ -26,10 +28,10 @@ use Rattle.images.proofs.Reached.{sound-reached, respond-says}
 use Rattle.orders.specs.Orders.{Each}
 use Rattle.orders.proofs.Places.{each-at, each-in}
 use Rattle.request_orders.specs.AnyOrder.{OrdersAgree, GrantedAt, AnyOrder}
-use Rattle.request_orders.specs.StartOrder.{IsGet, Clash, NoClash}
+use Rattle.request_orders.specs.StartOrder.{IsGet, StarAndWall, Clash, NoClash}
 use Rattle.request_orders.proofs.Commuting.{Saying, says-one, says-granted, any-order}
 use Rattle.request_orders.proofs.Updates.{gets-comm}
-use Rattle.request_orders.proofs.PairProperties.{PairProperty, star-pairs}
+use Rattle.request_orders.proofs.PairProperties.{PairProperty, both-pairs}
 use Rattle.request_orders.proofs.Gets.{Getting, getting, Between, gets-commuting}
 use Rattle.request_orders.proofs.Together.{held-together}
 use Rattle.request_orders.proofs.TwoGets.{granted-after-first, refused-after-first}
@@ -57,37 +59,37 @@ module _ (Property : Monitor → Type 0) (R : PairProperty Property) (m : Monito
   pairs-exactly = (agree-no-clash Property R m S bs p, λ N. pairs-any-order N .states)
 
 -- "For every reached monitor and every list of gets, all orders of the list leave equal states exactly when no two gets in it, each granted
--- if it came alone, would together break the star property."
-pub gets-agree-exactly : (m : Monitor) → Reached m → (bs : List (List ℕ)) → Each (IsGet (m .profile)) bs → OrdersAgree bs m ↔ NoClash Star bs m
-gets-agree-exactly m r bs p = pairs-exactly Star star-pairs m (sound-reached m r) bs p
+-- if it came alone, would together break the star property", and from change request §10 on "star or wall"
+pub gets-agree-exactly : (m : Monitor) → Reached m → (bs : List (List ℕ)) → Each (IsGet (m .profile)) bs → OrdersAgree bs m ↔ NoClash StarAndWall bs m
+gets-agree-exactly m r bs p = pairs-exactly StarAndWall both-pairs m (sound-reached m r) bs p
 
 -- and where they leave equal states, each get is granted in all orders or refused in all
 pub gets-agree-grants : (m : Monitor) → Reached m → (bs : List (List ℕ)) → Each (IsGet (m .profile)) bs → OrdersAgree bs m → AnyOrder bs m
 gets-agree-grants m r bs p agree =
     let S = sound-reached m r in
-    pairs-any-order Star star-pairs m S bs p (pairs-exactly Star star-pairs m S bs p .0 agree)
+    pairs-any-order StarAndWall both-pairs m S bs p (pairs-exactly StarAndWall both-pairs m S bs p .0 agree)
 
 -- where two clash, the two orders that begin with them differ
-pub clash-orders-differ : (m : Monitor) → Reached m → (b c : List ℕ) (rest : List (List ℕ)) → Each (IsGet (m .profile)) (b ∷ c ∷ rest) → Clash Star m b c
+pub clash-orders-differ : (m : Monitor) → Reached m → (b c : List ℕ) (rest : List (List ℕ)) → Each (IsGet (m .profile)) (b ∷ c ∷ rest) → Clash StarAndWall m b c
     → after (b ∷ c ∷ rest) m ≢ after (c ∷ b ∷ rest) m
-clash-orders-differ m r b c rest p = clash-apart Star star-pairs m (sound-reached m r) b c rest (p .0) (p .1 .0) (p .1 .1)
+clash-orders-differ m r b c rest p = clash-apart StarAndWall both-pairs m (sound-reached m r) b c rest (p .0) (p .1 .0) (p .1 .1)
 
 -- and no list of gets, in whatever order, leads to a state that holds both accesses
-pub clash-never-both : (m : Monitor) → Reached m → (b c : List ℕ) (K : Clash Star m b c) (ds : List (List ℕ)) → Each (IsGet (m .profile)) ds
+pub clash-never-both : (m : Monitor) → Reached m → (b c : List ℕ) (K : Clash StarAndWall m b c) (ds : List (List ℕ)) → Each (IsGet (m .profile)) ds
     → Holds (after ds m) (K .s) (K .p) (K .x) → Holds (after ds m) (K .t) (K .q) (K .y) → ⊥
-clash-never-both m r b c K ds p = never-both Star star-pairs m (sound-reached m r) b c K ds p
+clash-never-both m r b c K ds p = never-both StarAndWall both-pairs m (sound-reached m r) b c K ds p
 
 -- so in no list of gets, in whatever order, are both granted
-pub clash-not-both-granted : (m : Monitor) → Reached m → (b c : List ℕ) → Clash Star m b c → (ds : List (List ℕ)) → Each (IsGet (m .profile)) ds
+pub clash-not-both-granted : (m : Monitor) → Reached m → (b c : List ℕ) → Clash StarAndWall m b c → (ds : List (List ℕ)) → Each (IsGet (m .profile)) ds
     → (i j : ℕ) → i < length ds → j < length ds → getD ds i [] ≡ b → getD ds j [] ≡ c → GrantedAt ds m i → GrantedAt ds m j → ⊥
-clash-not-both-granted m r = not-both-granted Star star-pairs m (sound-reached m r)
+clash-not-both-granted m r = not-both-granted StarAndWall both-pairs m (sound-reached m r)
 
 -- a get does not clash with itself: "A list that holds the same get twice is included"
-pub never-itself : (m : Monitor) → Reached m → (b : List ℕ) → IsGet (m .profile) b → Clash Star m b b → ⊥
+pub never-itself : (m : Monitor) → Reached m → (b : List ℕ) → IsGet (m .profile) b → Clash StarAndWall m b b → ⊥
 never-itself m r b g K = clash-orders-differ m r b b [] (g, (g, tt)) K refl
 
 -- which of two is called the first does not matter
-pub clash-turned : (m : Monitor) → Reached m → (b c : List ℕ) → Clash Star m b c → Clash Star m c b
+pub clash-turned : (m : Monitor) → Reached m → (b c : List ℕ) → Clash StarAndWall m b c → Clash StarAndWall m c b
 unfolding changed
 clash-turned m r b c K =
     record {
@@ -101,7 +103,7 @@ clash-turned m r b c K =
       second = K .first;
       first-alone = K .second-alone;
       second-alone = K .first-alone;
-      together = λ T. K .together (subst Star (gets-comm m (sound-reached m r .formed) (K .s) (K .p) (K .x) (K .t) (K .q) (K .y)) T);
+      together = λ T. K .together (subst StarAndWall (gets-comm m (sound-reached m r .formed) (K .s) (K .p) (K .x) (K .t) (K .q) (K .y)) T);
     }
 
 -- ---- two gets by their replies
@@ -119,25 +121,29 @@ module _ (m : Monitor) (S : Sound m) (b c : List ℕ) (s p : ℕ) (x : Mode) (t 
   unfolding changed
   after-first = ap (λ (r : Response). r .monitor) (respond-says b (Get s p x) m says-first ∙ step-granted (Get s p x) m first-granted)
 
-  -- where they would together break star, the second gets 9 there, and else it is granted
-  second-nine : (Star (withAccess (withAccess m s p x) t q y) → ⊥) → reply c (respond b m .monitor) ≡ 9
-  second-nine n =
-      let broken = refused-after-first m S s p x t q y (decode-range (m .profile) b _ says-first) (decode-range (m .profile) c _ says-second) first-granted second-granted n in
+  -- where they would together break star or the wall, the second gets 9 or 18 there, and else it is granted
+  refused-there : (d : Decision) → refuses d ≡ true → checks (Get t q y) (withAccess m s p x) ≡ d → reply c (respond b m .monitor) ≡ number d
+  refused-there d r broken =
       ap (reply c) after-first ∙ ap (λ (r : Response). number (r .decision)) (respond-says c (Get t q y) (withAccess m s p x) says-second)
-      ∙ ap (λ (r : Response). number (r .decision)) (step-refused (Get t q y) (withAccess m s p x) (ap refuses broken)) ∙ ap number broken
+      ∙ ap (λ (r : Response). number (r .decision)) (step-refused (Get t q y) (withAccess m s p x) (ap refuses broken ∙ r)) ∙ ap number broken
 
-  second-below : Star (withAccess (withAccess m s p x) t q y) → reply c (respond b m .monitor) < 2
+  second-refused : (StarAndWall (withAccess (withAccess m s p x) t q y) → ⊥) → (reply c (respond b m .monitor) ≡ 9) ⊎ (reply c (respond b m .monitor) ≡ 18)
+  second-refused n =
+      ⊎-elim (λ e. inl (refused-there StarBroken refl e)) (λ e. inr (refused-there WallBroken refl e))
+      (refused-after-first m S s p x t q y (decode-range (m .profile) b _ says-first) (decode-range (m .profile) c _ says-second) first-granted second-granted n)
+
+  second-below : StarAndWall (withAccess (withAccess m s p x) t q y) → reply c (respond b m .monitor) < 2
   second-below T =
       subst (λ (n : Monitor). reply c n < 2) (sym after-first)
       (says-granted c (Get t q y) (withAccess m s p x) says-second .1
       (granted-after-first m S s p x t q y (decode-range (m .profile) b _ says-first) (decode-range (m .profile) c _ says-second) first-granted second-granted T))
 
--- two gets clash exactly where each gets 0 or 1 if it came alone, and the second gets 9 after the first
+-- two gets clash exactly where each gets 0 or 1 if it came alone, and the second gets 9 or 18 after the first
 pub clash-by-replies : (m : Monitor) → Reached m → (b c : List ℕ) → IsGet (m .profile) b → IsGet (m .profile) c
-    → Clash Star m b c ↔ ((reply b m < 2) × (reply c m < 2) × (reply c (respond b m .monitor) ≡ 9))
+    → Clash StarAndWall m b c ↔ ((reply b m < 2) × (reply c m < 2) × ((reply c (respond b m .monitor) ≡ 9) ⊎ (reply c (respond b m .monitor) ≡ 18)))
 clash-by-replies m r b c v w =
     let S = sound-reached m r in (
-      λ K. (K .first-alone, K .second-alone, second-nine m S b c _ _ _ _ _ _ (K .first) (K .second) (K .first-alone) (K .second-alone) (K .together)),
+      λ K. (K .first-alone, K .second-alone, second-refused m S b c _ _ _ _ _ _ (K .first) (K .second) (K .first-alone) (K .second-alone) (K .together)),
       λ h. record {
         s = v .0;
         p = v .1;
@@ -149,6 +155,9 @@ clash-by-replies m r b c v w =
         second = w .3;
         first-alone = h .0;
         second-alone = h .1;
-        together = λ T. absurd (omega (arith, second-below m S b c _ _ _ _ _ _ (v .3) (w .3) (h .0) (h .1) T, h .2));
+        together = λ T.
+            let low = second-below m S b c _ _ _ _ _ _ (v .3) (w .3) (h .0) (h .1) T in
+            ⊎-elim (λ (e : reply c (respond b m .monitor) ≡ 9). absurd (omega (arith, low, e)))
+            (λ (e : reply c (respond b m .monitor) ≡ 18). absurd (omega (arith, low, e))) (h .2);
       },
     )

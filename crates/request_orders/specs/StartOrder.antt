@@ -1,4 +1,4 @@
--- Lists of gets in any order ("Start order of tasks", change request §6).
+-- Lists of gets in any order ("Start order of tasks", change request §6; with the wall, change request §10).
 -- Assumes nothing.
 use Prim.Native.Nat.{ℕ, _<_}
 use mathlib.Core.Path.{_≡_}
@@ -9,6 +9,7 @@ use Rattle.model.specs.declared.Monitor.{Monitor}
 use Rattle.model.specs.declared.Mode.{Mode}
 use Rattle.model.specs.declared.Request.the-variants.{Get}
 use Rattle.model.specs.declared.Decoded.the-variants.{Says}
+use Rattle.model.specs.Properties.{Star, Wall}
 use Rattle.model.specs.Requests.{decode}
 use Rattle.model.specs.Runs.{reply}
 use Rattle.invariants.specs.Access.{withAccess}
@@ -16,6 +17,10 @@ use Rattle.invariants.specs.Access.{withAccess}
 -- "every list of gets": each element is bytes that say a get to a monitor of the profile
 abbrev pub IsGet : Profile → List ℕ → Type 0
 IsGet k b = (s : ℕ) × (o : ℕ) × (x : Mode) × (decode k b ≡ Says (Get s o x))
+
+-- what two gets must not break: "star or wall" (change request §10)
+abbrev pub StarAndWall : Monitor → Type 0
+StarAndWall m = Star m × Wall m
 
 -- "two gets .., each granted if it came alone, would together break" a property of states: b says that s gets x on p, c that t gets y
 -- on q, the reply to each in m is 0 or 1, and the state with both accesses added does not have the property

@@ -25,12 +25,12 @@ reached-at k = record { beginning = table widest tableW; accepted = table-met; l
 pub step-8-kept : KeptByHeld (stateAt 7) 1 1 Append × Holds (stateAt 7) 1 0 Read × (entry Read Append ≡ wanted)
 step-8-kept =
     let g = get-by-table (stateAt 7) (reached-at 7) (getD markedBytes 7 []) 1 1 Append (shown .above-says) in
-    (g (inl (omega (arith, shown .above-granted))) .0 .0 (omega (arith, shown .above-granted)), shown .first-held, refl)
+    (g (inl (omega (arith, shown .above-granted))) .0 .0 (inl (omega (arith, shown .above-granted))), shown .first-held, refl)
 
 -- step 13: s1 wants a on o0 and is refused with 9, so that with one of its accesses the entry is not kept
 pub step-13-not-kept : KeptByHeld (stateAt 12) 1 0 Append → ⊥
 step-13-not-kept =
-    get-by-table (stateAt 12) (reached-at 12) (getD markedBytes 12 []) 1 0 Append (shown .below-says) (inr (shown .below-refused)) .1 .0 (shown .below-refused)
+    get-by-table (stateAt 12) (reached-at 12) (getD markedBytes 12 []) 1 0 Append (shown .below-says) (inr (inl (shown .below-refused))) .1 .0 (shown .below-refused)
 
 -- it is r on o1: the entry says wanted, and the label of o0 does not dominate that of o1
 pub step-13-entry : Holds (stateAt 12) 1 1 Read × (entry Read Append ≡ wanted) × (Kept (entry Read Append) (object (stateAt 12) 1 .label) (object (stateAt 12) 0 .label) → ⊥)

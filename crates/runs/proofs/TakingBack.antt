@@ -16,7 +16,8 @@ use Rattle.model.specs.Modes.{has, add}
 use Rattle.model.specs.State.{widest, object, rightsOf, heldBy}
 use Rattle.model.specs.Profiles.{profileFits, labelInside, absentBeyond, levelsInside}
 use Rattle.model.specs.Requests.{fields, modeAllowed, unusedZero, fieldsFormed, within, wellFormed, request, creation, decodeFields, decode, pack, encode}
-use Rattle.model.specs.Rules.{simpleAll, starPair, starFrom, starFor, starAll, notLowered, changed, already, checks, answer, step}
+use Rattle.model.specs.Companies.{company, compatible, confined}
+use Rattle.model.specs.Rules.{simpleAll, starPair, starFrom, starFor, starAll, notLowered, changed, already, checks, answer, step, wallPair, wallFrom, wallFor, wallAll}
 use Rattle.model.specs.Runs.{respond}
 use Rattle.model.specs.Journal.{Journaled, entered, withoutEntries, ask, restored, takeBack, takingBack, Act, asks, takesBack, acted, answers}
 use Rattle.model.specs.Reading.{labelFrom, labelForm, tableFrom, tableForm, tableChecks, begin, readTable}
@@ -47,7 +48,7 @@ pub mistaken-delete : (answers (of commissioned ++ mistaken) W ≡ 0 ∷ 0 ∷ 0
     × (heldBy (object (left (table widest tableW) (of commissioned ++ mistaken)) 3) 0 ≡ 8)
     × (object (left (table widest tableW) (of commissioned ++ mistaken)) 3 .label ≡ Present (level 1 0x0001))
     × (left (table widest tableW) (of commissioned ++ mistaken) ≡ left (table widest tableW) (of commissioned))
-unfolding tableW bitsToBytes pack tableFrom tableForm labelForm labelFrom tableChecks profileFits absentBeyond levelsInside labelInside begin readTable allZero bytesToBits toBits odd cut fromBits field decode decodeFields fields wellFormed fieldsFormed within modeAllowed unusedZero request respond step acted answers ask entered takeBack takingBack restored checks already changed starAll starFor starFrom starPair implies unless answer simpleAll has add notLowered sameLabel dominates levelDominates compare
+unfolding tableW bitsToBytes pack tableFrom tableForm labelForm labelFrom tableChecks profileFits absentBeyond levelsInside labelInside begin readTable allZero bytesToBits toBits odd cut fromBits field decode decodeFields fields wellFormed fieldsFormed within modeAllowed unusedZero request respond step acted answers ask entered takeBack takingBack restored checks already changed starAll starFor starFrom starPair wallAll wallFor wallFrom wallPair compatible confined company implies unless answer simpleAll has add notLowered sameLabel dominates levelDominates compare
 mistaken-delete = (refl, refl, refl, refl, refl)
 
 -- ---- "up to 32 entries": 33 requests with reply 0, and 33 takings-back
@@ -68,10 +69,10 @@ pub full-journal : (answers thirtyThree W ≡ replicate 33 0)
     × (answers (replicate 33 takesBack) (acted thirtyThree W) ≡ replicate 32 0 ++ (17 ∷ []))
     × (object (acted (replicate 33 takesBack) (acted thirtyThree W) .monitor) 3 .live ≡ true)
     × (acted (replicate 33 takesBack) (acted thirtyThree W) .monitor ≡ left (table widest tableW) (of (create ∷ [])))
-unfolding again tableW bitsToBytes pack tableFrom tableForm labelForm labelFrom tableChecks profileFits absentBeyond levelsInside labelInside begin readTable allZero bytesToBits toBits odd cut fromBits field decode decodeFields fields wellFormed fieldsFormed within modeAllowed unusedZero request respond step acted answers ask entered takeBack takingBack restored checks already changed starAll starFor starFrom starPair implies unless answer simpleAll has add notLowered sameLabel dominates levelDominates compare
+unfolding again tableW bitsToBytes pack tableFrom tableForm labelForm labelFrom tableChecks profileFits absentBeyond levelsInside labelInside begin readTable allZero bytesToBits toBits odd cut fromBits field decode decodeFields fields wellFormed fieldsFormed within modeAllowed unusedZero request respond step acted answers ask entered takeBack takingBack restored checks already changed starAll starFor starFrom starPair wallAll wallFor wallFrom wallPair compatible confined company implies unless answer simpleAll has add notLowered sameLabel dominates levelDominates compare
 full-journal = (refl, refl, refl, refl)
 
 -- what is asked of the n requests is met: of these 33 replies each is 0, of the first 32 behind the create too
 pub zeros-met : (zeros (answers thirtyThree W) ≡ 33) × (zeros (answers (of (again 16)) (acted (of (create ∷ [])) W)) ≡ 32)
-unfolding again zeros tableW bitsToBytes pack tableFrom tableForm labelForm labelFrom tableChecks profileFits absentBeyond levelsInside labelInside begin readTable allZero bytesToBits toBits odd cut fromBits field decode decodeFields fields wellFormed fieldsFormed within modeAllowed unusedZero request respond step acted answers ask entered checks already changed starAll starFor starFrom starPair implies unless answer simpleAll has add notLowered sameLabel dominates levelDominates compare
+unfolding again zeros tableW bitsToBytes pack tableFrom tableForm labelForm labelFrom tableChecks profileFits absentBeyond levelsInside labelInside begin readTable allZero bytesToBits toBits odd cut fromBits field decode decodeFields fields wellFormed fieldsFormed within modeAllowed unusedZero request respond step acted answers ask entered checks already changed starAll starFor starFrom starPair wallAll wallFor wallFrom wallPair compatible confined company implies unless answer simpleAll has add notLowered sameLabel dominates levelDominates compare
 zeros-met = (refl, refl)

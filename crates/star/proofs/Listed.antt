@@ -1,29 +1,30 @@
 -- Objects that pass a test, listed by their numbers in an array; the star property of one subject by two such lists.
 -- Assumes nothing.
-use Prim.Native.Nat.{ℕ, zero, suc, _+_, _<_, _≤_, min}
+use Prim.Native.Nat.{ℕ, _+_, _<_, _≤_, min}
 use native.Mathlib.Omega.{arith}
 use native.Mathlib.Nat.{eq-or-lt-of-le}
-use mathlib.Core.Path.{_≡_, refl, sym, ap, ap₂, _∙_}
+use mathlib.Core.Path.{_≡_, sym, ap, ap₂, _∙_}
 use mathlib.Core.Logic.{_↔_, ⊎-elim}
 use mathlib.Core.Bool.{Bool, true, false, not}
-use mathlib.Core.List.{List, [], _∷_}
+use mathlib.Core.List.{List}
 use lib.ListN.{length, getD, set, length-set}
 use lib.Dec.{eqb}
 use borrow.Author.Tests.{eqb-true}
 use lib.Seq.{getD-set-same, getD-set-other}
 use Rattle.bits.specs.Bits.{bit}
 use Rattle.model.specs.declared.Object.{Object}
-use Rattle.model.specs.Tests.{allBelow, allOf}
+use Rattle.model.specs.Tests.{allBelow}
 use Rattle.model.specs.Levels.{Dominates, dominates}
 use Rattle.model.specs.declared.Mode.{Mode}
 use Rattle.model.specs.Modes.{has, observes, alters, anyObserves, anyAlters, anyNeedsLabel}
 use Rattle.model.specs.State.{heldBy}
 use Rattle.model.specs.Rules.{starFor, starFrom, starPair}
-use Rattle.model.proofs.Tests.{split, apart, and-both, or-left, or-right, not-on, cond-all, implies-in, implies-out, below-out, below-in, below-false, all-at}
+use Rattle.model.proofs.Tests.{split, apart, or-left, or-right, not-on, cond-all, below-out, below-in}
 use Rattle.model.proofs.Modes.{any-observes, any-alters, observes-some, alters-some}
 use Rattle.model.proofs.Levels.{dominates-decides}
 use Rattle.model.proofs.ModePairs.{entry-star}
 use Rattle.star.specs.Idle.{free, nothingHeld, idle}
+use Rattle.star.proofs.Pairs.{pairs-listed}
 use Rattle.star.specs.Lists.{readBy, alteredBy, busyFor, Listed, itself, out-of, Numbers, Covers, labelAt, pairsKept, TabledFor}
 
 pub listed-none : (f : ℕ → Bool) (from : ℕ → ℕ) (a : List ℕ) → length a ≡ 64 → Listed f from a 0 0
@@ -123,11 +124,6 @@ module _ (low end s : ℕ) (g : low ≤ s) (h : s < end) (w : end ≤ 16) (at : 
         alters = λ k b t. L .complete k b (held-busy k (or-right (readBy s at k) (alteredBy s at k) t));
       }
 
--- a test passes at each element, where it passes at each index below the length
-all-below : {A : Type 0} (f : A → Bool) (d : A) (l : List A) → ((k : ℕ) → k < length l → f (getD l k d) ≡ true) → allOf f l ≡ true
-all-below f d [] h = refl
-all-below f d (x ∷ xs) h = and-both (h zero (omega arith)) (all-below f d xs (λ k w. h (suc k) (omega arith)))
-
 -- a pair that is not in order
 pub pair-apart : (at : ℕ → Object) (read : List ℕ) (r : ℕ) (altered : List ℕ) (a i : ℕ) → i < r → (j : ℕ) → j < a → dominates (labelAt at altered j) (labelAt at read i) ≡ false
     → pairsKept at read r altered a ≡ false
@@ -135,43 +131,14 @@ unfolding pairsKept
 pair-apart at read r altered a i hi j hj e =
     split (pairsKept at read r altered a) (λ t. apart (below-out a _ (below-out r _ t i hi) j hj) e) (λ f. f)
 
--- `at` has what the list of the objects has
-module _ (s : ℕ) (l : List Object) (n : length l ≡ 64) (d : Object) (at : ℕ → Object) (same : (k : ℕ) → k < 64 → getD l k d ≡ at k)
-    (read altered : List ℕ) (r a : ℕ) (R : Listed (readBy s at) itself read r 64) (A : Listed (alteredBy s at) itself altered a 64) where
-  -- every listed pair is in order
-  pub star-listed : ((i : ℕ) → i < r → (j : ℕ) → j < a → dominates (labelAt at altered j) (labelAt at read i) ≡ true) → starFor s l ≡ true
-  unfolding starFor starFrom starPair
-  star-listed h =
-      all-below (starFrom s l) d l
-      (λ p hp. implies-in _ _ (λ t. all-below (starPair s (getD l p d)) d l
-      (λ q hq. implies-in _ _ (λ u.
-      let i = R .complete p (omega arith) (ap (λ (x : Object). anyObserves (heldBy x s)) (sym (same p (omega arith))) ∙ t) in
-      let j = A .complete q (omega arith) (ap (λ (x : Object). anyAlters (heldBy x s)) (sym (same q (omega arith))) ∙ u) in
-      ap₂ (λ (x y : Object). dominates (y .label) (x .label)) (same p (omega arith)) (same q (omega arith))
-      ∙ sym (ap₂ (λ (x y : ℕ). dominates (at y .label) (at x .label)) (i .1 .1) (j .1 .1)) ∙ h (i .0) (i .1 .0) (j .0) (j .1 .0)))))
-
-  -- a listed pair that is not
-  pub star-unlisted : (i : ℕ) → i < r → (j : ℕ) → j < a → dominates (labelAt at altered j) (labelAt at read i) ≡ false → starFor s l ≡ false
-  unfolding starFor starFrom starPair
-  star-unlisted i hi j hj e =
-      let p = R .sound i hi in
-      let q = A .sound j hj in
-      let from = same (getD read i 0) (p .0) in
-      let to = same (getD altered j 0) (q .0) in
-      split (starFor s l)
-      (λ t. apart
-      (implies-out _ _ (all-at (starPair s (getD l (getD read i 0) d)) d l
-      (implies-out _ _ (all-at (starFrom s l) d l t (getD read i 0) (omega (arith, p .0))) (ap (λ (x : Object). anyObserves (heldBy x s)) from ∙ p .1)) (getD altered j 0) (omega (arith, q .0)))
-      (ap (λ (x : Object). anyAlters (heldBy x s)) to ∙ q .1)) (ap₂ (λ (x y : Object). dominates (y .label) (x .label)) from to ∙ e))
-      (λ f. f)
-
-  -- all pairs at once
-  pub star-pairs : starFor s l ≡ pairsKept at read r altered a
-  unfolding pairsKept
-  star-pairs =
-      split (pairsKept at read r altered a)
-      (λ t. star-listed (λ i hi. below-out a _ (below-out r _ t i hi)) ∙ sym t)
-      (λ f. below-false r _ f (λ i hi g. below-false a _ g (λ j hj e. star-unlisted i hi j hj e)) ∙ sym f)
+-- going over the two lists is going over all objects; `at` has what the list of the objects has
+pub star-pairs : (s : ℕ) (l : List Object) → length l ≡ 64 → (d : Object) (at : ℕ → Object) → ((k : ℕ) → k < 64 → getD l k d ≡ at k)
+    → (read altered : List ℕ) (r a : ℕ) → Listed (readBy s at) itself read r 64 → Listed (alteredBy s at) itself altered a 64
+    → starFor s l ≡ pairsKept at read r altered a
+unfolding starFor starFrom starPair pairsKept
+star-pairs s l n d at same read altered r a R A =
+    pairs-listed (λ (p : Object). anyObserves (heldBy p s)) (λ (q : Object). anyAlters (heldBy q s)) (λ (p q : Object). dominates (q .label) (p .label)) l n d at same
+    read altered r a R A
 
 -- going over the two lists is going over the table for every pair of accesses of the subject
 module _ (s : ℕ) (at : ℕ → Object) (read altered : List ℕ) (r a : ℕ) (R : Listed (readBy s at) itself read r 64) (A : Listed (alteredBy s at) itself altered a 64) where

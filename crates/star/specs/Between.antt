@@ -1,4 +1,4 @@
--- The star property of the subjects from one on to below another: of one subject in get, of all in change of level and in an image.
+-- A test of the subjects from one on to below another, and the star property so: of one subject in get, of all in change of level and in an image.
 -- Assumes nothing.
 use Prim.Native.Nat.{ℕ}
 use mathlib.Core.Bool.{Bool, _&&_}
@@ -9,5 +9,9 @@ use Rattle.model.specs.Tests.{allBelow, implies}
 use Rattle.model.specs.State.{subjectCount}
 use Rattle.model.specs.Rules.{starFor}
 
-unfoldable pub starBetween : ℕ → ℕ → List Object → Bool
-starBetween low high l = allBelow subjectCount (λ (s : ℕ). implies (leb low s && ltb s high) (starFor s l))
+-- a test passes at each subject from low to below high
+unfoldable pub between : ℕ → ℕ → (ℕ → Bool) → Bool
+between low high f = allBelow subjectCount (λ (s : ℕ). implies (leb low s && ltb s high) (f s))
+
+abbrev pub starBetween : ℕ → ℕ → List Object → Bool
+starBetween low high l = between low high (λ (s : ℕ). starFor s l)

@@ -26,7 +26,8 @@ use unit::held_by;
 use unit::held_row;
 use unit::label_of;
 
-fn one_if(b: bool) -> usize
+// A test as a number, so that a count goes up where it passes, without a branch.
+pub fn one_if(b: bool) -> usize
     ensures { λ r. ⌜ r ≡ bit b ⌝ }
 {
     if b { 1 } else { 0 }

@@ -1,10 +1,10 @@
--- The tests of one get and of two gets decide what change request §6 says of them, on every reached monitor.
+-- The tests of one get and of two gets decide what change requests §6 and §10 say of them, on every reached monitor.
 -- Assumes nothing.
 use Prim.Native.Nat.{ℕ, _<_}
 use native.Mathlib.Omega.{arith}
 use mathlib.Core.Path.{_≡_, refl, sym, ap, ap₂, _∙_}
 use mathlib.Core.Logic.{_↔_}
-use mathlib.Core.Bool.{true, not, _&&_}
+use mathlib.Core.Bool.{Bool, true, not, _&&_}
 use mathlib.Core.List.{List}
 use lib.Dec.{eqb}
 use borrow.Author.Tests.{eqb-true, eq-eqb, leb-false, lt-leb}
@@ -15,8 +15,8 @@ use Rattle.model.specs.declared.Request.the-variants.{Get}
 use Rattle.model.specs.declared.Decoded.the-variants.{Says}
 use Rattle.model.specs.declared.Response.{Response}
 use Rattle.model.specs.State.{object}
-use Rattle.model.specs.Properties.{Star}
-use Rattle.model.specs.ModePairs.{entry, kept}
+use Rattle.model.specs.Companies.{WallAsks, wallKept}
+use Rattle.model.specs.ModePairs.{entry, Kept, kept}
 use Rattle.model.specs.Decisions.{number, refuses}
 use Rattle.model.specs.Requests.{decode}
 use Rattle.model.specs.Rules.{step}
@@ -25,11 +25,12 @@ use Rattle.model.specs.Beginnings.{Reached}
 use Rattle.model.proofs.Tests.{split, clash, apart, and-left, and-right, and-both, not-on}
 use Rattle.model.proofs.Requests.{decode-range}
 use Rattle.model.proofs.ModePairs.{kept-decides}
+use Rattle.model.proofs.Companies.{wall-kept-decides}
 use Rattle.invariants.specs.Access.{withAccess}
 use Rattle.images.proofs.Reached.{sound-reached, respond-says}
-use Rattle.request_orders.specs.StartOrder.{IsGet, Clash}
+use Rattle.request_orders.specs.StartOrder.{IsGet, StarAndWall, Clash}
 use Rattle.request_orders.proofs.Commuting.{says-granted}
-use Rattle.request_orders.proofs.TwoGets.{together-by-table}
+use Rattle.request_orders.proofs.TwoGets.{together-by-pair}
 use Rattle.start_order.specs.declared.wanted.Wanted.{Wanted}
 use Rattle.start_order.specs.declared.wanted.Wanted.the-variants.{Access, Nothing}
 use Rattle.start_order.specs.Answers.{wantedBy, wanted, isAccess, alone, breaks, clashes}
@@ -85,30 +86,42 @@ breaks-accesses m (Access s p x) (Access t q y) e = (refl, refl)
 
 -- the test of two accesses
 breaks-at : (m : Monitor) (b c : List ℕ) (s p : ℕ) (x : Mode) (t q : ℕ) (y : Mode) → decode (m .profile) b ≡ Says (Get s p x) → decode (m .profile) c ≡ Says (Get t q y)
-    → breaks m (wanted (m .profile) b) (wanted (m .profile) c) ≡ (eqb s t && not (kept (entry x y) (object m p .label) (object m q .label)))
+    → breaks m (wanted (m .profile) b) (wanted (m .profile) c) ≡ (eqb s t && not (kept (entry x y) (object m p .label) (object m q .label) && wallKept x y (object m p .companies) (object m q .companies)))
 unfolding breaks
 breaks-at m b c s p x t q y d e = ap₂ (breaks m) (wanted-get (m .profile) b s p x d) (wanted-get (m .profile) c t q y e)
 
 module _ (m : Monitor) (R : Reached m) (b c : List ℕ) (s p : ℕ) (x : Mode) (t q : ℕ) (y : Mode) (d : decode (m .profile) b ≡ Says (Get s p x))
     (e : decode (m .profile) c ≡ Says (Get t q y)) (g : reply b m < 2) (h : reply c m < 2) where
-  -- "would together break the star property": the table of mode pairs says it
-  breaks-star : (breaks m (wanted (m .profile) b) (wanted (m .profile) c) ≡ true) ↔ (Star (withAccess (withAccess m s p x) t q y) → ⊥)
-  breaks-star =
-      let table = together-by-table m (sound-reached m R) s p x t q y (decode-range (m .profile) b _ d) (decode-range (m .profile) c _ e) (says-granted b _ m d .0 g) (says-granted c _ m e .0 h) in
-      let test = breaks-at m b c s p x t q y d e in
-      let decides = kept-decides (entry x y) (object m p .label) (object m q .label) in (
+  -- what is asked of the two objects, as a test and as it is said
+  asked : Bool
+  asked = kept (entry x y) (object m p .label) (object m q .label) && wallKept x y (object m p .companies) (object m q .companies)
+
+  asked-decides : (asked ≡ true) ↔ (Kept (entry x y) (object m p .label) (object m q .label) × WallAsks x y (object m p .companies) (object m q .companies))
+  unfolding asked
+  asked-decides =
+      let labels = kept-decides (entry x y) (object m p .label) (object m q .label) in
+      let numbers = wall-kept-decides x y (object m p .companies) (object m q .companies) in (
+        λ w. (labels .0 (and-left (kept (entry x y) (object m p .label) (object m q .label)) _ w), numbers .0 (and-right (kept (entry x y) (object m p .label) (object m q .label)) _ w)),
+        λ h. and-both (labels .1 (h .0)) (numbers .1 (h .1)),
+      )
+
+  -- "would together break star or wall": the table of mode pairs and the rules of the wall say it
+  breaks-either : (breaks m (wanted (m .profile) b) (wanted (m .profile) c) ≡ true) ↔ (StarAndWall (withAccess (withAccess m s p x) t q y) → ⊥)
+  unfolding asked
+  breaks-either =
+      let pair = together-by-pair m (sound-reached m R) s p x t q y (decode-range (m .profile) b _ d) (decode-range (m .profile) c _ e) (says-granted b _ m d .0 g) (says-granted c _ m e .0 h) in
+      let test = breaks-at m b c s p x t q y d e in (
         λ k T.
             let both = sym test ∙ k in
             let same = eqb-true s t (and-left (eqb s t) _ both) in
-            apart (decides .1 (table .0 T same)) (not-on _ (and-right (eqb s t) _ both)),
+            apart (asked-decides .1 (pair .0 T same)) (not-on _ (and-right (eqb s t) _ both)),
         λ n. split (breaks m (wanted (m .profile) b) (wanted (m .profile) c)) (λ k. k)
-            (λ k. absurd (n (table .1 (λ same. decides .0
-            (split (kept (entry x y) (object m p .label) (object m q .label)) (λ w. w)
-            (λ w. apart (test ∙ and-both (eq-eqb s t same) (ap not w)) k)))))),
+            (λ k. absurd (n (pair .1 (λ same. asked-decides .0
+            (split asked (λ w. w) (λ w. apart (test ∙ and-both (eq-eqb s t same) (ap not w)) k)))))),
       )
 
 -- the test of two byte strings is that they are gets that clash
-pub clashes-exactly : (m : Monitor) → Reached m → (b c : List ℕ) → (clashes m b c ≡ true) ↔ Clash Star m b c
+pub clashes-exactly : (m : Monitor) → Reached m → (b c : List ℕ) → (clashes m b c ≡ true) ↔ Clash StarAndWall m b c
 unfolding clashes
 clashes-exactly m R b c = (
   λ k.
@@ -128,9 +141,9 @@ clashes-exactly m R b c = (
         second = w .3;
         first-alone = first .1;
         second-alone = second .1;
-        together = breaks-star m R b c _ _ _ _ _ _ (v .3) (w .3) (first .1) (second .1) .0 (and-right (alone m (wanted (m .profile) c)) _ later);
+        together = breaks-either m R b c _ _ _ _ _ _ (v .3) (w .3) (first .1) (second .1) .0 (and-right (alone m (wanted (m .profile) c)) _ later);
       },
   λ K. and-both (alone-exactly m b .1 ((K .s, K .p, K .x, K .first), K .first-alone))
       (and-both (alone-exactly m c .1 ((K .t, K .q, K .y, K .second), K .second-alone))
-      (breaks-star m R b c _ _ _ _ _ _ (K .first) (K .second) (K .first-alone) (K .second-alone) .1 (K .together))),
+      (breaks-either m R b c _ _ _ _ _ _ (K .first) (K .second) (K .first-alone) (K .second-alone) .1 (K .together))),
 )

@@ -12,13 +12,12 @@ use lib.Dec.{ltb}
 use borrow.Author.Tests.{ltb-true, ltb-false, lt-ltb}
 use Rattle.model.specs.declared.Profile.{Profile}
 use Rattle.model.specs.declared.Monitor.{Monitor}
-use Rattle.model.specs.Properties.{Star}
 use Rattle.model.specs.Beginnings.{Reached}
 use Rattle.model.proofs.Tests.{apart, cond-all, and-left, and-right, and-both, not-on, not-off, le-or-lt}
 use Rattle.orders.specs.Orders.{Each}
 use Rattle.orders.proofs.Places.{each-at, each-in}
 use Rattle.request_orders.specs.AnyOrder.{OrdersAgree}
-use Rattle.request_orders.specs.StartOrder.{IsGet, Clash}
+use Rattle.request_orders.specs.StartOrder.{IsGet, Clash, StarAndWall}
 use Rattle.request_orders.proofs.StartOrder.{gets-agree-exactly}
 use Rattle.start_order.specs.declared.StartOrder.{StartOrder}
 use Rattle.start_order.specs.declared.StartOrder.the-variants.{Agree, Clash as Clashing, NoGet, TooMany}
@@ -61,16 +60,16 @@ module _ (m : Monitor) (R : Reached m) (bs : List (List ℕ)) (G : Each (IsGet (
   partner-means i = first-means (length bs) (isPartner m bs i)
 
   -- two that clash: the second is a partner of the first
-  clash-partner : (k l : ℕ) → k < l → l < length bs → Clash Star m (getD bs k []) (getD bs l []) → isPartner m bs k l ≡ true
+  clash-partner : (k l : ℕ) → k < l → l < length bs → Clash StarAndWall m (getD bs k []) (getD bs l []) → isPartner m bs k l ≡ true
   clash-partner k l a b K = and-both (lt-ltb k l a) (clashes-exactly m R _ _ .1 K)
 
   -- so the first of them has a partner, no later than the second
-  clash-within : (k l : ℕ) → k < l → l < length bs → Clash Star m (getD bs k []) (getD bs l []) → partner m bs k ≤ l
+  clash-within : (k l : ℕ) → k < l → l < length bs → Clash StarAndWall m (getD bs k []) (getD bs l []) → partner m bs k ≤ l
   clash-within k l a b K =
       ⊎-elim (λ (w : partner m bs k ≤ l). w)
       (λ (w : l < partner m bs k). apart (clash-partner k l a b K) (partner-means k .none l w)) (le-or-lt (partner m bs k) l)
 
-  clash-with : (k l : ℕ) → k < l → l < length bs → Clash Star m (getD bs k []) (getD bs l []) → firstWith m bs ≤ k
+  clash-with : (k l : ℕ) → k < l → l < length bs → Clash StarAndWall m (getD bs k []) (getD bs l []) → firstWith m bs ≤ k
   clash-with k l a b K =
       let h : partner m bs k < length bs = omega (arith, clash-within k l a b K) in
       ⊎-elim (λ (w : firstWith m bs ≤ k). w)
@@ -152,7 +151,7 @@ module _ (m : Monitor) (R : Reached m) (bs : List (List ℕ)) where
   means-one Agree (Clashing k l) p q = absurd (clash-disagree m R bs (q .1) k l (q .2) (p .2))
   means-one Agree Agree p q = refl
 
-  -- "all orders of the list leave equal states exactly when no two gets in it .. would together break the star property": each answer is given
+  -- "all orders of the list leave equal states exactly when no two gets in it .. would together break" star or wall: each answer is given
   -- exactly where what it says of the list and of its orders is so
   pub answer-exactly : (r : StartOrder) → (startOrder bs m ≡ r) ↔ Means m bs r
   answer-exactly r = (

@@ -13,7 +13,7 @@ use Rattle.model.specs.declared.Profile.{Profile}
 use Rattle.model.specs.declared.Fields.{Fields}
 use Rattle.model.specs.declared.Mode.{Mode}
 use Rattle.model.specs.declared.Request.{Request}
-use Rattle.model.specs.declared.Request.the-variants.{Get, Release, Give, Rescind, Create, Delete, ChangeLevel}
+use Rattle.model.specs.declared.Request.the-variants.{Get, Release, Give, Rescind, Create, Delete, ChangeLevel, SetCompanies}
 use Rattle.model.specs.declared.Decoded.{Decoded}
 use Rattle.model.specs.declared.Decoded.the-variants.{Malformed, Says}
 use Rattle.model.specs.State.{object, heldBy}
@@ -44,6 +44,7 @@ of-fits (Rescind s t o x) r = tt
 of-fits (Create s o c) r = tt
 of-fits (Delete s o) r = tt
 of-fits (ChangeLevel s o l) r = tt
+of-fits (SetCompanies s o n) r = tt
 
 by-fits : (k : Profile) (b : List ℕ) (d : Decoded) → decode k b ≡ d → Fits (wantedBy d)
 unfolding Fits
@@ -75,14 +76,16 @@ fields-other k f e =
         (cond (eqb (f .kind) 4) (Rescind (f .actor) (f .other) (f .object) (modeOf (f .mode)))
         (cond (eqb (f .kind) 5) (Create (f .actor) (f .object) (creation (eqb (f .mode) 4)))
         (cond (eqb (f .kind) 6) (Delete (f .actor) (f .object))
-        (ChangeLevel (f .actor) (f .object) (levelOf f))))))) ≡ Nothing
+        (cond (eqb (f .kind) 7) (ChangeLevel (f .actor) (f .object) (levelOf f))
+        (SetCompanies (f .actor) (f .object) (f .needs)))))))) ≡ Nothing
     others =
         let none : Request → Type 0 = λ q. wantedOf q ≡ Nothing in
         cond-all none (eqb (f .kind) 2) _ _ (λ t. refl)
         (λ t. cond-all none (eqb (f .kind) 3) _ _ (λ t. refl)
         (λ t. cond-all none (eqb (f .kind) 4) _ _ (λ t. refl)
         (λ t. cond-all none (eqb (f .kind) 5) _ _ (λ t. refl)
-        (λ t. cond-all none (eqb (f .kind) 6) _ _ (λ t. refl) (λ t. refl)))))
+        (λ t. cond-all none (eqb (f .kind) 6) _ _ (λ t. refl)
+        (λ t. cond-all none (eqb (f .kind) 7) _ _ (λ t. refl) (λ t. refl))))))
 
 -- bytes that ask for an access say its get
 getFor : Wanted → Request
@@ -98,6 +101,7 @@ of-says (Rescind t u p y) s o x e = clash (sym (ap isAccess e))
 of-says (Create t p c) s o x e = clash (sym (ap isAccess e))
 of-says (Delete t p) s o x e = clash (sym (ap isAccess e))
 of-says (ChangeLevel t p l) s o x e = clash (sym (ap isAccess e))
+of-says (SetCompanies t p n) s o x e = clash (sym (ap isAccess e))
 
 by-says : (d : Decoded) (s o : ℕ) (x : Mode) → wantedBy d ≡ Access s o x → d ≡ Says (Get s o x)
 unfolding isAccess

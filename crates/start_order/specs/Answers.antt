@@ -9,10 +9,11 @@ use lib.Dec.{eqb, ltb}
 use Rattle.model.specs.declared.Profile.{Profile}
 use Rattle.model.specs.declared.Monitor.{Monitor}
 use Rattle.model.specs.declared.Request.{Request}
-use Rattle.model.specs.declared.Request.the-variants.{Get, Release, Give, Rescind, Create, Delete, ChangeLevel}
+use Rattle.model.specs.declared.Request.the-variants.{Get, Release, Give, Rescind, Create, Delete, ChangeLevel, SetCompanies}
 use Rattle.model.specs.declared.Decoded.{Decoded}
 use Rattle.model.specs.declared.Decoded.the-variants.{Malformed, Says}
 use Rattle.model.specs.State.{subjectCount, objectCount, object}
+use Rattle.model.specs.Companies.{wallKept}
 use Rattle.model.specs.ModePairs.{entry, kept}
 use Rattle.model.specs.Decisions.{refuses}
 use Rattle.model.specs.Requests.{decode}
@@ -34,6 +35,7 @@ wantedOf (Rescind s t o x) = Nothing
 wantedOf (Create s o c) = Nothing
 wantedOf (Delete s o) = Nothing
 wantedOf (ChangeLevel s o l) = Nothing
+wantedOf (SetCompanies s o n) = Nothing
 
 abbrev pub wantedBy : Decoded → Wanted
 wantedBy Malformed = Nothing
@@ -59,13 +61,15 @@ alone m Nothing = false
 
 -- ---- two gets
 
--- "would together break the star property": accesses of one subject, of which the labels do not keep what the table of mode pairs asks
+-- "would together break star or wall" (change request §10): accesses of one subject, of which the labels do not keep what the table of mode
+-- pairs asks, or the company numbers what the wall does
 unfoldable pub breaks : Monitor → Wanted → Wanted → Bool
 breaks m Nothing w = false
 breaks m (Access s p x) Nothing = false
-breaks m (Access s p x) (Access t q y) = eqb s t && not (kept (entry x y) (object m p .label) (object m q .label))
+breaks m (Access s p x) (Access t q y) =
+    eqb s t && not (kept (entry x y) (object m p .label) (object m q .label) && wallKept x y (object m p .companies) (object m q .companies))
 
--- "two gets .., each granted if it came alone, would together break the star property"
+-- "two of its gets, each granted alone, would together break star or wall"
 unfoldable pub clashes : Monitor → List ℕ → List ℕ → Bool
 clashes m b c = alone m (wanted (m .profile) b) && (alone m (wanted (m .profile) c) && breaks m (wanted (m .profile) b) (wanted (m .profile) c))
 

@@ -1,4 +1,4 @@
--- What each answer says of a monitor and a list, once more and in the words of change request §6.
+-- What each answer says of a monitor and a list, once more and in the words of change requests §6 and §10.
 -- Assumes nothing.
 use Prim.Native.Nat.{ℕ, _<_, _≤_}
 use mathlib.Core.Path.{_≡_}
@@ -7,10 +7,9 @@ use mathlib.Core.List.{List, []}
 use lib.ListN.{length, getD}
 use Rattle.model.specs.declared.Profile.{Profile}
 use Rattle.model.specs.declared.Monitor.{Monitor}
-use Rattle.model.specs.Properties.{Star}
 use Rattle.orders.specs.Orders.{Each}
 use Rattle.request_orders.specs.AnyOrder.{OrdersAgree}
-use Rattle.request_orders.specs.StartOrder.{IsGet, Clash}
+use Rattle.request_orders.specs.StartOrder.{IsGet, StarAndWall, Clash}
 use Rattle.start_order.specs.declared.StartOrder.{StartOrder}
 use Rattle.start_order.specs.declared.StartOrder.the-variants.{Agree, Clash as Clashing, NoGet, TooMany}
 
@@ -24,8 +23,8 @@ pub record FirstOther (p : Profile) (bs : List (List ℕ)) (i : ℕ) : Type 0 wh
 pub record FirstClash (m : Monitor) (bs : List (List ℕ)) (i j : ℕ) : Type 0 where
   pub ordered : i < j
   pub within : j < length bs
-  pub clash : Clash Star m (getD bs i []) (getD bs j [])
-  pub least : (k l : ℕ) → k < l → l < length bs → Clash Star m (getD bs k []) (getD bs l []) → (i < k) ⊎ ((i ≡ k) × (j ≤ l))
+  pub clash : Clash StarAndWall m (getD bs i []) (getD bs j [])
+  pub least : (k l : ℕ) → k < l → l < length bs → Clash StarAndWall m (getD bs k []) (getD bs l []) → (i < k) ⊎ ((i ≡ k) × (j ≤ l))
 
 abbrev pub Means : Monitor → List (List ℕ) → StartOrder → Type 0
 Means m bs TooMany = 4096 < length bs

@@ -31,7 +31,7 @@ pub fn first_other(p: Profile, requests: &[u8], count: usize) -> usize
     count
 }
 
-// Whether the piece at place j is granted alone and breaks star together with what is wanted.
+// Whether the piece at place j is granted alone and breaks star or the wall together with what is wanted.
 fn clashes_at(
     unit: &[[u8; 16]],
     requests: &[u8],

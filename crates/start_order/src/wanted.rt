@@ -16,7 +16,9 @@ use mode_pairs::labels_keep;
 use model::Fields;
 use model::Mode;
 use model::Profile;
+use unit::companies_of;
 use unit::label_of;
+use wall::companies_keep;
 
 // The access that a get asks for, by subject, object and mode; nothing where the bytes say no get.
 pub enum Wanted {
@@ -73,8 +75,8 @@ pub fn is_access(w: Wanted) -> bool
     }
 }
 
-// Whether two accesses would together break the star property: they are of one subject, and the labels do not keep what the table of mode
-// pairs asks.
+// Whether two accesses would together break star or the wall: they are of one subject, and the labels do not keep what the table of mode
+// pairs asks, or the company numbers what the wall does.
 pub fn breaks(unit: &[[u8; 16]], v: Wanted, w: Wanted) -> bool
     requires { do ⌜ (← ⟦unit.len()⟧) ≡ rowCount ⌝ }
     requires { ⌜ Fits v × Fits w ⌝ }
@@ -85,7 +87,9 @@ pub fn breaks(unit: &[[u8; 16]], v: Wanted, w: Wanted) -> bool
         Wanted::Access(s, p, x) => match w {
             Wanted::Nothing => false,
             Wanted::Access(t, q, y) => {
-                (s == t) & !labels_keep(x, label_of(unit, p), y, label_of(unit, q))
+                let labels = labels_keep(x, label_of(unit, p), y, label_of(unit, q));
+                let numbers = companies_keep(x, companies_of(unit, p), y, companies_of(unit, q));
+                (s == t) & !(labels & numbers)
             }
         },
     }

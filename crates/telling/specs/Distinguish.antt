@@ -13,7 +13,7 @@ use Rattle.model.specs.declared.Monitor.{Monitor}
 use Rattle.model.specs.declared.Mode.{Mode}
 use Rattle.model.specs.declared.Mode.the-variants.{Read, Write, Append, Execute}
 use Rattle.model.specs.declared.Request.{Request}
-use Rattle.model.specs.declared.Request.the-variants.{Get, Release, Create, Delete, ChangeLevel}
+use Rattle.model.specs.declared.Request.the-variants.{Get, Release, Create, Delete, ChangeLevel, SetCompanies}
 use Rattle.model.specs.Levels.{compare, sameLabel}
 use Rattle.model.specs.Modes.{has}
 use Rattle.model.specs.State.{subjectCount, objectCount, clearance, enrolled, object, rightsOf, heldBy}
@@ -64,6 +64,11 @@ module _ (m n : Monitor) where
   unfoldable pub byLabel : ℕ → List Request
   byLabel o = toLabel (object m o .owner) o (object m o .label) (object n o .label)
 
+  -- other company numbers (change request §10): the owner sets those of the one, 1 or not
+  unfoldable pub byCompanies : ℕ → List Request
+  byCompanies o =
+      when (not (eqb (object m o .companies) (object n o .companies))) (SetCompanies (object m o .owner) o (object m o .companies))
+
   -- a right in one only: a get, 6 or not
   unfoldable pub byRight : ℕ → ℕ → Mode → List Request
   byRight o s x = when (differ (has x (rightsOf (object m o) s)) (has x (rightsOf (object n o) s))) (Get s o x)
@@ -74,8 +79,8 @@ module _ (m n : Monitor) where
 
   unfoldable pub byObject : ℕ → List Request
   byObject o =
-      orElse (byLife o) (orElse (byOwner o) (orElse (byLabel o)
-      (orElse (search subjectCount (λ s. searchModes (byRight o s))) (search subjectCount (λ s. searchModes (byAccess o s))))))
+      orElse (byLife o) (orElse (byOwner o) (orElse (byLabel o) (orElse (byCompanies o)
+      (orElse (search subjectCount (λ s. searchModes (byRight o s))) (search subjectCount (λ s. searchModes (byAccess o s)))))))
 
 -- the last object below k that is neither live nor outside the profile (change request §8), 0 where there is none
 unfoldable pub freeBelow : ℕ → Monitor → ℕ

@@ -1,7 +1,7 @@
 -- "Every request made this way is well formed", and that is sure "under the widest profile only" (change request §8): its bytes say it, so no
 -- monitor of that profile replies 2.
 -- Assumes nothing.
-use Prim.Native.Nat.{ℕ, zero, suc, _+_, _*_, _%_, _<_}
+use Prim.Native.Nat.{ℕ, zero, suc, _+_, _*_, _%_, _<_, _≤_}
 use native.Mathlib.Nat.{mod-lt, zero-lt-suc}
 use native.Mathlib.Omega.{arith}
 use mathlib.Core.Path.{_≡_, refl, ap, _∙_}
@@ -53,9 +53,14 @@ other-unused true rescind x = refl
 other-unused false true x = refl
 other-unused false false x = refl
 
-level-unused : (change : Bool) (c n : ℕ) → (change || (eqb (whereUsed change c) 0 && eqb (whereUsed change n) 0)) ≡ true
-level-unused true c n = refl
-level-unused false c n = refl
+class-unused : (change : Bool) (c : ℕ) → (change || eqb (whereUsed change c) 0) ≡ true
+class-unused true c = refl
+class-unused false c = refl
+
+needs-unused : (change companies : Bool) (n : ℕ) → (change || (companies || eqb (whereUsed change n) 0)) ≡ true
+needs-unused true companies n = refl
+needs-unused false true n = refl
+needs-unused false false n = refl
 
 -- and what is used stays below a bound
 used-below : (used : Bool) (x n : ℕ) → x < n → 0 < n → whereUsed used x < n
@@ -83,11 +88,16 @@ module _ (x : ℕ) where
   unfolding made unusedZero
   made-formed =
       in-range (made x)
-      (and-both (le-leb 1 kind (omega arith)) (le-leb kind 7 (omega arith)))
+      (and-both (le-leb 1 kind (omega arith)) (le-leb kind 8 (omega arith)))
       (omega arith) other-below (omega arith)
       (mode-drawn-allowed kind (draw 5 x))
       (and-both (other-unused (eqb kind 3) (eqb kind 4) (draw 3 x % 16))
-      (and-both (level-unused (usesLevel kind) (draw 6 x % 16) (draw 7 x % 65536)) refl))
+      (and-both (class-unused (usesLevel kind) (draw 6 x % 16)) (and-both (needs-unused (usesLevel kind) (eqb kind 8) (draw 7 x % 65536)) refl)))
+
+  -- "The test load keeps to kinds 1 to 7" (change request §10)
+  pub keeps-to-seven-kinds : (1 ≤ made x .kind) × (made x .kind ≤ 7)
+  unfolding made
+  keeps-to-seven-kinds = (omega arith, omega arith)
 
   made-fits : FieldsFit (made x)
   unfolding made
@@ -112,7 +122,7 @@ module _ (x : ℕ) where
         actor = omega arith;
         other = other-below;
         object = omega arith;
-        level = at-least-decides (widest .highest) (levelOf (made x)) .0 (widest-level (levelOf (made x)) (made-fits .class));
+        level = λ k. at-least-decides (widest .highest) (levelOf (made x)) .0 (widest-level (levelOf (made x)) (made-fits .class));
       })
 
   -- its six bytes have the fields that were drawn

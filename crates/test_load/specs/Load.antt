@@ -15,7 +15,7 @@ use Rattle.model.specs.Requests.{requestSize, pack}
 use Rattle.model.specs.Buffers.{front}
 use Rattle.test_load.specs.Generator.{draw}
 
--- "kind 1 + d mod 7"
+-- "kind 1 + d mod 7"; "The test load keeps to kinds 1 to 7" (change request §10)
 abbrev pub kindDrawn : ℕ → ℕ
 kindDrawn d = 1 + d % 7
 

@@ -5,15 +5,15 @@ use native.Mathlib.Omega.{arith}
 use mathlib.Core.Path.{_≡_, sym, ap, _∙_}
 use mathlib.Core.Logic.{⊎-elim, _≢_}
 use mathlib.Core.List.{List, []}
-use lib.ListN.{length}
+use lib.ListN.{length, set}
 use lib.Seq.{getD-set-same, getD-set-other}
 use Rattle.model.specs.declared.Label.{Label}
 use Rattle.model.specs.declared.Object.{Object}
 use Rattle.model.specs.declared.Profile.{Profile}
 use Rattle.model.specs.declared.Monitor.{Monitor}
-use Rattle.model.specs.State.{object, clearance, withLabel}
+use Rattle.model.specs.State.{object, clearance, withLabel, withCompanies}
 use Rattle.unit.specs.Rows.{Rows, rowCount, heldRow, restRow, clearanceRow, profileRow, rowAt, labelIn, profileIn, objectOf, objectIn, stateIn}
-use Rattle.unit.specs.Stored.{restOf, clearanceOf, profileOf, setRights, setHeld, setLabel, setObject, monitorRow, unitOf}
+use Rattle.unit.specs.Stored.{restOf, clearanceOf, profileOf, setRights, setHeld, setLabel, setCompanies, setObject, monitorRow, unitOf}
 use Rattle.unit.proofs.Tabulated.{tabulated, same-or-not}
 use Rattle.unit.proofs.Readings.{read-object, read-held-row, read-clearance}
 use Rattle.unit.proofs.Stores.{label-back, profile-back, object-back, object-others, object-rest}
@@ -62,9 +62,15 @@ module _ (u : Rows) (n : length u ≡ rowCount) (F : Plain u) (o : ℕ) (h : o <
   pub held-plain : (s k : ℕ) → Plain (setHeld u o s k)
   held-plain s k = sets-plain u (setHeld u o s k) F (λ j l. getD-set-other u (heldRow o) j _ [] (λ z. absurd (omega arith)))
 
+  rest-plain : (ob : Object) → Plain (set u (restRow o) (restOf ob))
+  rest-plain ob =
+      record-plain u (set u (restRow o) (restOf ob)) F o h ob (getD-set-same u (restRow o) _ [] (omega arith)) (λ j a b. getD-set-other u (restRow o) j _ [] b)
+
   pub label-plain : (l : Label) → Plain (setLabel u o l)
-  label-plain l =
-      record-plain u (setLabel u o l) F o h (withLabel (objectIn u o) l) (getD-set-same u (restRow o) _ [] (omega arith)) (λ j a b. getD-set-other u (restRow o) j _ [] b)
+  label-plain l = rest-plain (withLabel (objectIn u o) l)
+
+  pub companies-plain : (k : ℕ) → Plain (setCompanies u o k)
+  companies-plain k = rest-plain (withCompanies (objectIn u o) k)
 
   pub object-plain : (ob : Object) → Plain (setObject u o ob)
   object-plain ob =
@@ -82,7 +88,7 @@ module _ (u : Rows) (n : length u ≡ rowCount) (F : Plain u) where
   clearance-is : (s : ℕ) → s < 16 → rowAt u (clearanceRow s) ≡ clearanceOf (clearance (stateIn u) s)
   clearance-is s h =
       let r = F .clearances s h in
-      r .1 ∙ ap clearanceOf (sym (label-back 0 0 (r .0)) ∙ ap labelIn (sym (r .1)) ∙ read-clearance u s h)
+      r .1 ∙ ap clearanceOf (sym (label-back 0 0 (r .0) 0) ∙ ap labelIn (sym (r .1)) ∙ read-clearance u s h)
 
   profile-is : rowAt u profileRow ≡ profileOf (stateIn u .profile)
   profile-is =

@@ -15,19 +15,19 @@ use Rattle.model.specs.declared.Label.{Label}
 use Rattle.model.specs.declared.Label.the-variants.{Absent, Present}
 use Rattle.model.specs.declared.Object.{Object}
 use Rattle.model.specs.declared.Profile.{Profile}
-use Rattle.model.specs.State.{nobody, noObject, object, withRights, withHeld, withLabel, withObject}
+use Rattle.model.specs.State.{nobody, noObject, object, withRights, withHeld, withLabel, withCompanies, withObject}
 use Rattle.model.proofs.Equal.{object-ext, monitor-ext}
 use Rattle.unit.specs.Rows.{Rows, rowCount, heldRow, restRow, clearanceRow, profileRow, rowAt, byteAt, labelIn, profileIn, objectOf, objectIn, subjectIn, subjectsIn, objectsIn, stateIn}
-use Rattle.unit.specs.Stored.{labelBytes, rowOf, restOf, profileOf, setRights, setHeld, setLabel, setObject}
+use Rattle.unit.specs.Stored.{labelBytes, rowOf, restOf, profileOf, setRights, setHeld, setLabel, setCompanies, setObject}
 use Rattle.unit.proofs.Tabulated.{tabulate-set, tabulate-same}
 use Rattle.unit.proofs.Readings.{read-object}
 
 -- ---- a row that is stored says what was stored
 
-pub label-back : (a b : ℕ) (l : Label) → labelIn (rowOf a b l) ≡ l
+pub label-back : (a b : ℕ) (l : Label) (n : ℕ) → labelIn (rowOf a b l n) ≡ l
 unfolding labelIn labelBytes rowOf
-label-back a b Absent = refl
-label-back a b (Present l) = ap (λ n. Present (record { class = l .class; needs = n })) (div-add-mod' (l .needs) 256)
+label-back a b Absent n = refl
+label-back a b (Present l) n = ap (λ k. Present (record { class = l .class; needs = k })) (div-add-mod' (l .needs) 256)
 
 pub profile-back : (p : Profile) → profileIn (profileOf p) ≡ p
 unfolding profileIn labelBytes rowOf
@@ -42,7 +42,7 @@ live-back false = refl
 pub object-back : (ob : Object) → objectOf (ob .rights) (ob .held) (restOf ob) ≡ ob
 unfolding objectOf rowOf
 object-back ob =
-    object-ext _ ob (live-back (ob .live)) refl (label-back (bit (ob .live)) (ob .owner) (ob .label)) refl refl
+    object-ext _ ob (live-back (ob .live)) refl (label-back (bit (ob .live)) (ob .owner) (ob .label) (ob .companies)) (div-add-mod' (ob .companies) 256) refl refl
 
 -- ---- rows that differ in those of one object alone
 
@@ -83,15 +83,29 @@ module _ (u : Rows) (n : length u ≡ rowCount) (o : ℕ) (h : o < 64) where
       (rw (getD-set-other u (heldRow o) o row [] (λ z. absurd (omega arith)), getD-set-other u (heldRow o) (restRow o) row [] (λ z. absurd (omega arith)), getD-set-same u (heldRow o) row [] (omega arith))
       (ap (λ (x : Object). withHeld x s k) (read-object u o h)))
 
+  -- a record with the same sets
+  rest-stored : (ob : Object) → rowAt u o ≡ ob .rights → rowAt u (heldRow o) ≡ ob .held → stateIn (set u (restRow o) (restOf ob)) ≡ withObject (stateIn u) o ob
+  rest-stored ob rights held =
+      state-after u (set u (restRow o) (restOf ob)) o h (λ j a b c. getD-set-other u (restRow o) j (restOf ob) [] c) ob
+      (rw (
+        getD-set-other u (restRow o) o (restOf ob) [] (λ z. absurd (omega arith)),
+        getD-set-other u (restRow o) (heldRow o) (restOf ob) [] (λ z. absurd (omega arith)),
+        getD-set-same u (restRow o) (restOf ob) [] (omega arith),
+        rights,
+        held,
+      )
+      (object-back ob))
+
   pub label-stored : (l : Label) → stateIn (setLabel u o l) ≡ withObject (stateIn u) o (withLabel (object (stateIn u) o) l)
   unfolding objectOf
-  label-stored l =
-      let ob = withLabel (objectIn u o) l in
-      state-after u (setLabel u o l) o h (λ j a b c. getD-set-other u (restRow o) j (restOf ob) [] c) _
-      (rw (getD-set-other u (restRow o) o (restOf ob) [] (λ z. absurd (omega arith)), getD-set-other u (restRow o) (heldRow o) (restOf ob) [] (λ z. absurd (omega arith)), getD-set-same u (restRow o) (restOf ob) [] (omega arith))
-      (object-back ob ∙ ap (λ (x : Object). withLabel x l) (read-object u o h)))
+  label-stored l = rest-stored (withLabel (objectIn u o) l) refl refl ∙ ap (λ (x : Object). withObject (stateIn u) o (withLabel x l)) (read-object u o h)
 
-  -- a set that was changed, and the row of a label, put back
+  pub companies-stored : (k : ℕ) → stateIn (setCompanies u o k) ≡ withObject (stateIn u) o (withCompanies (object (stateIn u) o) k)
+  unfolding objectOf
+  companies-stored k =
+      rest-stored (withCompanies (objectIn u o) k) refl refl ∙ ap (λ (x : Object). withObject (stateIn u) o (withCompanies x k)) (read-object u o h)
+
+  -- a set that was changed, and the rest of a record, put back
   pub held-put-back : (s k : ℕ) → setHeld (setHeld u o s k) o s (byteAt (rowAt u (heldRow o)) s) ≡ u
   held-put-back s k =
       let row = rowAt u (heldRow o) in

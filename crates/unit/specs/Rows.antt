@@ -53,10 +53,21 @@ labelIn row = cond (eqb (byteAt row 2) 1) (Present (levelIn row)) Absent
 unfoldable pub profileIn : List ℕ → Profile
 profileIn row = record { subjects = byteAt row 0; objects = byteAt row 1; highest = levelIn row }
 
+-- byte 6: the company numbers of the first two conflict classes; byte 7: those of the last two (change request §10)
+abbrev pub companiesIn : List ℕ → ℕ
+companiesIn row = byteAt row 6 * 256 + byteAt row 7
+
 -- byte 0 is 1: live; byte 1: the owner
 unfoldable pub objectOf : List ℕ → List ℕ → List ℕ → Object
 objectOf rights held rest =
-    record { live = eqb (byteAt rest 0) 1; owner = byteAt rest 1; label = labelIn rest; rights = rights; held = held }
+    record {
+      live = eqb (byteAt rest 0) 1;
+      owner = byteAt rest 1;
+      label = labelIn rest;
+      companies = companiesIn rest;
+      rights = rights;
+      held = held;
+    }
 
 -- object o and subject s, as the rows say them
 abbrev pub objectIn : Rows → ℕ → Object

@@ -12,7 +12,7 @@ use Rattle.model.specs.declared.Label.the-variants.{Absent, Present}
 use Rattle.model.specs.declared.Object.{Object}
 use Rattle.model.specs.declared.Profile.{Profile}
 use Rattle.model.specs.declared.Monitor.{Monitor}
-use Rattle.model.specs.State.{subjectCount, objectCount, objectAt, object, clearance, withLabel}
+use Rattle.model.specs.State.{subjectCount, objectCount, objectAt, object, clearance, withLabel, withCompanies}
 use Rattle.unit.specs.declared.rows.LabelBytes.{LabelBytes}
 use Rattle.unit.specs.Rows.{Rows, rowCount, heldRow, restRow, clearanceRow, profileRow, rowAt, objectIn, tabulate}
 
@@ -21,22 +21,22 @@ unfoldable pub labelBytes : Label → LabelBytes
 labelBytes Absent = record { present = 0; class = 0; high = 0; low = 0 }
 labelBytes (Present l) = record { present = 1; class = l .class; high = l .needs / 256; low = l .needs % 256 }
 
--- two bytes, a label behind them, and ten bytes 0
-unfoldable pub rowOf : ℕ → ℕ → Label → List ℕ
-rowOf a b l =
-    a ∷ b ∷ labelBytes l .present ∷ labelBytes l .class ∷ labelBytes l .high ∷ labelBytes l .low ∷ replicate 10 0
+-- two bytes, a label and a number in two bytes behind them, and eight bytes 0
+unfoldable pub rowOf : ℕ → ℕ → Label → ℕ → List ℕ
+rowOf a b l n =
+    a ∷ b ∷ labelBytes l .present ∷ labelBytes l .class ∷ labelBytes l .high ∷ labelBytes l .low ∷ n / 256 ∷ n % 256 ∷ replicate 8 0
 
--- live and owner before the label of an object
+-- live and owner before the label of an object, its company numbers behind it
 abbrev pub restOf : Object → List ℕ
-restOf ob = rowOf (bit (ob .live)) (ob .owner) (ob .label)
+restOf ob = rowOf (bit (ob .live)) (ob .owner) (ob .label) (ob .companies)
 
 -- the row of a clearance
 abbrev pub clearanceOf : Label → List ℕ
-clearanceOf l = rowOf 0 0 l
+clearanceOf l = rowOf 0 0 l 0
 
 -- the row of a profile
 abbrev pub profileOf : Profile → List ℕ
-profileOf p = rowOf (p .subjects) (p .objects) (Present (p .highest))
+profileOf p = rowOf (p .subjects) (p .objects) (Present (p .highest)) 0
 
 -- the set of subject s in the row of rights of object o, and in that of the accesses held, becomes n
 abbrev pub setRights : Rows → ℕ → ℕ → ℕ → Rows
@@ -48,6 +48,10 @@ setHeld u o s n = set u (heldRow o) (set (rowAt u (heldRow o)) s n)
 -- the label of object o becomes l
 abbrev pub setLabel : Rows → ℕ → Label → Rows
 setLabel u o l = set u (restRow o) (restOf (withLabel (objectIn u o) l))
+
+-- the company numbers of object o become n
+abbrev pub setCompanies : Rows → ℕ → ℕ → Rows
+setCompanies u o n = set u (restRow o) (restOf (withCompanies (objectIn u o) n))
 
 -- the profile becomes another
 abbrev pub setProfile : Rows → Profile → Rows

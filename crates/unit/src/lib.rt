@@ -4,6 +4,7 @@ mod rows;
 mod whole;
 
 pub use parts::clearance_of;
+pub use parts::companies_of;
 pub use parts::held_by;
 pub use parts::held_row;
 pub use parts::is_enrolled;
@@ -14,6 +15,7 @@ pub use parts::owner_of;
 pub use parts::profile_of;
 pub use parts::rest_of;
 pub use parts::rights_of;
+pub use parts::set_companies;
 pub use parts::set_held;
 pub use parts::set_label;
 pub use parts::set_rest;

@@ -5,11 +5,12 @@ ghost use Rattle.model.specs.State.{subjectCount, objectCount, object, clearanc
 ghost use Rattle.model.specs.Rules.{owns};
 ghost use lib.ListN.{set};
 ghost use Rattle.unit.specs.Rows.{rowCount, stateIn, rowAt, restRow};
-ghost use Rattle.unit.specs.Stored.{setRights, setHeld, setLabel, setRows};
+ghost use Rattle.unit.specs.Stored.{setRights, setHeld, setLabel, setCompanies, setRows};
 use crate::rows::CLEARANCES;
 use crate::rows::HELD;
 use crate::rows::PROFILE;
 use crate::rows::REST;
+use crate::rows::companies_in;
 use crate::rows::flag;
 use crate::rows::label_in;
 use crate::rows::profile_in;
@@ -80,6 +81,16 @@ pub fn label_of(unit: &[[u8; 16]], o: u8) -> Label
     label_in(row)
 }
 
+// The four company numbers of an object, in one.
+pub fn companies_of(unit: &[[u8; 16]], o: u8) -> u16
+    requires { do ⌜ (← ⟦unit.len()⟧) ≡ rowCount ⌝ }
+    requires { ⌜ o < objectCount ⌝ }
+    ensures { λ r. ⌜ r ≡ object (stateIn (now (unit .entry))) o .companies ⌝ }
+{
+    let row = unit[REST + o as usize];
+    companies_in(row)
+}
+
 pub fn rights_of(unit: &[[u8; 16]], o: u8, s: u8) -> u8
     requires { do ⌜ (← ⟦unit.len()⟧) ≡ rowCount ⌝ }
     requires { ⌜ (o < objectCount) × (s < subjectCount) ⌝ }
@@ -133,7 +144,7 @@ pub fn set_held(unit: &mut [[u8; 16]], o: u8, s: u8, n: u8)
     unit[i] = row;
 }
 
-// The row of an object that has all but its sets, as it stands; a refused change of level puts it back.
+// The row of an object that has all but its sets, as it stands; a refused change of its label or of its company numbers puts it back.
 pub fn rest_of(unit: &[[u8; 16]], o: u8) -> [u8; 16]
     requires { do ⌜ (← ⟦unit.len()⟧) ≡ rowCount ⌝ }
     requires { ⌜ o < objectCount ⌝ }
@@ -156,7 +167,19 @@ pub fn set_label(unit: &mut [[u8; 16]], o: u8, label: Label)
     ensures { λ r. ⌜ now (unit .exit) ≡ setLabel (now (unit .entry)) o label ⌝ }
 {
     let row = rest_of(unit, o);
-    let new = row_of(flag(row[0] == 1), row[1], label);
+    let companies = companies_in(row);
+    let new = row_of(flag(row[0] == 1), row[1], label, companies);
+    set_rest(unit, o, new);
+}
+
+pub fn set_companies(unit: &mut [[u8; 16]], o: u8, companies: u16)
+    requires { do ⌜ (← ⟦unit.len()⟧) ≡ rowCount ⌝ }
+    requires { ⌜ o < objectCount ⌝ }
+    ensures { λ r. ⌜ now (unit .exit) ≡ setCompanies (now (unit .entry)) o companies ⌝ }
+{
+    let row = rest_of(unit, o);
+    let label = label_in(row);
+    let new = row_of(flag(row[0] == 1), row[1], label, companies);
     set_rest(unit, o, new);
 }
 

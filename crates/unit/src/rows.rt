@@ -1,8 +1,8 @@
-// Where the rows of a unit stand, and what one row of bytes says: a label in bytes 2 to 5, two numbers before it.
+// Where the rows of a unit stand, and what one row of bytes says: a label in bytes 2 to 5, two numbers before it, one in two bytes behind it.
 ghost use mathlib.Core.Path.{_≡_};
 ghost use Prim.Native.Nat.{_+_, _*_, _/_, _%_};
 ghost use Rattle.bits.specs.Bits.{bit};
-ghost use Rattle.unit.specs.Rows.{levelIn, labelIn, profileIn};
+ghost use Rattle.unit.specs.Rows.{levelIn, labelIn, companiesIn, profileIn};
 ghost use Rattle.unit.specs.Stored.{labelBytes, rowOf, profileOf};
 use model::Label;
 use model::Level;
@@ -68,6 +68,13 @@ pub fn label_in(row: [u8; 16]) -> Label
     }
 }
 
+// The company numbers that a row says.
+pub fn companies_in(row: [u8; 16]) -> u16
+    ensures { λ r. ⌜ r ≡ companiesIn row ⌝ }
+{
+    word(row[6], row[7])
+}
+
 // The profile that a row says.
 pub fn profile_in(row: [u8; 16]) -> Profile
     ensures { λ r. ⌜ r ≡ profileIn row ⌝ }
@@ -108,11 +115,13 @@ fn label_bytes(label: Label) -> LabelBytes
     }
 }
 
-// The row of two numbers and a label.
-pub fn row_of(a: u8, b: u8, label: Label) -> [u8; 16]
-    ensures { λ r. ⌜ r ≡ rowOf a b label ⌝ }
+// The row of two numbers, a label and the four company numbers in one.
+pub fn row_of(a: u8, b: u8, label: Label, companies: u16) -> [u8; 16]
+    ensures { λ r. ⌜ r ≡ rowOf a b label companies ⌝ }
 {
     let l = label_bytes(label);
+    let high = high_byte(companies);
+    let low = low_byte(companies);
     [
         a,
         b,
@@ -120,8 +129,8 @@ pub fn row_of(a: u8, b: u8, label: Label) -> [u8; 16]
         l.class,
         l.high,
         l.low,
-        0,
-        0,
+        high,
+        low,
         0,
         0,
         0,
@@ -138,5 +147,5 @@ pub fn profile_row(p: Profile) -> [u8; 16]
     ensures { λ r. ⌜ r ≡ profileOf p ⌝ }
 {
     let highest = p.highest;
-    row_of(p.subjects, p.objects, Label::Present(highest))
+    row_of(p.subjects, p.objects, Label::Present(highest), 0)
 }

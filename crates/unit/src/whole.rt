@@ -9,6 +9,7 @@ use crate::rows::CLEARANCES;
 use crate::rows::HELD;
 use crate::rows::PROFILE;
 use crate::rows::REST;
+use crate::rows::companies_in;
 use crate::rows::flag;
 use crate::rows::label_in;
 use crate::rows::profile_row;
@@ -21,10 +22,12 @@ pub fn object_of(rights: [u8; 16], held: [u8; 16], rest: [u8; 16]) -> Object
     ensures { λ r. ⌜ r ≡ objectOf rights held rest ⌝ }
 {
     let label = label_in(rest);
+    let companies = companies_in(rest);
     Object {
         live: rest[0] == 1,
         owner: rest[1],
         label,
+        companies,
         rights,
         held,
     }
@@ -51,7 +54,7 @@ pub fn set_object(unit: &mut [[u8; 16]], o: u8, ob: Object)
     let rights = ob.rights;
     let held = ob.held;
     let label = ob.label;
-    let rest = row_of(flag(ob.live), ob.owner, label);
+    let rest = row_of(flag(ob.live), ob.owner, label, ob.companies);
     set_rows(unit, o, rights, held, rest);
 }
 
@@ -70,7 +73,7 @@ pub fn fill(unit: &mut [[u8; 16]], m: Monitor)
     while s < Monitor::SUBJECTS {
         let subject = m.subjects[s];
         let clearance = subject.clearance;
-        let row = row_of(0, 0, clearance);
+        let row = row_of(0, 0, clearance, 0);
         unit[CLEARANCES + s] = row;
         s += 1;
     }

@@ -6,10 +6,8 @@ use Rattle.model.specs.Modes.{has, add}
 use Rattle.model.specs.Rules.{already}
 use Rattle.unit.specs.Stored.{setHeld}
 use Rattle.kinds.specs.Carried.{stores}
-use Rattle.kinds.proofs.Answers.{does-refused, does-granted}
-use mathlib.Core.Logic.{⊎-elim}
+use Rattle.kinds.proofs.Answers.{does-refused, does-granted, get-refused, get-last}
 use Rattle.kinds.proofs.Effects.{held-back}
-use Rattle.kinds.proofs.Answers.{get-refused, get-free, get-broken, get-kept}
 use borrow.Author.Needs.{needs}
 use Rattle.accesses.proofs.get.Statement.{statement}
 use Rattle.accesses.proofs.get.Tie as tie
@@ -48,14 +46,11 @@ add-requires c κs = search needs
 set-held-requires : tie.Need-set-held-requires
 set-held-requires c κs = search needs
 
-needs-label-requires : tie.Need-needs-label-requires
-needs-label-requires c κs = search needs
+access-fits-requires : tie.Need-access-fits-requires
+access-fits-requires c κs = search needs
 
-add-breaks-star : tie.Need-add-breaks-star
-add-breaks-star c = search needs
-
-breaks-star-requires : tie.Need-breaks-star-requires
-breaks-star-requires c κs = search needs
+refuses-requires-2 : tie.Need-refuses-requires-2
+refuses-requires-2 c κs = search needs
 
 set-held-requires-2 : tie.Need-set-held-requires-2
 set-held-requires-2 c κs = search needs
@@ -68,12 +63,14 @@ same-length-2 c = search needs
 
 returns-2 : tie.Need-returns-2
 returns-2 c =
-    let start = c .before .before .before .before .before .before .before .before .before .before .before .before .before .before .before .before .before .before .before in
-    let passed = sym (c .before .before .before .before .before .before .before .before .before .before .before .before .before .before .before .before .refuses .ensures) ∙ c .before .before .before .before .before .before .before .before .before .before .before .before .before .before .before .if1 .left in
-    let broken = get-broken (start .args .unit .now) (start .pre .0) (start .args .s) (start .args .o) (start .args .x) (start .pre .1) _ (c .before .before .before .before .before .before .before .before .before .before .before .before .before .before .before .before .before .may-get .ensures) passed (sym (c .before .before .before .before .before .before .before .before .needs-label .ensures) ∙ c .before .before .before .before .before .before .before .if2 .taken) _ (stored (c .before .before .before .before .before .before .before .before .before .before)) _ (c .before .before .before .before .before .breaks-star .ensures) (c .before .before .before .before .if3 .taken) in
-    does-refused (Get (start .args .s) (start .args .o) (start .args .x)) (start .args .unit .now) _ _ broken _ refl (c .number2 .ensures)
+    let held = c .before .before .before .before .before .before .before .before .before in
+    let start = held .before .before .before .before .before .before .before .before .before in
+    let passed = sym (c .before .before .before .before .before .before .before .before .before .before .before .before .before .before .before .refuses .ensures) ∙ c .before .before .before .before .before .before .before .before .before .before .before .before .before .before .if1 .left in
+    does-refused (Get (start .args .s) (start .args .o) (start .args .x)) (start .args .unit .now) _ _
+    (get-last (start .args .unit .now) (start .pre .0) (start .args .s) (start .args .o) (start .args .x) (start .pre .1) _ (c .before .before .before .before .before .before .before .before .before .before .before .before .before .before .before .before .may-get .ensures) passed _ (stored held) _ (c .before .before .before .before .before .before .access-fits .ensures)) _
+    (sym (c .before .before .before .before .before .refuses2 .ensures) ∙ c .before .before .before .before .if2 .taken) (c .number2 .ensures)
     (c .before .before .set-held2 .ensures
-    ∙ ap₂ (λ w k. setHeld w (start .args .o) (start .args .s) k) (c .before .before .before .before .before .before .before .before .before .before .set-held .ensures) (c .before .before .before .before .before .before .before .before .before .before .before .before .before .held-by .ensures)
+    ∙ ap₂ (λ w k. setHeld w (start .args .o) (start .args .s) k) (held .set-held .ensures) (c .before .before .before .before .before .before .before .before .before .before .before .before .held-by .ensures)
     ∙ held-back (start .args .unit .now) (start .pre .0) (start .args .o) (start .pre .1 .1) (start .args .s) _)
 
 has-requires : tie.Need-has-requires
@@ -87,20 +84,14 @@ same-length-3 c = search needs
 
 returns-3 : tie.Need-returns-3
 unfolding already
-returns-3 c = let start = c .before .before .before .before .before .before .before .before .before .before .before .before .before .before in
-    let passed = sym (c .before .before .before .before .before .before .before .before .before .before .before .refuses .ensures) ∙ c .before .before .before .before .before .before .before .before .before .before .if1 .left in
-    let first = c .before .before .before .before .before .before .before .before .before .before .before .before .may-get .ensures in
-    let was = c .before .has .ensures ∙ ap (has (start .args .x)) (c .before .before .before .before .before .before .before .before .held-by .ensures) in
-    ⊎-elim
-    (λ w.
+returns-3 c =
+    let held = c .before .before .before .before .before .before .before in
+    let start = held .before .before .before .before .before .before .before .before .before in
+    let passed = sym (c .before .before .before .before .before .before .before .before .before .before .before .before .before .refuses .ensures) ∙ c .before .before .before .before .before .before .before .before .before .before .before .before .if1 .left in
     does-granted (Get (start .args .s) (start .args .o) (start .args .x)) (start .args .unit .now) _ _
-    (get-kept (start .args .unit .now) (start .pre .0) (start .args .s) (start .args .o) (start .args .x) (start .pre .1) _ first passed (sym (c .before .before .before .needs-label .ensures) ∙ w .0 .taken) _ (stored (c .before .before .before .before .before)) _ (w .2 .ensures) (w .3 .left)) _
-    refl _ was (c .flag .ensures) (stored (c .before .before .before .before .before)))
-    (λ w.
-    does-granted (Get (start .args .s) (start .args .o) (start .args .x)) (start .args .unit .now) _ _
-    (get-free (start .args .unit .now) (start .pre .0) (start .args .s) (start .args .o) (start .args .x) (start .pre .1) _ first passed (sym (c .before .before .before .needs-label .ensures) ∙ w .left)) _
-    refl _ was (c .flag .ensures) (stored (c .before .before .before .before .before)))
-    (c .before .before .if2 .came)
+    (get-last (start .args .unit .now) (start .pre .0) (start .args .s) (start .args .o) (start .args .x) (start .pre .1) _ (c .before .before .before .before .before .before .before .before .before .before .before .before .before .before .may-get .ensures) passed _ (stored held) _ (c .before .before .before .before .access-fits .ensures)) _
+    (sym (c .before .before .before .refuses2 .ensures) ∙ c .before .before .if2 .left) _
+    (c .before .has .ensures ∙ ap (has (start .args .x)) (c .before .before .before .before .before .before .before .before .before .before .held-by .ensures)) (c .flag .ensures) (stored held)
 
 pub get-spec : {M : Type 1} → statement M
 get-spec =
@@ -114,9 +105,8 @@ get-spec =
     held-by-requires
     add-requires
     set-held-requires
-    needs-label-requires
-    add-breaks-star
-    breaks-star-requires
+    access-fits-requires
+    refuses-requires-2
     set-held-requires-2
     number-requires-2
     same-length-2

@@ -51,6 +51,14 @@ change-level-requires c κs =
     let r = subst InRange (c .before .before .q7 .given .1) (c .before .before .before .before .pre .1) in
     (c .before .before .before .before .pre .0, (r .0, r .1))
 
+enum-known-q-8 : tie.Need-enum-known-q-8
+enum-known-q-8 c = search needs
+
+change-companies-requires : tie.Need-change-companies-requires
+change-companies-requires c κs =
+    let r = subst InRange (c .before .before .q8 .given .1) (c .before .before .before .before .pre .1) in
+    (c .before .before .before .before .pre .0, (r .0, r .1))
+
 same-length : tie.Need-same-length
 same-length c = search needs
 
@@ -93,6 +101,12 @@ same-length-7 c = search needs
 returns-7 : tie.Need-returns-7
 returns-7 c = does-same (c .before .before .before .before .q7 .given .1) (c .before .change-level .ensures)
 
+same-length-8 : tie.Need-same-length-8
+same-length-8 c = search needs
+
+returns-8 : tie.Need-returns-8
+returns-8 c = does-same (c .before .before .before .before .q8 .given .1) (c .before .change-companies .ensures)
+
 pub carry-out-spec : {M : Type 1} → statement M
 carry-out-spec =
     tie.close
@@ -111,6 +125,8 @@ carry-out-spec =
     delete-requires
     enum-known-q-7
     change-level-requires
+    enum-known-q-8
+    change-companies-requires
     same-length
     returns
     same-length-2
@@ -124,4 +140,6 @@ carry-out-spec =
     same-length-6
     returns-6
     same-length-7
-    returns-7)
+    returns-7
+    same-length-8
+    returns-8)

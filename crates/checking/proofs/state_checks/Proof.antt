@@ -3,11 +3,12 @@
 use mathlib.Core.Path.{_≡_, refl, ap, ap₂, _∙_}
 use mathlib.Core.Bool.{Bool, not}
 use Rattle.model.specs.declared.Decision.{Decision}
-use Rattle.model.specs.declared.Decision.the-variants.{NoRight, NoLabel, SimpleBroken, StarBroken, AbsentSubject}
+use Rattle.model.specs.declared.Decision.the-variants.{NoRight, NoLabel, SimpleBroken, StarBroken, AbsentSubject, WallBroken}
 use Rattle.model.specs.Tests.{unless}
 use Rattle.model.specs.Reading.{stateChecks}
 use Rattle.model.proofs.Tests.{not-not}
 use Rattle.star.proofs.Between.{between-all}
+use Rattle.wall.proofs.Between.{wall-all}
 use Rattle.checking.specs.declared.Findings.{Findings}
 use borrow.Author.Needs.{needs}
 use Rattle.checking.proofs.state_checks.Statement.{statement}
@@ -19,6 +20,9 @@ answers d p q e = e ∙ ap₂ (λ (x : Bool) (y : Decision). unless x d y) p q
 
 findings-over-requires : tie.Need-findings-over-requires
 findings-over-requires c κs = search needs
+
+breaks-wall-requires : tie.Need-breaks-wall-requires
+breaks-wall-requires c κs = search needs
 
 breaks-star-requires : tie.Need-breaks-star-requires
 breaks-star-requires c κs = search needs
@@ -38,25 +42,32 @@ check-requires-4 c κs = search needs
 check-requires-5 : tie.Need-check-requires-5
 check-requires-5 c κs = search needs
 
+check-requires-6 : tie.Need-check-requires-6
+check-requires-6 c κs = search needs
+
 returns : tie.Need-returns
 unfolding stateChecks
-returns c = let found = c .before .before .before .before .before .before .findings-over .ensures in
-    let star = ap not (c .before .before .before .before .before .breaks-star .ensures) ∙ not-not _ ∙ between-all _ in
-    let nine = answers StarBroken star refl (c .before .before .before .before .check .ensures) in
-    let eight = answers SimpleBroken (ap (λ (f : Findings). f .simple) found) nine (c .before .before .before .check2 .ensures) in
-    let seven = answers NoLabel (ap (λ (f : Findings). f .labelled) found) eight (c .before .before .check3 .ensures) in
-    let six = answers NoRight (ap (λ (f : Findings). f .matrix) found) seven (c .before .check4 .ensures) in
-    answers AbsentSubject (ap (λ (f : Findings). f .enrolled) found) six (c .check5 .ensures)
+returns c = let found = c .before .before .before .before .before .before .before .before .findings-over .ensures in
+    let wall = ap not (c .before .before .before .before .before .before .before .breaks-wall .ensures) ∙ not-not _ ∙ wall-all _ in
+    let star = ap not (c .before .before .before .before .before .before .breaks-star .ensures) ∙ not-not _ ∙ between-all _ in
+    let eighteen = answers WallBroken wall refl (c .before .before .before .before .before .check .ensures) in
+    let nine = answers StarBroken star eighteen (c .before .before .before .before .check2 .ensures) in
+    let eight = answers SimpleBroken (ap (λ (f : Findings). f .simple) found) nine (c .before .before .before .check3 .ensures) in
+    let seven = answers NoLabel (ap (λ (f : Findings). f .labelled) found) eight (c .before .before .check4 .ensures) in
+    let six = answers NoRight (ap (λ (f : Findings). f .matrix) found) seven (c .before .check5 .ensures) in
+    answers AbsentSubject (ap (λ (f : Findings). f .enrolled) found) six (c .check6 .ensures)
 
 pub state-checks-spec : {M : Type 1} → statement M
 state-checks-spec =
     tie.close
     (tie.spec
     findings-over-requires
+    breaks-wall-requires
     breaks-star-requires
     check-requires
     check-requires-2
     check-requires-3
     check-requires-4
     check-requires-5
+    check-requires-6
     returns)

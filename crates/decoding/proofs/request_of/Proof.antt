@@ -37,12 +37,16 @@ returns-6 c = rw (c .match .keys6)
 
 returns-7 : tie.Need-returns-7
 unfolding request
-returns-7 c =
+returns-7 c = rw (c .match .keys7, c .before .level-of .ensures)
+
+returns-8 : tie.Need-returns-8
+unfolding request
+returns-8 c =
     let k = c .before .before .before .args .f .kind in
     let n = c .match .rest in
-    rw (ne-eqb k 1 (n .0 .0 .0 .0 .0 .1), ne-eqb k 2 (n .0 .0 .0 .0 .1), ne-eqb k 3 (n .0 .0 .0 .1), ne-eqb k 4 (n .0 .0 .1), ne-eqb k 5 (n .0 .1), ne-eqb k 6 (n .1), c .before .level-of .ensures)
+    rw (ne-eqb k 1 (n .0 .0 .0 .0 .0 .0 .1), ne-eqb k 2 (n .0 .0 .0 .0 .0 .1), ne-eqb k 3 (n .0 .0 .0 .0 .1), ne-eqb k 4 (n .0 .0 .0 .1), ne-eqb k 5 (n .0 .0 .1), ne-eqb k 6 (n .0 .1), ne-eqb k 7 (n .1))
 
 pub request-of-spec : {M : Type 1} → statement M
 request-of-spec =
     tie.close
-    (tie.spec mode-of-requires level-of-requires returns returns-2 returns-3 returns-4 returns-5 returns-6 returns-7)
+    (tie.spec mode-of-requires level-of-requires returns returns-2 returns-3 returns-4 returns-5 returns-6 returns-7 returns-8)

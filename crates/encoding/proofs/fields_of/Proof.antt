@@ -58,6 +58,9 @@ without-level-requires-6 c κs = search needs
 enum-known-q-7 : tie.Need-enum-known-q-7
 enum-known-q-7 c = search needs
 
+enum-known-q-8 : tie.Need-enum-known-q-8
+enum-known-q-8 c = search needs
+
 returns : tie.Need-returns
 returns c = rw (c .before .before .before .q .given .1, c .without-level .ensures, c .before .mode-number .ensures)
 
@@ -83,6 +86,9 @@ returns-6 c = rw (c .before .before .q6 .given .1, c .without-level6 .ensures)
 returns-7 : tie.Need-returns-7
 returns-7 c = rw (c .before .q7 .given .1)
 
+returns-8 : tie.Need-returns-8
+returns-8 c = rw (c .before .q8 .given .1)
+
 pub fields-of-spec : {M : Type 1} → statement M
 fields-of-spec =
     tie.close
@@ -104,10 +110,12 @@ fields-of-spec =
     enum-known-q-6
     without-level-requires-6
     enum-known-q-7
+    enum-known-q-8
     returns
     returns-2
     returns-3
     returns-4
     returns-5
     returns-6
-    returns-7)
+    returns-7
+    returns-8)

@@ -1,6 +1,6 @@
 -- `writing::write_object` meets its contract.
 -- Assumes nothing.
--- Five bits, the label and the sets, one behind the other, are the object's record; where there is no object, its bits are all 0.
+-- Five bits, the label, the company numbers and the sets, one behind the other, are the object's record; where there is no object, its bits are all 0.
 -- Assumes nothing.
 use mathlib.Core.Path.{refl, sym, ap, _∙_}
 use mathlib.Core.Bool.{Bool}
@@ -46,6 +46,12 @@ add-write-label c = search needs
 write-label-requires : tie.Need-write-label-requires
 write-label-requires c κs = search needs
 
+add-write-companies : tie.Need-add-write-companies
+add-write-companies c = search needs
+
+write-companies-requires : tie.Need-write-companies-requires
+write-companies-requires c κs = search needs
+
 add-write-sets : tie.Need-add-write-sets
 add-write-sets c = search needs
 
@@ -58,7 +64,8 @@ same-length-2 c = search needs
 returns-2 : tie.Need-returns-2
 unfolding objectBits
 returns-2 c =
-    let third = c .before .before in
+    let fourth = c .before .before in
+    let third = fourth .before .before .before .before in
     let second = third .before .before .before .before in
     let first = second .before .before .before .before in
     let word = first .before in
@@ -66,11 +73,14 @@ returns-2 c =
     let ob = a .object in
     let head = word .side-by-side in
     let A = appended (a .out .now) (first .append .last .0) (a .at) (a .acc) 5 (head .result) (first .append .result) (lit≤ tt) (omega (arith, word .before .before .before .before .before .before .before .pre)) (first .append .ensures) in
+    let numbers = toBits 16 (ob .companies) in
+    let sets = setsBits (ob .rights) (ob .held) in
     let record-bits =
-    ap (λ (l : List Bool). (l ++ labelBits (ob .label)) ++ setsBits (ob .rights) (ob .held)) (ap (toBits 5) (head .ensures) ∙ flag-bits (ob .live) (ob .owner))
-    ∙ append-assoc (ob .live ∷ toBits 4 (ob .owner)) (labelBits (ob .label)) (setsBits (ob .rights) (ob .held)) in
+    ap (λ (l : List Bool). ((l ++ labelBits (ob .label)) ++ numbers) ++ sets) (ap (toBits 5) (head .ensures) ∙ flag-bits (ob .live) (ob .owner))
+    ∙ append-assoc ((ob .live ∷ toBits 4 (ob .owner)) ++ labelBits (ob .label)) numbers sets
+    ∙ append-assoc (ob .live ∷ toBits 4 (ob .owner)) (labelBits (ob .label)) (numbers ++ sets) in
     ends _ _ record-bits (omega arith)
-    (next _ _ (omega arith) (next _ _ (omega arith) A (second .write-label .ensures)) (third .write-sets .ensures))
+    (next _ _ (omega arith) (next _ _ (omega arith) (next _ _ (omega arith) A (second .write-label .ensures)) (third .write-companies .ensures)) (fourth .write-sets .ensures))
 
 pub write-object-spec : {M : Type 1} → statement M
 write-object-spec =
@@ -85,6 +95,8 @@ write-object-spec =
     append-requires
     add-write-label
     write-label-requires
+    add-write-companies
+    write-companies-requires
     add-write-sets
     write-sets-requires
     same-length-2

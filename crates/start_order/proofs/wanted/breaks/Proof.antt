@@ -4,6 +4,7 @@ use mathlib.Core.Path.{sym, ap, ap₂, _∙_, subst}
 use mathlib.Core.Bool.{Bool, not, _&&_}
 use lib.Dec.{eqb}
 use borrow.Author.Needs.{needs}
+use Rattle.model.specs.Companies.{wallKept}
 use Rattle.model.specs.ModePairs.{entry, kept}
 use Rattle.unit.specs.Rows.{stateIn}
 use Rattle.start_order.specs.declared.wanted.Wanted.{Wanted}
@@ -34,6 +35,17 @@ label-of-requires-2 c κs = (c .before .before .before .before .before .before .
 labels-keep-requires : tie.Need-labels-keep-requires
 labels-keep-requires c κs = search needs
 
+companies-of-requires : tie.Need-companies-of-requires
+unfolding Fits
+companies-of-requires c κs = (c .before .before .before .before .before .before .before .before .before .pre .0, subst Fits (c .before .before .before .before .before .before .before .v .given .1) (c .before .before .before .before .before .before .before .before .before .pre .1 .0) .1)
+
+companies-of-requires-2 : tie.Need-companies-of-requires-2
+unfolding Fits
+companies-of-requires-2 c κs = (c .before .before .before .before .before .before .before .before .before .before .pre .0, subst Fits (c .before .before .before .before .before .w .given .1) (c .before .before .before .before .before .before .before .before .before .before .pre .1 .1) .1)
+
+companies-keep-requires : tie.Need-companies-keep-requires
+companies-keep-requires c κs = search needs
+
 returns : tie.Need-returns
 unfolding breaks
 returns c =
@@ -49,11 +61,12 @@ returns-2 c =
 returns-3 : tie.Need-returns-3
 unfolding breaks
 returns-3 c =
-    let start = c .before .before .before .before .before .before .before .before .before .args in
-    let v = c .before .before .before .before .before .before .before .v in
-    let w = c .before .before .before .before .w in
-    ap (λ (k : Bool). eqb (v .given .0 .0) (w .given .0 .0) && not k)
-    (c .labels-keep .ensures ∙ ap₂ (kept (entry (v .given .0 .1 .1 .0) (w .given .0 .1 .1 .0))) (c .before .before .label-of .ensures) (c .before .label-of2 .ensures))
+    let start = c .before .before .before .before .before .before .before .before .before .before .before .before .args in
+    let v = c .before .before .before .before .before .before .before .before .before .before .v in
+    let w = c .before .before .before .before .before .before .before .w in
+    let labels = c .before .before .before .labels-keep .ensures ∙ ap₂ (kept (entry (v .given .0 .1 .1 .0) (w .given .0 .1 .1 .0))) (c .before .before .before .before .before .label-of .ensures) (c .before .before .before .before .label-of2 .ensures) in
+    let numbers = c .companies-keep .ensures ∙ ap₂ (wallKept (v .given .0 .1 .1 .0) (w .given .0 .1 .1 .0)) (c .before .before .companies-of .ensures) (c .before .companies-of2 .ensures) in
+    ap₂ (λ (j k : Bool). eqb (v .given .0 .0) (w .given .0 .0) && not (j && k)) labels numbers
     ∙ sym (ap₂ (breaks (stateIn (start .unit .now))) (v .given .1) (w .given .1))
 
 pub breaks-spec : {M : Type 1} → statement M
@@ -67,6 +80,9 @@ breaks-spec =
     label-of-requires
     label-of-requires-2
     labels-keep-requires
+    companies-of-requires
+    companies-of-requires-2
+    companies-keep-requires
     returns
     returns-2
     returns-3)

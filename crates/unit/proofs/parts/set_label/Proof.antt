@@ -8,6 +8,9 @@ use Rattle.unit.proofs.parts.set_label.Tie as tie
 rest-of-requires : tie.Need-rest-of-requires
 rest-of-requires c κs = search needs
 
+companies-in-requires : tie.Need-companies-in-requires
+companies-in-requires c κs = search needs
+
 array-read-flag : tie.Need-array-read-flag
 array-read-flag c = search needs
 
@@ -28,13 +31,14 @@ same-length c = search needs
 
 returns : tie.Need-returns
 unfolding objectOf
-returns c = rw (c .before .set-rest .ensures, c .before .before .before .row-of .ensures, c .before .before .before .before .flag .ensures, c .before .before .before .before .before .rest-of .ensures)
+returns c = rw (c .before .set-rest .ensures, c .before .before .before .row-of .ensures, c .before .before .before .before .flag .ensures, c .before .before .before .before .before .companies-in .ensures, c .before .before .before .before .before .before .rest-of .ensures)
 
 pub set-label-spec : {M : Type 1} → statement M
 set-label-spec =
     tie.close
     (tie.spec
     rest-of-requires
+    companies-in-requires
     array-read-flag
     flag-requires
     array-read-row-of

@@ -8,15 +8,20 @@ use Rattle.unit.proofs.whole.object_of.Tie as tie
 label-in-requires : tie.Need-label-in-requires
 label-in-requires c κs = search needs
 
-array-read-t9 : tie.Need-array-read-t9
-array-read-t9 c = search needs
+companies-in-requires : tie.Need-companies-in-requires
+companies-in-requires c κs = search needs
 
-array-read-t13 : tie.Need-array-read-t13
-array-read-t13 c = search needs
+array-read-t10 : tie.Need-array-read-t10
+array-read-t10 c = search needs
+
+array-read-t14 : tie.Need-array-read-t14
+array-read-t14 c = search needs
 
 returns : tie.Need-returns
 unfolding objectOf
-returns c = rw (c .label-in .ensures)
+returns c = rw (c .before .label-in .ensures, c .companies-in .ensures)
 
 pub object-of-spec : {M : Type 1} → statement M
-object-of-spec = tie.close (tie.spec label-in-requires array-read-t9 array-read-t13 returns)
+object-of-spec =
+    tie.close
+    (tie.spec label-in-requires companies-in-requires array-read-t10 array-read-t14 returns)
