@@ -9,6 +9,8 @@ pub const OBJECTS: usize = 64;
 
 const READS: u8 = Mode::Read.bit() | Mode::Write.bit();
 const WRITES: u8 = Mode::Write.bit() | Mode::Append.bit();
+/// The four modes; a set may be a byte with other bits, which are no modes.
+const ANY: u8 = READS | WRITES | Mode::Execute.bit();
 
 #[derive(Clone, Debug, PartialEq, Eq)]
 pub struct Object {
@@ -28,7 +30,7 @@ impl Object {
 
     /// Whether the subject holds any access on it, e too.
     pub fn holds(&self, subject: usize) -> bool {
-        self.held[subject] != 0
+        self.held[subject] & ANY != 0
     }
 
     pub fn reads(&self, subject: usize) -> bool {
