@@ -1,5 +1,5 @@
 /* Tables, requests and images by their bits, a page by its characters and a load by its draws, written from docs/FORMATS.md
- * alone: a table with three subjects, each of the seven kinds of request, the record of an object read out of the image, its
+ * alone: a table with three subjects, each of the eight kinds of request, the record of an object read out of the image, its
  * access page, and test loads made here beside those of the library. docs/FORMATS.md builds and runs it. */
 #include "circmon.h"
 #include <stdio.h>
@@ -22,7 +22,7 @@ static unsigned get(const uint8_t *bytes, unsigned at, unsigned width) {
     return number;
 }
 
-enum kind { GET = 1, RELEASE, GIVE, RESCIND, CREATE, DELETE, CHANGE_LEVEL };
+enum kind { GET = 1, RELEASE, GIVE, RESCIND, CREATE, DELETE, CHANGE_LEVEL, SET_COMPANIES };
 enum mode { NONE, R, W, A, E };
 
 struct request {
@@ -58,11 +58,15 @@ static void hex(const char *words, const uint8_t *bytes, size_t count) {
 }
 
 static void show_object(const uint8_t *image, unsigned object) {
-    unsigned at = 336 + 154 * object;
-    printf("o%u: live %u, owner %u, label %u, class %u, needs 0x%04X\n", object, get(image, at, 1), get(image, at + 1, 4),
+    unsigned at = 336 + 170 * object;
+    printf("o%u: live %u, owner %u, label %u, class %u, needs 0x%04X, companies", object, get(image, at, 1), get(image, at + 1, 4),
            get(image, at + 5, 1), get(image, at + 6, 4), get(image, at + 10, 16));
+    for (unsigned class = 1; class <= 4; class++) {
+        printf(" %u", get(image, at + 26 + 4 * (class - 1), 4));
+    }
+    printf("\n");
     for (unsigned subject = 0; subject < 16; subject++) {
-        unsigned rights = get(image, at + 26 + 8 * subject, 4), held = get(image, at + 30 + 8 * subject, 4);
+        unsigned rights = get(image, at + 42 + 8 * subject, 4), held = get(image, at + 46 + 8 * subject, 4);
         if (rights | held) {
             printf("    s%u: rights %X, accesses %X\n", subject, rights, held);
         }
@@ -130,6 +134,7 @@ static const struct request requests[] = {
     {"s1 rescinds r on o1 from s2", RESCIND, 1, 2, 1, R, 0, 0},
     {"s1 creates o63", CREATE, 1, 0, 63, NONE, 0, 0},
     {"s1 deletes o63", DELETE, 1, 0, 63, NONE, 0, 0},
+    {"s1 sets the companies of o1 to 3 0 0 1", SET_COMPANIES, 1, 0, 1, NONE, 0, 3 * 4096 + 0 * 256 + 0 * 16 + 1},
 };
 
 int main(void) {
@@ -145,7 +150,7 @@ int main(void) {
         hex(requests[i].words, bytes, sizeof bytes);
         printf(": %d\n", circmon_request(image, sizeof image, bytes, sizeof bytes));
     }
-    hex("bytes 61 to 66 of the image\n", image + 61, 6);
+    hex("bytes 63 to 70 of the image\n", image + 63, 8);
     show_object(image, 1);
     show_page(image, 1);
     compare_loads(10000);

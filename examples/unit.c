@@ -1,6 +1,7 @@
-/* A unit in C: it starts from an enrolment table, answers requests in memory, writes the access page of an object, saves its
- * state as an image and opens it again; a delete taken back; the order of two gets; a request on an image alone; two levels
- * compared; a test load; and a unit under the profile of a small plant. docs/EMBEDDING.md builds and runs it. */
+/* A unit in C: it starts from an enrolment table, answers requests in memory, writes the access page of an object, saves
+ * its state as an image and opens it again; a delete taken back; the order of two gets; objects of two competing
+ * companies; a request on an image alone; two levels compared; a test load; and a unit under the profile of a small
+ * plant. docs/EMBEDDING.md builds and runs it. */
 #include "circmon.h"
 #include <stdio.h>
 #include <string.h>
@@ -49,6 +50,19 @@ static void start_order(circmon_unit *unit) {
     printf("\n");
 }
 
+/* s1 sets the companies of o0 to 1 0 0 0 and those of o1 to 2 0 0 0: two that compete in conflict class 1. */
+static const uint8_t set_companies[2][CIRCMON_REQUEST_BYTES] = {{0x80, 0x80, 0x00, 0x01}, {0x80, 0x80, 0x08, 0x02}};
+/* s1 gets r on o0 and r on o1. */
+static const uint8_t reads[2][CIRCMON_REQUEST_BYTES] = {{0x10, 0x80, 0x01}, {0x10, 0x80, 0x09}};
+
+/* Both labels allow s1 to read, and the wall allows it one of the two at a time. */
+static void competing(circmon_unit *unit) {
+    printf("s1 sets the company of o0 to 1: %d\n", circmon_ask(unit, set_companies[0], sizeof set_companies[0]));
+    printf("s1 sets the company of o1 to 2: %d\n", circmon_ask(unit, set_companies[1], sizeof set_companies[1]));
+    printf("s1 gets r on o0: %d\n", circmon_ask(unit, reads[0], sizeof reads[0]));
+    printf("s1 gets r on o1: %d\n", circmon_ask(unit, reads[1], sizeof reads[1]));
+}
+
 /* s1 creates o9 and o10. */
 static const uint8_t make_o9[CIRCMON_REQUEST_BYTES] = {0x50, 0x80, 0x48}, make_o10[CIRCMON_REQUEST_BYTES] = {0x50, 0x80, 0x50};
 
@@ -86,6 +100,7 @@ int main(void) {
     /* the journal, which is behind the monitor, is not compared */
     printf("the two units are %s\n", memcmp(&unit, &again, CIRCMON_MONITOR_BYTES) == 0 ? "equal" : "different");
     start_order(&again);
+    competing(&again);
     /* without a unit: the image is read, checked and written by the call */
     memcpy(image, saved, sizeof image);
     printf("s1 releases r on o0, on an image: %d\n", circmon_request(image, sizeof image, release, sizeof release));

@@ -13,7 +13,8 @@
  * without one; 8 the simple property would break, of an image: is broken; 9 the star property would break, of an image: is
  * broken; 10 another length; 11 a stray bit in what is absent; 12 an absent subject owns, has a right or holds; 13 the buffer
  * is too short; 14 the new label does not dominate the one that the object has; 15 the seed of a load is 0; 16 a profile
- * outside its ranges, or a clearance or label outside the profile; 17 the journal is empty: nothing to take back.
+ * outside its ranges, or a clearance or label outside the profile; 17 the journal is empty: nothing to take back; 18 the wall of
+ * competing companies would break, of an image: is broken.
  * circmon_compare has four numbers of its own, and circmon_clash has four codes of its own. docs/FORMATS.md has the bytes.
  *
  * A function that returns a number with a count beside it returns both in 64 bits: the number in the low byte and the count,
@@ -28,7 +29,7 @@ extern "C" {
 #endif
 
 #define CIRCMON_TABLE_BYTES 42
-#define CIRCMON_IMAGE_BYTES 1274
+#define CIRCMON_IMAGE_BYTES 1402
 #define CIRCMON_REQUEST_BYTES 6
 #define CIRCMON_DISTINGUISH_BYTES 24
 #define CIRCMON_UNIT_BYTES 4928
@@ -86,8 +87,8 @@ _Static_assert(sizeof(circmon_unit) == CIRCMON_UNIT_BYTES, "a unit has no paddin
 #endif
 
 /* Begins from an image under the widest profile.
- * Returns 0, and the unit is the monitor of the image; or the first refusal of 10, 11, 12, 6, 7, 8, 9, and the unit is the
- * empty monitor, nobody enrolled. Of this and of the three below: the journal is empty, also where the image was saved from a
+ * Returns 0, and the unit is the monitor of the image; or the first refusal of 10, 11, 12, 6, 7, 8, 9, 18, and the unit is
+ * the empty monitor, nobody enrolled. Of this and of the three below: the journal is empty, also where the image was saved from a
  * unit that had entries. Every byte of the unit is written; what was in it before does not matter. */
 uint8_t circmon_open(circmon_unit *unit, const uint8_t *image, circmon_size image_len);
 
@@ -98,8 +99,8 @@ uint8_t circmon_start(circmon_unit *unit, const uint8_t *table, circmon_size tab
 
 /* Begins from an image under a profile.
  * Returns 16 where the profile is outside its ranges, before the image is looked at; else 0, and the unit is the monitor of the
- * image with this profile; or the first refusal of 10, 11, 16, 12, 6, 7, 8, 9. Of this order 16 is a clearance or label outside
- * the profile. Where it is not 0, the unit is the empty monitor, nobody enrolled, which has the widest profile.
+ * image with this profile; or the first refusal of 10, 11, 16, 12, 6, 7, 8, 9, 18. Of this order 16 is a clearance or label
+ * outside the profile. Where it is not 0, the unit is the empty monitor, nobody enrolled, which has the widest profile.
  * Every byte of the unit is written; what was in it before does not matter. */
 uint8_t circmon_open_in(circmon_unit *unit, uint8_t subjects, uint8_t objects, uint8_t highest_class, uint16_t needs,
                         const uint8_t *image, circmon_size image_len);
@@ -113,14 +114,14 @@ uint8_t circmon_start_in(circmon_unit *unit, uint8_t subjects, uint8_t objects, 
                          const uint8_t *table, circmon_size table_len);
 
 /* Carries out a request: bytes of any length and content; what is no request, or is outside the profile of the unit, gets 2.
- * Returns the reply. Below 2 it is granted: 0 and the state changed, 1 and it was so already. 2 to 9 or 14 is the first check
- * that refuses, and every byte of the unit is left. With reply 0 the record of the object as it was is entered in the journal;
- * where that has 32 entries, the oldest gives way. With any other reply no byte of the journal changes. */
+ * Returns the reply. Below 2 it is granted: 0 and the state changed, 1 and it was so already. 2 to 9, 14 or 18 is the first
+ * check that refuses, and every byte of the unit is left. With reply 0 the record of the object as it was is entered in the
+ * journal; where that has 32 entries, the oldest gives way. With any other reply no byte of the journal changes. */
 uint8_t circmon_ask(circmon_unit *unit, const uint8_t *request, circmon_size request_len);
 
 /* Takes back the latest request that is in the journal.
- * Returns 0, and the object of the latest entry has the record that the entry keeps: rights, accesses held, owner and label, or
- * that it was not live; the entry is gone. Or 17 where the journal is empty, and every byte of the unit is left.
+ * Returns 0, and the object of the latest entry has the record that the entry keeps: rights, accesses held, owner, label and
+ * companies, or that it was not live; the entry is gone. Or 17 where the journal is empty, and every byte of the unit is left.
  * Of a unit that was opened or started with 0 and then only asked and taken back, 0 restores exactly the state before the latest
  * request still in the journal, and n calls after n requests with reply 0, n at most 32 and no taking-back among them, the
  * state before them all.
@@ -128,8 +129,8 @@ uint8_t circmon_ask(circmon_unit *unit, const uint8_t *request, circmon_size req
  * which no request does. It restores records, and not the data of an object. */
 uint8_t circmon_take_back(circmon_unit *unit);
 
-/* Writes the image of the state into the first 1,274 bytes of the buffer and leaves any later byte.
- * Returns 0; or 13 where the buffer has under 1,274 bytes, and leaves every byte of it. The unit is only read. The image does
+/* Writes the image of the state into the first 1,402 bytes of the buffer and leaves any later byte.
+ * Returns 0; or 13 where the buffer has under 1,402 bytes, and leaves every byte of it. The unit is only read. The image does
  * not say the profile: it is opened again under the profile of this unit. Nor is the journal in it. */
 uint8_t circmon_save(const circmon_unit *unit, uint8_t *image, circmon_size image_len);
 
@@ -150,8 +151,8 @@ uint8_t circmon_page(const circmon_unit *unit, uint8_t object, uint8_t *page, ci
  * 2 CIRCMON_ORDERS_NO_GET: the piece at place FIRST is no well-formed get inside the profile of the unit, and every one before
  *   it is.
  * 1 CIRCMON_ORDERS_CLASH: the gets at the places FIRST and SECOND are each granted if it came alone, and would together break
- *   the star property: no order grants both, and not all orders leave equal states. FIRST is the lower place, the least that
- *   there is, and SECOND the least for it.
+ *   the star property or the wall: no order grants both, and not all orders leave equal states. FIRST is the lower place, the
+ *   least that there is, and SECOND the least for it.
  * 0 CIRCMON_ORDERS_AGREE: none of these; all orders of the list leave equal states, and each get is granted in all of them, with
  *   0 or 1, or refused in all.
  * What 0 and 1 say of orders is proved of a unit that was opened or started with 0 and then only asked and taken back; which code
@@ -162,16 +163,16 @@ uint64_t circmon_clash(const circmon_unit *unit, const uint8_t *requests, circmo
  * None of these keeps a journal. */
 
 /* Begins a monitor from an enrolment table and writes its image.
- * Returns 10 or 11 where the table is refused; then 13 where the buffer has under 1,274 bytes; else 0.
- * A refusal leaves every byte of the buffer. 0 fills its first 1,274 bytes and leaves any later byte. */
+ * Returns 10 or 11 where the table is refused; then 13 where the buffer has under 1,402 bytes; else 0.
+ * A refusal leaves every byte of the buffer. 0 fills its first 1,402 bytes and leaves any later byte. */
 uint8_t circmon_begin(const uint8_t *table, circmon_size table_len, uint8_t *image, circmon_size image_len);
 
-/* Reads an image. Returns 0 where it is accepted, else the first refusal of 10, 11, 12, 6, 7, 8, 9. */
+/* Reads an image. Returns 0 where it is accepted, else the first refusal of 10, 11, 12, 6, 7, 8, 9, 18. */
 uint8_t circmon_read(const uint8_t *image, circmon_size image_len);
 
 /* Carries out a request on the state in the buffer, which is exactly an image.
  * Where the image is refused with n, returns 128 + n and leaves every byte.
- * Else returns the reply, 0 to 9 or 14, and writes the image of the state after the request in place. */
+ * Else returns the reply, 0 to 9, 14 or 18, and writes the image of the state after the request in place. */
 uint8_t circmon_request(uint8_t *image, circmon_size image_len, const uint8_t *request, circmon_size request_len);
 
 /* Runs requests of six bytes in a row, from a monitor begun from a table; a short last piece counts and gets 2.

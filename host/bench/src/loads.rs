@@ -1,10 +1,11 @@
-//! The loads: each a table and requests, of one kind or mixed, on few or many objects; a test load from a seed; and one under a
-//! narrow profile.
+//! The loads: each a table and requests, of one kind or mixed, on few or many objects; a test load from a seed; one under a
+//! narrow profile; and those with companies (`companies`).
 
+use crate::companies;
 use load::{Random, Shape};
 use reference::{Kind, Level, Monitor, Profile, Request, REQUEST_BYTES, SUBJECTS};
 
-const REQUESTS: usize = 20_000;
+pub const REQUESTS: usize = 20_000;
 
 /// A load: a table, requests that make a state, and behind them the requests that count.
 pub struct Load {
@@ -16,7 +17,7 @@ pub struct Load {
 }
 
 pub fn shape(objects: usize) -> Shape {
-    Shape { objects, subjects: SUBJECTS, classes: 4, needs: 2, damaged: 1_000_000 }
+    Shape { objects, subjects: SUBJECTS, classes: 4, needs: 2, companies: 0, damaged: 1_000_000 }
 }
 
 /// Requests that leave `objects` live objects, most of them labelled, with many rights; dense: all labelled, with many
@@ -118,6 +119,7 @@ pub fn loads() -> Vec<Load> {
     }
     loads.push(from_seed(1));
     loads.push(small_plant());
+    loads.extend(companies::loads());
     loads
 }
 

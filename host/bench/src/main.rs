@@ -6,6 +6,7 @@
 //! medians and their ratio, above 1 where the proved monitor is ahead. Before each timing the reply buffer is cleared,
 //! for all alike, outside the time taken.
 
+mod companies;
 mod images;
 mod journal;
 mod loads;

@@ -64,7 +64,7 @@ fn sixteen_actors() -> Case {
     let mut gets: Vec<Get> = Vec::new();
     while gets.len() < GETS {
         let get = any(random, gets.len() % SUBJECTS);
-        let clashes = |other: &Get| other.actor == get.actor && monitor.break_star_together(get, *other);
+        let clashes = |other: &Get| other.actor == get.actor && monitor.clash(get, *other);
         if monitor.grants_alone(get) && !gets.iter().any(clashes) {
             gets.push(get);
         }

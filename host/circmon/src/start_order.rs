@@ -8,8 +8,8 @@ pub const MOST_GETS: usize = 4096;
 pub enum StartOrder {
     /// all orders of the list leave equal states, and each get is granted in all of them or refused in all
     Agree,
-    /// the gets at these two places are each granted if it came alone, and would together break the star property: so the
-    /// order matters; first is the lower place, the least that there is, and second the least for it
+    /// the gets at these two places are each granted if it came alone, and would together break the star property or the wall:
+    /// so the order matters; first is the lower place, the least that there is, and second the least for it
     Clash { first: usize, second: usize },
     /// the piece at this place is no well-formed get, and every one before it is
     NoGet { at: usize },

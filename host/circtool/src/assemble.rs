@@ -5,7 +5,7 @@ use crate::action::Action;
 use crate::kinds::{Row, Takes};
 use crate::level::Level;
 use crate::mode::Mode;
-use crate::phrases::{level, mode, numbered, object, profile, with_execute};
+use crate::phrases::{companies, level, mode, numbered, object, profile, with_execute};
 use crate::profile::Stated;
 use crate::request::{Kind, Parts, Request};
 use crate::script::{number, Line, ScriptError, MARK};
@@ -229,7 +229,7 @@ fn hex_byte(word: &str) -> Option<u8> {
     plain.then(|| u8::from_str_radix(word, 16).ok())?
 }
 
-const VERBS: &str = "a request (create, get, release, give, rescind, delete or level)";
+const VERBS: &str = "a request (create, get, release, give, rescind, delete, level or companies)";
 
 /// `s1 get r o0` and the others: the parts that the kind uses, each in its place.
 fn request(line: &mut Line) -> Result<Request, ScriptError> {
@@ -249,6 +249,9 @@ fn request(line: &mut Line) -> Result<Request, ScriptError> {
     }
     if row.class || row.needs {
         parts.level = level(line)?;
+    }
+    if row.companies {
+        parts.companies = companies(line)?;
     }
     line.finish()?;
     match Kind::new(row.number, parts) {

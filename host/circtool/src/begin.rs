@@ -2,6 +2,7 @@
 
 use crate::action::Action;
 use crate::input::{assembled, form, is_text, Form, Input};
+use crate::layout::FORMER_IMAGE_BYTES;
 use crate::outcome::{refused, trouble, Step};
 use crate::profile::{one_of, Profile};
 use crate::refusal;
@@ -20,7 +21,9 @@ pub struct Begun {
 pub fn begin(input: &Input, asked: Option<Form>, given: Option<Profile>) -> Step<Begun> {
     match asked.unwrap_or_else(|| form(&input.bytes)) {
         Form::Script => begin_script(input, given),
-        Form::Bytes if asked.is_none() && is_image(&input.bytes) => Err(trouble(image_message(&input.name))),
+        Form::Bytes if asked.is_none() && is_image(&input.bytes) => {
+            Err(trouble(image_message(&input.name, &input.bytes)))
+        }
         Form::Bytes => {
             let (table, requests) = input.bytes.split_at(input.bytes.len().min(TABLE_BYTES));
             let unit = begin_table(given.unwrap_or(Profile::WIDEST), &input.name, table)?;
@@ -43,14 +46,17 @@ fn begin_table(profile: Profile, name: &str, table: &[u8]) -> Step<Unit> {
     Unit::from_table_in(profile, table).map_err(|number| refused(refusal::of_table(profile, name, table, number)))
 }
 
-/// 1,274 bytes are 42 of a table, 205 requests and two bytes too many: a whole run never has them.
+/// 1,402 bytes are 42 of a table, 226 requests and four bytes too many, and the 1,274 of a former image 205 requests and two bytes
+/// too many: a whole run never has them.
 pub fn is_image(bytes: &[u8]) -> bool {
-    bytes.len() == IMAGE_BYTES && !is_text(bytes)
+    [IMAGE_BYTES, FORMER_IMAGE_BYTES].contains(&bytes.len()) && !is_text(bytes)
 }
 
-pub fn image_message(name: &str) -> String {
+pub fn image_message(name: &str, bytes: &[u8]) -> String {
+    let former = if bytes.len() == FORMER_IMAGE_BYTES { " of the former size" } else { "" };
     format!(
-        "{name}: {IMAGE_BYTES} bytes are an image, and no table with whole requests behind it\n  \
-         'circtool show' prints the state in an image; a run and a load begin from a table\n"
+        "{name}: {} bytes are an image{former}, and no table with whole requests behind it\n  \
+         'circtool show' prints the state in an image; a run and a load begin from a table\n",
+        bytes.len()
     )
 }

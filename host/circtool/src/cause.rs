@@ -6,6 +6,7 @@ use crate::mode::{Mode, Modes};
 use crate::properties::{self, Holding, Pair};
 use crate::request::{Kind, Malformed, Request};
 use crate::view::{Object, View};
+use crate::wall::{self, Breach};
 use crate::words::malformed_words;
 use circmon::compare;
 use std::fmt;
@@ -21,13 +22,15 @@ pub enum Cause {
     NoLabel { object: usize },
     Simple { place: Holding, by: By },
     Star { pair: Pair, by: By },
+    Wall { breach: Breach, by: By },
 }
 
-/// What would break a property: an access that comes to those held, or another label below them.
+/// What would break a property: an access that comes to those held, or another label or other companies below them.
 #[derive(Clone, Copy, Debug, PartialEq, Eq)]
 pub enum By {
     Access,
     Level,
+    Companies,
 }
 
 /// Ownership or a right that the actor does not have.
@@ -70,6 +73,7 @@ impl Cause {
             Cause::Simple { .. } => 8,
             Cause::Star { .. } => 9,
             Cause::Lowered { .. } => 14,
+            Cause::Wall { .. } => 18,
         }
     }
 }
@@ -88,7 +92,7 @@ pub fn judge(view: &View, bytes: &[u8]) -> Verdict {
     }
 }
 
-/// The first cause in the order 3, then 4 or 5, then 6, 14, 7, 8, 9; no kind has both 14 and 7.
+/// The first cause in the order 3, then 4 or 5, then 6, 14, 7, 8, 9, 18; no kind has both 14 and 7.
 fn refusal(view: &View, after: &View, request: &Request) -> Option<Cause> {
     enrolment(view, request)
         .or_else(|| life(view, request))
@@ -97,6 +101,7 @@ fn refusal(view: &View, after: &View, request: &Request) -> Option<Cause> {
         .or_else(|| label(after, request))
         .or_else(|| simple(after, request))
         .or_else(|| star(after, request))
+        .or_else(|| wall(after, request))
 }
 
 fn enrolment(view: &View, request: &Request) -> Option<Cause> {
@@ -123,7 +128,7 @@ fn missing(view: &View, request: &Request) -> Option<Cause> {
     let (owning, right) = match request.kind {
         Kind::Get(mode) => (false, Some(mode)),
         Kind::Give(_, mode) | Kind::Rescind(_, mode) => (true, Some(mode)),
-        Kind::Delete | Kind::ChangeLevel(_) => (true, None),
+        Kind::Delete | Kind::ChangeLevel(_) | Kind::SetCompanies(_) => (true, None),
         Kind::Release(_) | Kind::Create { .. } => (false, None),
     };
     let rights = it.rights[request.actor];
@@ -169,8 +174,18 @@ fn star(after: &View, request: &Request) -> Option<Cause> {
     Some(Cause::Star { pair, by: by(request) })
 }
 
+/// A get of e has this check too.
+fn wall(after: &View, request: &Request) -> Option<Cause> {
+    if !matches!(request.kind, Kind::Get(_) | Kind::SetCompanies(_)) {
+        return None;
+    }
+    let breach = wall::breaches(after).into_iter().next()?;
+    Some(Cause::Wall { breach, by: by(request) })
+}
+
 fn by(request: &Request) -> By {
     match request.kind {
+        Kind::SetCompanies(_) => By::Companies,
         Kind::ChangeLevel(_) => By::Level,
         _ => By::Access,
     }
@@ -207,6 +222,7 @@ fn change(it: &mut Object, actor: usize, kind: Kind) {
             it.held[other] = it.held[other].without(mode);
         }
         Kind::ChangeLevel(level) => it.label = Some(level),
+        Kind::SetCompanies(companies) => it.companies = companies,
         Kind::Create { .. } | Kind::Delete => {}
     }
 }
@@ -233,13 +249,24 @@ impl fmt::Display for Cause {
                 "o{object} has no label; that is not class 0: nobody reads, writes or appends to it before it has one"
             ),
             Cause::Simple { place, by: By::Access } => write!(out, "{}", place.simple_words()),
-            Cause::Simple { place, by: By::Level } => {
+            Cause::Simple { place, by: By::Level | By::Companies } => {
                 let held = place.held.reading();
                 write!(out, "s{} holds {held} on o{}, and with the new level ", place.subject, place.object)?;
                 write!(out, "{}", place.simple_words())
             }
-            Cause::Star { pair, by: By::Access } => write!(out, "{}", pair.words("would hold")),
-            Cause::Star { pair, by: By::Level } => write!(out, "with the new level {}", pair.words("holds")),
+            Cause::Star { pair, by } => write!(out, "{}", by.said(|verb| pair.words(verb))),
+            Cause::Wall { breach, by } => write!(out, "{}", by.said(|verb| breach.words(verb))),
+        }
+    }
+}
+
+impl By {
+    /// What somebody holds who would break a property, behind what changes.
+    fn said(self, words: impl Fn(&str) -> String) -> String {
+        match self {
+            By::Access => words("would hold"),
+            By::Level => format!("with the new level {}", words("holds")),
+            By::Companies => format!("with the new companies {}", words("holds")),
         }
     }
 }

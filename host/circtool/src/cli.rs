@@ -126,7 +126,7 @@ fn dis(arguments: &Arguments, standard_input: &mut dyn Read) -> Step<Outcome> {
     if is_text(&input.bytes) {
         outcome.err = format!("{}: it looks like a script; 'circtool asm' turns a script into bytes\n", input.name);
     } else if is_image(&input.bytes) {
-        outcome.err = image_message(&input.name);
+        outcome.err = image_message(&input.name, &input.bytes);
     }
     Ok(outcome)
 }

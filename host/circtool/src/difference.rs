@@ -4,7 +4,7 @@ use crate::level::{label_words, level_words, Level};
 use crate::mode::Modes;
 use crate::view::{Object, View, OBJECTS, SUBJECTS};
 
-/// One line for each difference: subjects first, then each object with owner, label, rights and accesses.
+/// One line for each difference: subjects first, then each object with owner, label, companies, rights and accesses.
 pub fn differences(a: &View, b: &View) -> Vec<String> {
     let subjects = (0..SUBJECTS).filter_map(|subject| clearance(subject, a.subjects[subject], b.subjects[subject]));
     let objects = (0..OBJECTS).flat_map(|object| match (&a.objects[object], &b.objects[object]) {
@@ -23,7 +23,8 @@ fn clearance(subject: usize, a: Option<Level>, b: Option<Level>) -> Option<Strin
 }
 
 fn brief(object: &Object) -> String {
-    format!("owner s{}, {}", object.owner, labelled(object.label))
+    let companies = if object.companies.is_none() { String::new() } else { format!(", {}", object.companies.words()) };
+    format!("owner s{}, {}{companies}", object.owner, labelled(object.label))
 }
 
 fn labelled(label: Option<Level>) -> String {
@@ -37,6 +38,9 @@ fn both_live(object: usize, a: &Object, b: &Object) -> Vec<String> {
     }
     if a.label != b.label {
         lines.push(format!("o{object}: {} in A, {} in B", labelled(a.label), labelled(b.label)));
+    }
+    if a.companies != b.companies {
+        lines.push(format!("o{object}: {} in A, {} in B", a.companies.words(), b.companies.words()));
     }
     for subject in 0..SUBJECTS {
         lines.extend(row(object, subject, "rights", a.rights[subject], b.rights[subject]));

@@ -3,12 +3,13 @@
 
 use crate::bits::bit;
 use crate::layout::{bit_name, object_at, place, record_of, subject_at, Record};
-use crate::layout::{LABEL_AT, LABEL_BITS, OBJECT_BITS, SUBJECT_BITS};
+use crate::layout::{FORMER_IMAGE_BYTES, LABEL_AT, LABEL_BITS, OBJECT_BITS, SUBJECT_BITS};
 use crate::level::{level_words, Level};
 use crate::mode::Modes;
 use crate::profile::{self, Profile};
 use crate::properties::{self, Holding, Pair};
 use crate::view::{View, OBJECTS, SUBJECTS};
+use crate::wall::{self, Breach};
 use circmon::{IMAGE_BYTES, TABLE_BYTES};
 use std::fmt;
 
@@ -23,6 +24,7 @@ pub enum Fault {
     Label(Holding),
     Simple(Holding),
     Star(Pair),
+    Wall(Breach),
 }
 
 /// What is absent and has a bit of its own set.
@@ -48,13 +50,13 @@ pub fn of_table(profile: Profile, bytes: &[u8]) -> Vec<Fault> {
     }
 }
 
-/// Checks 10, 11, 16, 12, 6, 7, 8, 9 of an image, each over the whole image before the next.
+/// Checks 10, 11, 16, 12, 6, 7, 8, 9, 18 of an image, each over the whole image before the next.
 pub fn of_image(profile: Profile, bytes: &[u8]) -> Vec<Fault> {
     if bytes.len() != IMAGE_BYTES {
         return vec![Fault::Length { found: bytes.len(), expected: IMAGE_BYTES }];
     }
     let view = View::new(bytes).under(profile);
-    let checks: [&dyn Fn() -> Vec<Fault>; 7] = [
+    let checks: [&dyn Fn() -> Vec<Fault>; 8] = [
         &|| stray(profile, bytes),
         &|| outside(&view),
         &|| not_enrolled(&view),
@@ -62,6 +64,7 @@ pub fn of_image(profile: Profile, bytes: &[u8]) -> Vec<Fault> {
         &|| properties::label(&view).into_iter().map(Fault::Label).collect(),
         &|| properties::simple(&view).into_iter().map(Fault::Simple).collect(),
         &|| properties::star(&view).into_iter().map(Fault::Star).collect(),
+        &|| wall::breaches(&view).into_iter().map(Fault::Wall).collect(),
     ];
     checks.iter().map(|check| check()).find(|faults| !faults.is_empty()).unwrap_or_default()
 }
@@ -138,6 +141,7 @@ impl Fault {
             Fault::Label(_) => 7,
             Fault::Simple(_) => 8,
             Fault::Star(_) => 9,
+            Fault::Wall(_) => 18,
         }
     }
 
@@ -151,6 +155,7 @@ impl Fault {
             Fault::NotEnrolled { subject, object, .. } => vec![Record::Subject(*subject), Record::Object(*object)],
             Fault::Discretionary(it) | Fault::Label(it) | Fault::Simple(it) => of(it),
             Fault::Star(pair) => [of(&pair.read), of(&pair.written)].concat(),
+            Fault::Wall(breach) => [of(&breach.from), of(&breach.to)].concat(),
         }
     }
 }
@@ -159,6 +164,9 @@ impl fmt::Display for Fault {
     fn fmt(&self, out: &mut fmt::Formatter) -> fmt::Result {
         match self {
             Fault::Length { found: 1, expected } => write!(out, "1 byte, not {expected}"),
+            Fault::Length { found: found @ FORMER_IMAGE_BYTES, expected: expected @ IMAGE_BYTES } => {
+                write!(out, "{found} bytes, not {expected}: an image of the former size, without company numbers")
+            }
             Fault::Length { found, expected } => write!(out, "{found} bytes, not {expected}"),
             Fault::Stray { absent, bits } => write!(out, "{absent}, and {}", stray_words(bits)),
             Fault::Outside { record, level, profile } => {
@@ -188,6 +196,7 @@ impl fmt::Display for Fault {
                 write!(out, "s{} holds {} on o{}; {}", it.subject, it.held, it.object, it.simple_words())
             }
             Fault::Star(pair) => write!(out, "{}", pair.words("holds")),
+            Fault::Wall(breach) => write!(out, "{}", breach.words("holds")),
         }
     }
 }

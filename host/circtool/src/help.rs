@@ -44,14 +44,15 @@ the needs. What is outside it in a request gets 2.
   s1 get r o0                      s1 release r o0
   s1 give s0 r o1                  s1 rescind s0 r o1
   s1 delete o0
+  s1 companies o0 1 0 0 2          the company of o0 in each of the four conflict classes, class 1 first; 0 for none
   take back                        takes back the latest request in the journal; for 'run' and 'explain'
   bytes 50 80 00 00 00 01          six raw bytes in hexadecimal; fewer only in the last line
   table-bytes 88 00 ..             the table by its 42 bytes, in place of the subjects; fewer (or 'none') only where
                                    no request follows
 
-Subjects are 0 to 15, objects 0 to 63, classes and needs 0 to 15, modes r, w, a, e. A profile has 1 to 16 subjects, 1 to
-64 objects, a class from 0 to 15 and any needs. Between words stand spaces and tabs. A byte-order mark before the script
-is left out.
+Subjects are 0 to 15, objects 0 to 63, classes, needs and companies 0 to 15, modes r, w, a, e. A profile has 1 to 16
+subjects, 1 to 64 objects, a class from 0 to 15 and any needs. Between words stand spaces and tabs. A byte-order mark
+before the script is left out.
 
 A profile has no bytes, and circmon runs under the widest one, which a script without a profile has too: a script with
 another is not written. Nor is one with 'take back': taking back is no request and has no bytes.
@@ -78,10 +79,11 @@ Usage: circtool explain [--script | --bytes] [--profile PROFILE] [FILE]
 
 Runs the requests and prints each with its reply in words and, for a refusal, its cause in the state before the request:
 the right or ownership that is missing, the absent label, the new label that does not dominate the old one, the
-clearance that does not dominate a label, or the two objects that stand in the way of the star property. Of the last
-three it says how the one level compares with the other, 'below' (only the other one dominates) or 'apart' (neither
-does), and what is missing: the class, needs, or both. A level that is equal to the other or above it dominates it, and
-that is not refused. Of what is outside the profile it says what is in use.
+clearance that does not dominate a label, the two objects that stand in the way of the star property, or those that
+stand in the way of the wall of competing companies. Of two levels it says how the one compares with the other, 'below'
+(only the other one dominates) or 'apart' (neither does), and what is missing: the class, needs, or both. A level that
+is equal to the other or above it dominates it, and that is not refused. Of the wall it says who holds what, the
+companies of both objects in the conflict class, and the rule. Of what is outside the profile it says what is in use.
 
 A script may take back requests, with the line 'take back'. Then explain says which request that was and what its object
 is again; or, with 17, that there is none to take back. The journal keeps up to 32 requests with reply 0, the oldest
@@ -89,7 +91,7 @@ gives way, and the latest is taken back first.
 
 The input is a script or bytes as circmon reads them. Without a flag the first byte decides: 00, 80 to FF, or no byte at
 all is bytes, any other a script, and so is what begins with a byte-order mark. An accepted table is never taken for a
-script. 1,274 bytes are an image and are not run. circmon stops after 4,096 requests, circtool does not. Where the input
+script. 1,402 bytes are an image and are not run. circmon stops after 4,096 requests, circtool does not. Where the input
 is a script, the line of each request stands beside its step.
 
   --profile PROFILE   the profile of the site, where the script does not state it: as in a script, in one word of the
@@ -110,7 +112,7 @@ there is nothing to take back. With --image the image after the run is written t
 bad, OUT is as it was.
 
 The input is a script or bytes as circmon reads them. Without a flag the first byte decides: 00, 80 to FF, or no byte at
-all is bytes, any other a script, and so is what begins with a byte-order mark. 1,274 bytes are an image and not run.
+all is bytes, any other a script, and so is what begins with a byte-order mark. 1,402 bytes are an image and not run.
 circmon stops after 4,096 requests, circtool does not.
 
   --profile PROFILE   the profile of the site, where the script does not state it: as in a script, in one word of the
@@ -125,9 +127,9 @@ written, or errors in the script.
 pub const SHOW: &str = "\
 Usage: circtool show [--anyway] [--profile PROFILE] [IMAGE]
 
-Prints the state in an image: counts, enrolled subjects with clearances, live objects with owner, label or 'no label',
-and each subject that has rights or holds accesses on them. Of a refused image it prints the number, the check in words
-and where it failed; with --anyway also the fields as they stand, without what is marked absent.
+Prints the state in an image: counts, enrolled subjects with clearances, live objects with owner, label or 'no label'
+and companies, and each subject that has rights or holds accesses on them. Of a refused image it prints the number, the
+check in words and where it failed; with --anyway also the fields as they stand, without what is marked absent.
 
   --profile PROFILE   the profile of the monitor that wrote the image, which does not say it: as in a script, in one
                       word of the command line, 'subjects 4 objects 10 class 3 needs {0,1}'; else it is the widest
@@ -143,8 +145,8 @@ pub const PAGE: &str = "\
 Usage: circtool page [--profile PROFILE] IMAGE OBJECT ..
        circtool page [--profile PROFILE] --all [IMAGE]
 
-Prints the access page of each object, o0 to o63, or with --all of every live one: under its owner and its label or 'no
-label' the page as the library writes it, a line for each subject and a last line.
+Prints the access page of each object, o0 to o63, or with --all of every live one: under its owner, its label or 'no
+label' and its companies the page as the library writes it, a line for each subject and a last line.
 
   01 rwae r--- 1       s1 has the rights r, w, a and e and holds r, which is one access
   to 01 00 00 00 01    one subject holds r, none w, a or e; the total is one access
@@ -166,7 +168,7 @@ Usage: circtool load SEED COUNT [--table FILE] [--bytes]
 Writes COUNT requests that the library makes from SEED, as a script, with a first line that says seed and count. The
 same seed gives the same requests everywhere, and a longer load begins with a shorter one of the same seed. Every
 request is well formed under the widest profile, and a script with another is no table for it; most are refused, since
-every field is drawn.
+every field is drawn. No request of a load sets companies.
 
   --table FILE   puts the subjects of FILE in front: those of a script, whose other lines are left out, or those of a
                  table in bytes; '-' is standard input
@@ -205,9 +207,10 @@ which they wake: whether all orders of the gets in SCRIPT leave equal states, fr
 differ between orders and are not compared. The same get may stand in it twice.
 
 Where the order matters, two gets are named with their lines: each is granted if it came alone, and together they would
-break the star property. It says which label would have to dominate which and how they compare, and of the two orders
-that begin with these gets their replies and where the states that they leave differ. Where there are no two such gets,
-all orders leave equal states. Both are proved.
+break the star property or the wall of competing companies. It says which of the two: which label would have to dominate
+which and how they compare, or which companies stand against each other; and of the two orders that begin with these
+gets their replies and where the states that they leave differ. Where there are no two such gets, all orders leave equal
+states. Both are proved.
 
 SCRIPT has one get on a line, as 's1 get r o0', and no subject, since the image says who is enrolled. It takes nothing
 back. It may state the profile of the monitor that wrote the image.

@@ -19,6 +19,8 @@ pub struct Row {
     pub other: bool,
     pub class: bool,
     pub needs: bool,
+    /// whether the field of the needs holds company numbers
+    pub companies: bool,
     pub mode: Takes,
     /// what stands behind the actor in a script, and in a sentence
     pub script: &'static str,
@@ -27,10 +29,11 @@ pub struct Row {
 
 /// The row of a kind that uses no field; the others change it.
 const fn row(number: u32, name: &'static str, script: &'static str, sentence: &'static str) -> Row {
-    Row { number, name, other: false, class: false, needs: false, mode: Takes::NoMode, script, sentence }
+    let (other, class, needs, companies) = (false, false, false, false);
+    Row { number, name, other, class, needs, companies, mode: Takes::NoMode, script, sentence }
 }
 
-pub const KINDS: [Row; 7] = [
+pub const KINDS: [Row; 8] = [
     Row { mode: Takes::OneMode, ..row(1, "get", "get MODE OBJECT", "gets MODE on OBJECT") },
     Row { mode: Takes::OneMode, ..row(2, "release", "release MODE OBJECT", "releases MODE on OBJECT") },
     Row { other: true, mode: Takes::OneMode, ..row(3, "give", "give OTHER MODE OBJECT", "gives OTHER MODE on OBJECT") },
@@ -42,6 +45,10 @@ pub const KINDS: [Row; 7] = [
     Row { mode: Takes::Execute, ..row(5, "create", "create OBJECT with MODE", "creates OBJECT with MODE") },
     row(6, "delete", "delete OBJECT", "deletes OBJECT"),
     Row { class: true, needs: true, ..row(7, "level", "level OBJECT LEVEL", "changes the level of OBJECT to LEVEL") },
+    Row {
+        companies: true,
+        ..row(8, "companies", "companies OBJECT COMPANIES", "sets the companies of OBJECT to COMPANIES")
+    },
 ];
 
 /// What stands in the words of a kind that may be created without e, where it is.
@@ -80,6 +87,7 @@ mod tests {
                 assert_eq!(words.contains("MODE"), row.mode != Takes::NoMode, "{row:?}");
                 assert_eq!(words.contains(WITH_MODE), row.mode == Takes::Execute, "{row:?}");
                 assert_eq!(words.contains("LEVEL"), row.class || row.needs, "{row:?}");
+                assert_eq!(words.contains("COMPANIES"), row.companies, "{row:?}");
             }
         }
     }

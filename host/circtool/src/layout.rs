@@ -1,5 +1,6 @@
 //! Where the fields of a table and an image lie, in bits, and what each bit is called.
 
+use crate::companies::CONFLICT_CLASSES;
 use crate::mode::Mode;
 use circmon::{IMAGE_BYTES, OBJECTS, SUBJECTS, TABLE_BYTES};
 
@@ -10,9 +11,16 @@ type Fields = [(&'static str, usize)];
 const LEVEL: [(&str, usize); 3] = [("present", 1), ("class", 4), ("need", 16)];
 /// The rights and the accesses of one subject on an object.
 const SETS: [(&str, usize); 2] = [("right", 4), ("access", 4)];
+/// A company number.
+const COMPANY_BITS: usize = 4;
 /// An object's record.
-const OBJECT: [(&str, usize); 4] =
-    [("live", 1), ("owner", 4), ("label", LABEL_BITS), ("sets", SUBJECTS * width(&SETS))];
+const OBJECT: [(&str, usize); 5] = [
+    ("live", 1),
+    ("owner", 4),
+    ("label", LABEL_BITS),
+    ("company", CONFLICT_CLASSES * COMPANY_BITS),
+    ("sets", SUBJECTS * width(&SETS)),
+];
 
 pub const LABEL_BITS: usize = width(&LEVEL);
 pub const SUBJECT_BITS: usize = LABEL_BITS;
@@ -25,7 +33,10 @@ pub const RIGHTS: Place = place_of(&SETS, 0);
 pub const HELD: Place = place_of(&SETS, 1);
 pub const OWNER: Place = place_of(&OBJECT, 1);
 pub const LABEL_AT: usize = place_of(&OBJECT, 2).at;
-const SETS_AT: usize = place_of(&OBJECT, 3).at;
+pub const COMPANIES: Place = place_of(&OBJECT, 3);
+const SETS_AT: usize = place_of(&OBJECT, 4).at;
+/// The bytes of an image before objects had company numbers: such an image is refused by its length.
+pub const FORMER_IMAGE_BYTES: usize = TABLE_BYTES + OBJECTS * (OBJECT_BITS - COMPANIES.width) / 8;
 
 // the library and the fields say the same sizes
 const _: () = assert!(8 * TABLE_BYTES == SUBJECTS * SUBJECT_BITS);
@@ -116,6 +127,8 @@ fn level_bit(bit: usize, first: &str) -> String {
 fn object_bit(bit: usize) -> String {
     match field_of(&OBJECT, bit) {
         ("label", _) => level_bit(bit - LABEL_AT, "label present"),
+        // the number of the first class comes first
+        (name @ "company", behind) => format!("{name} of conflict class {}", CONFLICT_CLASSES - behind / COMPANY_BITS),
         ("sets", _) => set_bit(bit - SETS_AT),
         (name, _) => name.to_string(),
     }
@@ -147,10 +160,21 @@ mod tests {
         assert_eq!(bit_name(340), "owner");
         assert_eq!(bit_name(341), "label present");
         assert_eq!(bit_name(361), "need 0");
-        assert_eq!(bit_name(362), "right r of s0");
-        assert_eq!(bit_name(366), "access r of s0");
-        assert_eq!(record_of(10_191), Record::Object(63));
-        assert_eq!(bit_name(10_191), "access e of s15");
-        assert_eq!(place(10_191), "byte 1273, mask 0x01");
+        assert_eq!((bit_name(362), bit_name(365)), (class(1), class(1)));
+        assert_eq!((bit_name(366), bit_name(377)), (class(2), class(4)));
+        assert_eq!(bit_name(378), "right r of s0");
+        assert_eq!(bit_name(382), "access r of s0");
+        assert_eq!(record_of(11_215), Record::Object(63));
+        assert_eq!(bit_name(11_215), "access e of s15");
+        assert_eq!(place(11_215), "byte 1401, mask 0x01");
+    }
+
+    fn class(number: usize) -> String {
+        format!("company of conflict class {number}")
+    }
+
+    #[test]
+    fn an_image_was_16_bits_shorter_for_each_object() {
+        assert_eq!((IMAGE_BYTES, FORMER_IMAGE_BYTES), (1402, 1274));
     }
 }

@@ -12,6 +12,7 @@ use crate::properties::{self, Pair};
 use crate::refusal;
 use crate::request::{reasons_words, Malformed, Request};
 use crate::view::View;
+use crate::wall::{self, Breach};
 use crate::words::{bytes_words, count, reply_words, wrapped};
 use circmon::{StartOrder, Unit, MOST_GETS, REQUEST_BYTES};
 
@@ -188,18 +189,23 @@ fn replies(steps: &[Step; 2], paint: Paint) -> String {
     steps.iter().map(line).collect()
 }
 
-/// Which label would have to dominate which, and how they compare: found in the state with both accesses.
+/// Of the star property which label would have to dominate which, and how they compare; of the wall which companies stand against
+/// each other: found in the state with both accesses.
 fn reasons(before: &View, pieces: [&[u8]; 2]) -> Vec<String> {
     let [Ok(one), Ok(other)] = pieces.map(Request::decode) else { return no_reason() };
-    let pairs = properties::star(&after(&after(before, &one), &other));
-    if pairs.is_empty() {
-        return no_reason();
-    }
-    let reason = |pair: &Pair| {
+    let both = after(&after(before, &one), &other);
+    let star = |pair: &Pair| {
         let (read, written) = (pair.read.object, pair.written.object);
-        format!("the label of o{written} would have to dominate that of o{read}: {}", pair.words("would hold"))
+        let words = pair.words("would hold");
+        format!("the star property: the label of o{written} would have to dominate that of o{read}: {words}")
     };
-    pairs.iter().map(reason).collect()
+    let wall = |breach: &Breach| format!("the wall of competing companies: {}", breach.words("would hold"));
+    let broken = properties::star(&both).iter().map(star).chain(wall::breaches(&both).iter().map(wall)).collect();
+    if Vec::is_empty(&broken) {
+        no_reason()
+    } else {
+        broken
+    }
 }
 
 /// Must not happen, and must not pass for an explanation.

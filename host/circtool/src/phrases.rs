@@ -1,5 +1,6 @@
-//! What stands behind the first words of a line: modes, objects, levels, sets of needs, profiles.
+//! What stands behind the first words of a line: modes, objects, levels, sets of needs, companies, profiles.
 
+use crate::companies::{Companies, CONFLICT_CLASSES};
 use crate::level::Level;
 use crate::mode::Mode;
 use crate::profile::Profile;
@@ -51,6 +52,17 @@ pub fn level(line: &mut Line) -> Result<Level, ScriptError> {
     let needs = needs(line)?;
     line.finish()?;
     Ok(Level { class, needs })
+}
+
+/// `1 0 0 2`: a company number for each conflict class, 0 for none, up to the end of the line.
+pub fn companies(line: &mut Line) -> Result<Companies, ScriptError> {
+    let mut companies = Companies::default();
+    for (at, company) in companies.0.iter_mut().enumerate() {
+        let which = format!("the company of conflict class {} of {CONFLICT_CLASSES} (0 to 15, 0 for none)", at + 1);
+        *company = line.take(&which, |word| number(word, 15))? as u8;
+    }
+    line.finish()?;
+    Ok(companies)
 }
 
 /// A set of needs in braces, with a comma between two.

@@ -1,6 +1,7 @@
-//! Where a state breaks one of the four properties: every place, so that it can be named. Requests are explained from
-//! the state after them, refused images from the state that they say.
+//! Where a state breaks one of the four properties of rights and labels: every place, so that it can be named. Requests are explained
+//! from the state after them, refused images from the state that they say. The wall between companies is in `wall`.
 
+use crate::companies::Companies;
 use crate::level::{label_words, level_words, shortfall, Level};
 use crate::mode::Modes;
 use crate::view::{Object, View, SUBJECTS};
@@ -15,6 +16,7 @@ pub struct Holding {
     pub rights: Modes,
     pub clearance: Option<Level>,
     pub label: Option<Level>,
+    pub companies: Companies,
 }
 
 /// Two objects of one subject: the label of the written one does not dominate that of the read one.
@@ -32,11 +34,12 @@ fn holding(view: &View, subject: usize, object: usize, it: &Object) -> Holding {
         rights: it.rights[subject],
         clearance: view.subjects[subject],
         label: it.label,
+        companies: it.companies,
     }
 }
 
 /// Every holding of an access, by object and then by subject.
-fn holdings(view: &View) -> Vec<Holding> {
+pub fn holdings(view: &View) -> Vec<Holding> {
     view.live()
         .flat_map(|(object, it)| (0..it.held.len()).map(move |subject| holding(view, subject, object, it)))
         .filter(|it| !it.held.is_empty())
@@ -95,6 +98,11 @@ fn why(level: Option<Level>, other: Option<Level>, name: &str) -> String {
 }
 
 impl Holding {
+    /// The company of the object in a conflict class, 1 to 4; 0 for none.
+    pub fn company(&self, class: usize) -> u8 {
+        self.companies.0[class - 1]
+    }
+
     /// Why the clearance does not dominate the label.
     pub fn simple_words(&self) -> String {
         let clearance = self.clearance.map_or("none, it is absent".to_string(), level_words);

@@ -1,6 +1,7 @@
 //! The six bytes of a request: what they say, or why they say nothing.
 
 use crate::bits::{field, put};
+use crate::companies::{Companies, CONFLICT_CLASSES};
 use crate::kinds::{Row, KINDS, WITH_MODE};
 use crate::level::{level_words, Level};
 use crate::mode::Mode;
@@ -18,24 +19,31 @@ pub enum Kind {
     Create { execute: bool },
     Delete,
     ChangeLevel(Level),
+    SetCompanies(Companies),
 }
 
-/// What a kind says beside actor and object; a field that it does not use is 0, none or this level.
+/// What a kind says beside actor and object; what it does not use is 0, none, this level or these companies.
 #[derive(Clone, Copy)]
 pub struct Parts {
     pub other: usize,
     pub mode: Option<Mode>,
     pub level: Level,
+    pub companies: Companies,
 }
 
 impl Parts {
-    pub const NONE: Parts = Parts { other: 0, mode: None, level: Level { class: 0, needs: 0 } };
+    pub const NONE: Parts = Parts {
+        other: 0,
+        mode: None,
+        level: Level { class: 0, needs: 0 },
+        companies: Companies([0; CONFLICT_CLASSES]),
+    };
 }
 
 impl Kind {
     /// The kind with this number; nothing where it needs a mode and has none.
     pub fn new(number: u32, parts: Parts) -> Option<Kind> {
-        let Parts { other, mode, level } = parts;
+        let Parts { other, mode, level, companies } = parts;
         Some(match number {
             1 => Kind::Get(mode?),
             2 => Kind::Release(mode?),
@@ -44,6 +52,7 @@ impl Kind {
             5 => Kind::Create { execute: mode == Some(Mode::Execute) },
             6 => Kind::Delete,
             7 => Kind::ChangeLevel(level),
+            8 => Kind::SetCompanies(companies),
             _ => return None,
         })
     }
@@ -59,6 +68,7 @@ impl Kind {
             Kind::Create { execute } => (5, if execute { with(Mode::Execute) } else { Parts::NONE }),
             Kind::Delete => (6, Parts::NONE),
             Kind::ChangeLevel(level) => (7, Parts { level, ..Parts::NONE }),
+            Kind::SetCompanies(companies) => (8, Parts { companies, ..Parts::NONE }),
         }
     }
 }
@@ -140,7 +150,7 @@ impl Fields {
             let unused = [
                 ("other subject", row.other, self.other),
                 ("class", row.class, self.class),
-                ("needs", row.needs, self.needs),
+                ("needs", row.needs || row.companies, self.needs),
                 ("spare", false, self.spare),
             ];
             for (name, used, number) in unused {
@@ -171,8 +181,15 @@ impl Fields {
     }
 
     fn kind(&self) -> Option<Kind> {
-        let parts = Parts { other: self.other as usize, mode: Mode::from_number(self.mode), level: self.level() };
-        Kind::new(self.kind, parts)
+        Kind::new(
+            self.kind,
+            Parts {
+                other: self.other as usize,
+                mode: Mode::from_number(self.mode),
+                level: self.level(),
+                companies: Companies::from_bits(self.needs as u16),
+            },
+        )
     }
 }
 
@@ -198,7 +215,7 @@ impl Request {
     }
 
     pub fn encode(&self) -> [u8; REQUEST_BYTES] {
-        let (kind, Parts { other, mode, level }) = self.kind.parts();
+        let (kind, Parts { other, mode, level, companies }) = self.kind.parts();
         Fields {
             kind,
             actor: self.actor as u32,
@@ -206,7 +223,8 @@ impl Request {
             object: self.object as u32,
             mode: mode.map_or(0, Mode::number),
             class: level.class.into(),
-            needs: level.needs.into(),
+            // the same field: no kind uses both
+            needs: (level.needs | companies.bits()).into(),
             spare: 0,
         }
         .bytes()
@@ -224,13 +242,14 @@ impl Request {
 
     /// The actor, and the words of the kind with the fields in their places.
     fn filled(&self, words: fn(&Row) -> &str) -> String {
-        let (number, Parts { other, mode, level }) = self.kind.parts();
+        let (number, Parts { other, mode, level, companies }) = self.kind.parts();
         let words = Row::of_number(number).map_or("", words);
         let words = match mode {
             Some(mode) => words.replace("MODE", &mode.to_string()),
             None => words.replace(WITH_MODE, ""),
         };
         let words = words.replace("OTHER", &format!("s{other}")).replace("LEVEL", &level_words(level));
+        let words = words.replace("COMPANIES", &companies.to_string());
         format!("s{} {}", self.actor, words.replace("OBJECT", &format!("o{}", self.object)))
     }
 }

@@ -6,7 +6,7 @@ use crate::profile::{profile_words, Profile};
 use crate::view::{Object, View, SUBJECTS};
 use crate::words::count;
 
-/// The whole text: counts, the profile where it is not the widest, subjects with clearances, live objects with owner, label and rows.
+/// The whole text: counts, the profile where it is not the widest, subjects with clearances, live objects with owner, label, companies and rows.
 pub fn show(view: &View, paint: Paint) -> String {
     let mut text = format!("{}\n{}", counts(view), profile_lines(view.profile, paint));
     text.push_str(&format!("{}\n{}", paint.heading("subjects"), subject_lines(view)));
@@ -62,9 +62,10 @@ fn label(object: &Object, paint: Paint) -> String {
     }
 }
 
-/// An object with its owner and label.
+/// An object with its owner and label, and its companies where it has any.
 pub fn object_line(number: usize, object: &Object, paint: Paint) -> String {
-    format!("o{number:<3} owner s{:<3} {}\n", object.owner, label(object, paint))
+    let companies = if object.companies.is_none() { String::new() } else { format!("   {}", object.companies.words()) };
+    format!("o{number:<3} owner s{:<3} {}{companies}\n", object.owner, label(object, paint))
 }
 
 fn object_lines(number: usize, object: &Object, paint: Paint) -> String {

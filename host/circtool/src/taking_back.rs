@@ -76,6 +76,11 @@ impl Entry {
                     label(now.label)
                 )
             }
+            (Some(now), Some(restored)) if now.companies != restored.companies => format!(
+                "{start}: the record of o{object} is as it was before it, with {} and no longer {}",
+                restored.companies.words(),
+                now.companies.words()
+            ),
             _ => format!("{start}: the record of o{object} is as it was before it"),
         }
     }

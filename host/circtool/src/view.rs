@@ -2,7 +2,8 @@
 //! looked at too. What the monitor decides about it is asked of the library.
 
 use crate::bits::{bit, field, put};
-use crate::layout::{object_at, sets_at, subject_at, Place, CLASS, HELD, LABEL_AT, NEEDS, OWNER, RIGHTS};
+use crate::companies::Companies;
+use crate::layout::{object_at, sets_at, subject_at, Place, CLASS, COMPANIES, HELD, LABEL_AT, NEEDS, OWNER, RIGHTS};
 use crate::level::Level;
 use crate::mode::Modes;
 use crate::profile::Profile;
@@ -14,15 +15,16 @@ pub use circmon::{OBJECTS, SUBJECTS};
 pub struct Object {
     pub owner: usize,
     pub label: Option<Level>,
+    pub companies: Companies,
     pub rights: [Modes; SUBJECTS],
     pub held: [Modes; SUBJECTS],
 }
 
 impl Object {
-    /// Without label, right or access.
+    /// Without label, company, right or access.
     pub fn new(owner: usize) -> Object {
         let none = [Modes::default(); SUBJECTS];
-        Object { owner, label: None, rights: none, held: none }
+        Object { owner, label: None, companies: Companies::default(), rights: none, held: none }
     }
 }
 
@@ -97,6 +99,7 @@ fn object_in(bytes: &[u8], at: usize) -> Option<Object> {
     bit(bytes, at).then(|| Object {
         owner: number(bytes, at, OWNER) as usize,
         label: level_at(bytes, at + LABEL_AT),
+        companies: Companies::from_bits(number(bytes, at, COMPANIES) as u16),
         rights: std::array::from_fn(|subject| modes(subject, RIGHTS)),
         held: std::array::from_fn(|subject| modes(subject, HELD)),
     })

@@ -148,7 +148,7 @@ fn a_refused_image_has_status_1_and_its_place() {
     assert!(out(&anyway).starts_with("REFUSED IMAGE: "), "{}", out(&anyway));
     assert!(out(&anyway).contains("  o0   owner s0   no label"));
     assert_eq!(err(&anyway), err(&output));
-    let short = circtool(&["show", "--anyway"], &bytes[..1273]);
+    let short = circtool(&["show", "--anyway"], &bytes[..circmon::IMAGE_BYTES - 1]);
     ended(&short, 1);
     assert!(short.stdout.is_empty());
 }

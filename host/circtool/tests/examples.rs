@@ -9,7 +9,11 @@ use reference::{Journaled, Monitor};
 use shared::second_profile;
 
 /// The numbers that each example is written to show.
-const EXAMPLES: [(&str, &[u8]); 12] = [
+const EXAMPLES: [(&str, &[u8]); 13] = [
+    (
+        "competing-suppliers",
+        &[0, 0, 0, 0, 0, 0, 0, 0, 0, 0, 0, 0, 0, 0, 0, 0, 0, 0, 18, 18, 0, 0, 0, 18, 0, 18, 1, 18, 0, 0],
+    ),
     ("four-answers", &[0, 0, 0, 0, 0, 0, 0, 0, 0, 0, 0, 8, 8, 8, 8, 8, 8, 0, 0, 9, 0, 9, 0, 0]),
     ("lobby-display", &[0, 0, 0, 0, 7, 7, 7, 0, 8, 8, 0, 14, 8]),
     ("marked-run", &[0, 7, 0, 1, 0, 0, 0, 0, 9, 0, 8, 0, 9, 6, 0, 1]),

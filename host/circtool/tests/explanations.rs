@@ -11,6 +11,7 @@ use circtool::mode::Modes;
 use circtool::paint::Paint;
 use circtool::properties::{Holding, Pair};
 use circtool::view::View;
+use circtool::wall::Breach;
 use reference::{Kind, Monitor, Request};
 use shared::second;
 use sidebyside::{with_effect, Count, REPLIES, SHAPES};
@@ -26,6 +27,7 @@ fn holds(it: &Holding, state: &Monitor) {
     assert_eq!(it.held, Modes(object.held[it.subject]));
     assert_eq!(it.rights, Modes(object.rights[it.subject]));
     assert_eq!(it.label.map(second), object.label);
+    assert_eq!(it.companies.0, object.companies);
     assert_eq!(it.clearance.map(second), state.subjects[it.subject]);
 }
 
@@ -66,6 +68,17 @@ fn star_is_so(pair: &Pair, by: By, before: &Monitor, request: &Request) {
     assert!(by_level || pair.read.subject == request.actor, "a get breaks star for its actor only");
 }
 
+fn wall_is_so(breach: &Breach, by: By, before: &Monitor, request: &Request) {
+    let after = with_effect(before, request);
+    holds(&breach.from, &after);
+    holds(&breach.to, &after);
+    shared::wall_is_so(breach, &after, &format!("{request:?}"));
+    let by_companies = matches!(request.kind, Kind::SetCompanies(_));
+    assert_eq!(by, if by_companies { By::Companies } else { By::Access });
+    assert!([breach.from.object, breach.to.object].contains(&request.object));
+    assert!(by_companies || breach.from.subject == request.actor, "a get breaks the wall for its actor only");
+}
+
 /// That the cause is so, by the second implementation's state before the request.
 fn cause_is_so(cause: &Cause, before: &Monitor, bytes: &[u8]) {
     let Some(request) = Request::decode(bytes) else {
@@ -94,6 +107,7 @@ fn cause_is_so(cause: &Cause, before: &Monitor, bytes: &[u8]) {
         }
         Cause::Simple { place, by } => simple_is_so(place, *by, before, &request),
         Cause::Star { pair, by } => star_is_so(pair, *by, before, &request),
+        Cause::Wall { breach, by } => wall_is_so(breach, *by, before, &request),
     }
 }
 

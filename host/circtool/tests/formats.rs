@@ -79,7 +79,7 @@ fn kinds_modes_and_unused_fields_are_those_of_the_page() {
         assert_eq!(reply != 2, expected, "kind {kind}, mode {mode}, {other} {class} {needs} {spare}");
         well_formed += usize::from(expected);
     }
-    assert_eq!(well_formed, 4 + 4 + 8 + 8 + 2 + 1 + 4);
+    assert_eq!(well_formed, 4 + 4 + 8 + 8 + 2 + 1 + 4 + 2);
 }
 
 #[test]
@@ -145,6 +145,10 @@ fn object(bytes: &[u8], at: usize, fields: &Fields) -> Option<reference::Object>
     (read(bytes, at, fields["live"]) == 1).then(|| reference::Object {
         owner: read(bytes, at, fields["owner"]) as usize,
         label: level(bytes, at, fields["labelled"], fields),
+        companies: std::array::from_fn(|class| {
+            let (first, width) = fields["company"];
+            read(bytes, at, (first + 4 * class, width)) as u8
+        }),
         rights: sets(fields["rights"]),
         held: sets(fields["held"]),
     })
@@ -164,7 +168,7 @@ fn tables_and_images_have_the_fields_of_the_page() {
             assert_eq!(found, run.monitor.subjects[subject], "seed {seed}, subject {subject}");
         }
         for slot in 0..64 {
-            let found = object(&unit.image(), 336 + 154 * slot, &of_object);
+            let found = object(&unit.image(), 336 + 170 * slot, &of_object);
             assert_eq!(found, run.monitor.objects[slot], "seed {seed}, object {slot}");
         }
     }
@@ -220,10 +224,11 @@ fn the_worked_examples_are_what_the_library_reads_and_writes() {
     let subjects: Vec<_> = Monitor::from_table(&table).unwrap().subjects.into_iter().flatten().collect();
     assert_eq!(subjects.iter().map(|it| (it.class, it.needs)).collect::<Vec<_>>(), [(1, 1), (3, 3), (0, 0)]);
     let by = |kind| Request { kind, ..decoded }.encode();
-    for bytes in [by(Kind::Create { execute: true }), by(decoded.kind), by(Kind::Get(reference::Mode::Write))] {
-        assert_eq!(unit.ask(&bytes), 0);
+    let companies = Kind::SetCompanies([3, 0, 0, 1]);
+    for kind in [Kind::Create { execute: true }, decoded.kind, companies, Kind::Get(reference::Mode::Write)] {
+        assert_eq!(unit.ask(&by(kind)), 0, "{kind:?}");
     }
-    assert_eq!(unit.image()[61..67], in_image);
+    assert_eq!(unit.image()[63..71], in_image);
     let mut written = [0; PAGE_BYTES];
     assert_eq!(unit.page(1, &mut written), 0);
     let (page, written) = (document(), String::from_utf8(written.to_vec()).unwrap());
@@ -250,6 +255,6 @@ fn the_program_written_from_the_page_makes_each_kind() {
     }
     kinds.sort_unstable();
     kinds.dedup();
-    assert_eq!(kinds, [1, 2, 3, 4, 5, 6, 7]);
-    assert!(text.contains(&format!("{}  bytes 61 to 66 of the image\n", hex(&image(&monitor)[61..67]))), "{text}");
+    assert_eq!(kinds, [1, 2, 3, 4, 5, 6, 7, 8]);
+    assert!(text.contains(&format!("{}  bytes 63 to 70 of the image\n", hex(&image(&monitor)[63..71]))), "{text}");
 }

@@ -36,9 +36,9 @@ This is proved: docs/THEOREMS.md, start order of tasks.
 two gets, each granted if it came alone, and never both
   line 6: s0 gets r on o0
   line 8: s0 gets a on o1
-        the label of o1 would have to dominate that of o0: s0 would hold r on o0 (class 1 needs {{0}}) and a
-        on o1 (class 0 needs {{}}), and the label of o1 is below that of o0 and does not dominate it; missing:
-        the class (0 is under 1) and needs {{0}}
+        the star property: the label of o1 would have to dominate that of o0: s0 would hold r on o0 (class 1
+        needs {{0}}) and a on o1 (class 0 needs {{}}), and the label of o1 is below that of o0 and does not
+        dominate it; missing: the class (0 is under 1) and needs {{0}}
 
 A: line 6, line 8, then the others as they stand
   s0 gets r on o0  0 granted, the state changed
@@ -204,7 +204,7 @@ fn a_refused_image_and_bad_words_have_status_2() {
     let bad = bad.to_str().unwrap();
     let see = "see 'circtool orders --help'";
     for (words, message) in [
-        (vec![bad, EXAMPLE], format!("{bad}: image refused with 10 (another length)\n  5 bytes, not 1274")),
+        (vec![bad, EXAMPLE], format!("{bad}: image refused with 10 (another length)\n  5 bytes, not 1402")),
         (vec![], format!("circtool orders: expected 1 file, found 0; {see}")),
         (vec!["a", "b", "c"], format!("circtool orders: unexpected 'c'; {see}")),
         (vec!["a", "--script"], format!("circtool orders: unknown option '--script'; {see}")),

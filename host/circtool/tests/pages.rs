@@ -98,9 +98,9 @@ fn where_an_object_is_not_live_no_page_is_printed() {
 #[test]
 fn a_refused_image_is_told_as_show_tells_it() {
     let mut stray = image(&state());
-    stray[1273] ^= 0x01;
+    *stray.last_mut().unwrap() ^= 0x01;
     stray[41] ^= 0x01;
-    for bytes in [&stray[..], &stray[..1273], b"", b"s1 create o0\n"] {
+    for bytes in [&stray[..], &stray[..circmon::IMAGE_BYTES - 1], b"", b"s1 create o0\n"] {
         let shown = circtool(&["show"], bytes);
         for words in [vec!["page", "--all"], vec!["page", "-", "o7"], vec!["page", "-", "o1"]] {
             let output = circtool(&words, bytes);

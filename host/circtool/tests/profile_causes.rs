@@ -173,7 +173,7 @@ fn the_words_of_refused_tables_and_images() {
         [
             "a.img: image refused with 11 (a bit is set in what is absent)",
             "  subject record 9 is beyond the profile: 4 subjects, s0 to s3 are in use, and the bit at byte 23, mask 0x04 (enrolled) is set",
-            "  object record 63 is beyond the profile: 10 objects, o0 to o9 are in use, and the bit at byte 1254, mask 0x02 (live) is set, and 1 more of its bits",
+            "  object record 63 is beyond the profile: 10 objects, o0 to o9 are in use, and the bit at byte 1380, mask 0x02 (live) is set, and 1 more of its bits",
         ]
     );
 }

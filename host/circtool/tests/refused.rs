@@ -4,7 +4,7 @@ mod shared;
 
 use circmon::{Profile, IMAGE_BYTES};
 use circtool::fault::{self, Absent, Fault};
-use circtool::layout::record_of;
+use circtool::layout::{record_of, FORMER_IMAGE_BYTES};
 use circtool::refusal;
 use load::Random;
 use reference::{Monitor, Object};
@@ -48,7 +48,7 @@ fn each_single_bit_of_rich_images_is_located() {
             }
         }
     }
-    for number in [0, 6, 8, 9, 11, 12] {
+    for number in [0, 6, 8, 9, 11, 12, 18] {
         assert!(seen.of(number) > 0, "{number} was not met: {seen:?}");
     }
 }
@@ -74,12 +74,12 @@ fn images_damaged_in_random_ways() {
 #[test]
 fn states_that_break_one_property() {
     let mut seen = Count::default();
-    for seed in 0..400 {
+    for seed in 0..800 {
         let random = &mut Random::new(seed);
         let mut monitor = load::rich(seed, 10, 500);
         for object in monitor.objects.iter_mut().flatten() {
             if random.once_in(3) {
-                spoil(seed % 5, random.below(16), object);
+                spoil(seed % 6, random, object);
             }
         }
         let bytes = image(&monitor);
@@ -92,19 +92,21 @@ fn states_that_break_one_property() {
         }
         seen.note(number);
     }
-    for number in [6, 7, 8, 9, 12] {
+    for number in [6, 7, 8, 9, 12, 18] {
         assert!(seen.of(number) > 5, "{number} was not met often: {seen:?}");
     }
 }
 
-/// One of five ways to break a secure state, at one object.
-fn spoil(way: u64, subject: usize, object: &mut Object) {
+/// One of six ways to break a secure state, at one object.
+fn spoil(way: u64, random: &mut Random, object: &mut Object) {
+    let subject = random.below(16);
     match way {
         0 => object.label = None,
         1 => object.held[subject] |= reference::Mode::Append.bit(),
         2 => object.owner = subject,
         3 => object.label = object.label.map(|label| reference::Level { class: label.class + 1, ..label }),
-        _ => object.label = object.label.map(|_| reference::Level { class: 0, needs: 0 }),
+        4 => object.label = object.label.map(|_| reference::Level { class: 0, needs: 0 }),
+        _ => object.companies = std::array::from_fn(|_| random.below(3) as u8),
     }
 }
 
@@ -135,13 +137,14 @@ fn is_so(fault: &Fault, state: &Monitor, what: &str) {
             assert!(read.reads(pair.read.subject) && written.writes(pair.read.subject), "{what}");
             assert!(!written.label.unwrap().dominates(&read.label.unwrap()), "{what}");
         }
+        Fault::Wall(breach) => shared::wall_is_so(breach, state, what),
     }
 }
 
 #[test]
 fn lengths_and_tables() {
     let bytes = image(&load::rich(7, 20, 500));
-    for length in [0, 1, 41, 42, 43, 1273] {
+    for length in [0, 1, 41, 42, 43, FORMER_IMAGE_BYTES, IMAGE_BYTES - 1] {
         assert_eq!(circmon::read(&bytes[..length]), 10);
         assert_eq!(fault::of_image(WIDEST, &bytes[..length]), [Fault::Length { found: length, expected: IMAGE_BYTES }]);
     }
@@ -165,11 +168,11 @@ fn message(bytes: &[u8]) -> String {
 #[test]
 fn messages_name_the_check_and_the_place() {
     let empty = vec![0; IMAGE_BYTES];
-    let stray = flipped(&empty, 42 * 8 + 154 + 26 + 8 * 2 + 1);
+    let stray = flipped(&empty, 42 * 8 + 170 + 42 + 8 * 2 + 1);
     assert_eq!(
         message(&stray),
         "a.img: image refused with 11 (a bit is set in what is absent)\n  \
-         object record 1 is not live, and the bit at byte 66, mask 0x04 (right w of s2) is set\n"
+         object record 1 is not live, and the bit at byte 70, mask 0x04 (right w of s2) is set\n"
     );
     let subject = flipped(&flipped(&empty, 21 * 3 + 1), 21 * 3 + 20);
     assert_eq!(
@@ -177,7 +180,18 @@ fn messages_name_the_check_and_the_place() {
         "a.img: image refused with 11 (a bit is set in what is absent)\n  \
          subject record 3 is absent, and the bit at byte 8, mask 0x80 (class) is set, and 1 more of its bits\n"
     );
-    assert_eq!(message(&empty[..1273]), "a.img: image refused with 10 (another length)\n  1273 bytes, not 1274\n");
+    let company = flipped(&empty, 42 * 8 + 170 * 63 + 26 + 15);
+    assert_eq!(
+        message(&company),
+        "a.img: image refused with 11 (a bit is set in what is absent)\n  \
+         object record 63 is not live, and the bit at byte 1385, mask 0x01 (company of conflict class 4) is set\n"
+    );
+    assert_eq!(message(&empty[..1401]), "a.img: image refused with 10 (another length)\n  1401 bytes, not 1402\n");
+    assert_eq!(
+        message(&empty[..1274]),
+        "a.img: image refused with 10 (another length)\n  \
+         1274 bytes, not 1402: an image of the former size, without company numbers\n"
+    );
     let live = flipped(&empty, 42 * 8);
     assert_eq!(
         message(&live),

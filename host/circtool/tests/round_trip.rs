@@ -147,15 +147,16 @@ fn bytes_are_a_request_exactly_where_the_library_does_not_reply_2() {
         }
         seen += 1;
     }
-    // two actors on two objects: 4 get, 4 release, 8 give, 8 rescind, 2 create, 1 delete and 4 changes of level each
-    assert_eq!((seen, seen - malformed), (49_152, 4 * 31));
+    // two actors on two objects: 4 get, 4 release, 8 give, 8 rescind, 2 create, 1 delete, 4 changes of level and 2 settings of
+    // companies each
+    assert_eq!((seen, seen - malformed), (49_152, 4 * 33));
 }
 
 #[test]
 fn each_reason_stands_behind_its_bytes() {
     for (fields, reason) in [
-        ([0, 1, 0, 0, 0, 0, 0, 0], "kind 0 is not 1 to 7"),
-        ([8, 1, 0, 0, 0, 0, 0, 0], "kind 8 is not 1 to 7"),
+        ([0, 1, 0, 0, 0, 0, 0, 0], "kind 0 is not 1 to 8"),
+        ([9, 1, 0, 0, 0, 0, 0, 0], "kind 9 is not 1 to 8"),
         ([1, 16, 0, 0, 1, 0, 0, 0], "actor 16 is above 15"),
         ([3, 1, 16, 0, 1, 0, 0, 0], "other subject 16 is above 15"),
         ([1, 1, 0, 64, 1, 0, 0, 0], "object 64 is above 63"),
@@ -163,6 +164,9 @@ fn each_reason_stands_behind_its_bytes() {
         ([2, 1, 0, 0, 5, 0, 0, 0], "mode 5 is not allowed in release"),
         ([5, 1, 0, 0, 1, 0, 0, 0], "mode 1 is not allowed in create"),
         ([7, 1, 0, 0, 4, 0, 0, 0], "mode 4 is not allowed in level"),
+        ([8, 1, 0, 0, 4, 0, 7, 0], "mode 4 is not allowed in companies"),
+        ([8, 1, 2, 0, 0, 0, 7, 0], "the unused field other subject is 2, not 0"),
+        ([8, 1, 0, 0, 0, 3, 7, 0], "the unused field class is 3, not 0"),
         ([1, 1, 2, 0, 1, 0, 0, 0], "the unused field other subject is 2, not 0"),
         ([6, 1, 0, 0, 0, 3, 0, 0], "the unused field class is 3, not 0"),
         ([5, 1, 0, 0, 0, 0, 1, 0], "the unused field needs is 1, not 0"),

@@ -49,7 +49,7 @@ fn errors(script: &str) -> Vec<String> {
 #[test]
 fn errors_of_requests() {
     let first = "expected a subject (s0 to s15), 'take back', 'profile', 'subject', 'bytes' or 'table-bytes'";
-    let verbs = "expected a request (create, get, release, give, rescind, delete or level)";
+    let verbs = "expected a request (create, get, release, give, rescind, delete, level or companies)";
     for (line, error) in [
         ("s1 get x o0", "1:8: expected a mode (r, w, a or e), found 'x'".to_string()),
         ("s1 get rw o0", "1:8: expected a mode (r, w, a or e), found 'rw'".to_string()),
@@ -72,6 +72,7 @@ fn errors_of_requests() {
 
 #[test]
 fn errors_behind_the_first_words() {
+    let company = |class| format!("expected the company of conflict class {class} of 4 (0 to 15, 0 for none)");
     for (line, error) in [
         ("s1 give r o0", "1:9: expected a subject (s0 to s15), found 'r'".to_string()),
         ("s1 give s2 o0", "1:12: expected a mode (r, w, a or e), found 'o0'".to_string()),
@@ -93,6 +94,12 @@ fn errors_behind_the_first_words() {
         ("s1 level o0 class 2 needs {} 0", "1:30: expected the end of the line, found '0'".to_string()),
         ("s1 level o0 class 2 needs {0}x", "1:30: expected the end of the line, found 'x'".to_string()),
         ("s1 level o0 class 2 needs 0}", "1:27: expected a set of needs, as {0,1} or {}, found '0'".to_string()),
+        ("s1 companies o0", format!("1:16: {}, found the end of the line", company(1))),
+        ("s1 companies o0 1 0 0", format!("1:22: {}, found the end of the line", company(4))),
+        ("s1 companies o0 1 16 0 0", format!("1:19: {}, found '16'", company(2))),
+        ("s1 companies o0 {1,0,0,0}", format!("1:17: {}, found '{{'", company(1))),
+        ("s1 companies o0 1 0 0 2 3", "1:25: expected the end of the line, found '3'".to_string()),
+        ("s1 companies 1 0 0 2", "1:14: expected an object (o0 to o63), found '1'".to_string()),
         ("s1 delete o0 now", "1:14: expected the end of the line, found 'now'".to_string()),
     ] {
         assert_eq!(errors(line), [error], "{line}");

@@ -111,7 +111,7 @@ fn errors_of_the_line() {
         ("take back 2", vec!["1:11: expected the end of the line, found '2'"]),
         (
             "s1 take back",
-            vec!["1:4: expected a request (create, get, release, give, rescind, delete or level), found 'take'"],
+            vec!["1:4: expected a request (create, get, release, give, rescind, delete, level or companies), found 'take'"],
         ),
         (
             "take back\nsubject 1 class 0 needs {}",

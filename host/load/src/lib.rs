@@ -1,7 +1,7 @@
 //! Loads of requests from a seed. A run that draws every field at random is refused nearly always; these runs follow a
-//! state, so that grants, conflicts, changes of level, deletes and re-creates in one slot are all frequent.
+//! state, so that grants, conflicts, changes of level, companies, deletes and re-creates in one slot are all frequent.
 
-use reference::{Kind, Level, Mode, Monitor, Profile, Request, OBJECTS, SUBJECTS};
+use reference::{Companies, Kind, Level, Mode, Monitor, Profile, Request, CONFLICT_CLASSES, OBJECTS, SUBJECTS};
 
 /// Numbers from a seed (splitmix64).
 #[derive(Clone)]
@@ -48,6 +48,9 @@ pub struct Shape {
     /// classes and needs that levels take
     pub classes: usize,
     pub needs: usize,
+    /// companies of each conflict class, 0 to 15: few make one subject meet two of them; with 0 no request sets any, and a run is
+    /// the one that is drawn without them
+    pub companies: usize,
     /// once in how many requests a byte string is damaged or has another length
     pub damaged: usize,
 }
@@ -104,12 +107,13 @@ pub fn request(random: &mut Random, shape: Shape, monitor: &Monitor) -> Request 
         Some(it) if !random.once_in(3) => it.owner,
         _ => anyone,
     };
-    let kind = if live.is_none() && !random.once_in(8) { create } else { drawn(random) };
+    let kind = if live.is_none() && !random.once_in(8) { create } else { drawn(random, shape) };
     let fields = Fields {
         mode: random.mode(),
         other: random.below(shape.subjects),
         execute: random.once_in(2),
         level: inside(monitor.profile, new_level(random, shape, live.and_then(|it| it.label))),
+        companies: new_companies(random, shape, live.map_or([0; CONFLICT_CLASSES], |it| it.companies)),
     };
     Request { actor, object, kind: kind(fields) }
 }
@@ -139,12 +143,33 @@ fn step_up(random: &mut Random, shape: Shape, label: Level) -> Level {
     }
 }
 
+/// The companies that are to be set: mostly one class has another one or none, sometimes they are those that the object has, or it
+/// has none any more.
+pub fn new_companies(random: &mut Random, shape: Shape, companies: Companies) -> Companies {
+    if shape.companies == 0 {
+        return companies;
+    }
+    let mut new = companies;
+    match random.below(8) {
+        0 => {}
+        1 => new = [0; CONFLICT_CLASSES],
+        way => {
+            let company = if way < 4 { 0 } else { 1 + random.below(shape.companies) };
+            // the first class most often, so that two objects have companies of one class
+            let class = if random.once_in(2) { 0 } else { random.below(CONFLICT_CLASSES) };
+            new[class] = company as u8;
+        }
+    }
+    new
+}
+
 /// What a request of any kind may use.
 struct Fields {
     mode: Mode,
     other: usize,
     execute: bool,
     level: Level,
+    companies: Companies,
 }
 
 /// Makes a request of one kind.
@@ -154,8 +179,8 @@ fn create(it: Fields) -> Kind {
     Kind::Create { execute: it.execute }
 }
 
-/// How often each kind is drawn.
-const WEIGHTS: [(Make, usize); 7] = [
+/// How often each kind is drawn; the last one only where the shape has companies.
+const WEIGHTS: [(Make, usize); 8] = [
     (|it| Kind::Get(it.mode), 16),
     (|it| Kind::Release(it.mode), 3),
     (|it| Kind::Give(it.other, it.mode), 5),
@@ -163,11 +188,13 @@ const WEIGHTS: [(Make, usize); 7] = [
     (create, 1),
     (|_| Kind::Delete, 1),
     (|it| Kind::ChangeLevel(it.level), 5),
+    (|it| Kind::SetCompanies(it.companies), 5),
 ];
 
-fn drawn(random: &mut Random) -> Make {
-    let mut left = random.below(WEIGHTS.iter().map(|(_, weight)| weight).sum());
-    for (make, weight) in WEIGHTS {
+fn drawn(random: &mut Random, shape: Shape) -> Make {
+    let weights = &WEIGHTS[..WEIGHTS.len() - usize::from(shape.companies == 0)];
+    let mut left = random.below(weights.iter().map(|(_, weight)| weight).sum());
+    for &(make, weight) in weights {
         if left < weight {
             return make;
         }
@@ -195,10 +222,11 @@ pub fn bytes(random: &mut Random, shape: Shape, monitor: &Monitor) -> Vec<u8> {
     bytes
 }
 
-/// A state with n live, labelled objects and many rights and accesses.
+/// A state with n live, labelled objects, some companies and many rights and accesses.
 pub fn rich(seed: u64, objects: usize, requests: usize) -> Monitor {
     let random = &mut Random::new(seed);
-    let shape = Shape { objects: objects.min(OBJECTS), subjects: SUBJECTS, classes: 4, needs: 2, damaged: 50 };
+    let shape =
+        Shape { objects: objects.min(OBJECTS), subjects: SUBJECTS, classes: 4, needs: 2, companies: 2, damaged: 50 };
     let mut monitor = Monitor::from_table(&table(random, shape)).expect("a table that was written");
     for _ in 0..requests {
         let bytes = bytes(random, shape, &monitor);

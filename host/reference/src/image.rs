@@ -5,16 +5,18 @@ use crate::level::Level;
 use crate::monitor::Monitor;
 use crate::profile::Profile;
 use crate::record::{Object, OBJECTS, SUBJECTS};
-use crate::{reply, star};
+use crate::wall::CONFLICT_CLASSES;
+use crate::{reply, star, wall};
 
 const CLASS_BITS: usize = 4;
 const NEEDS_BITS: usize = 16;
 /// present or enrolled, class, needs
 const LABEL_BITS: usize = 1 + CLASS_BITS + NEEDS_BITS;
 const OWNER_BITS: usize = 4;
+const COMPANY_BITS: usize = 4;
 const SET_BITS: usize = 4;
-/// live, owner, label, then rights and accesses of each subject
-const OBJECT_BITS: usize = 1 + OWNER_BITS + LABEL_BITS + SUBJECTS * 2 * SET_BITS;
+/// live, owner, label, the company of each conflict class, then rights and accesses of each subject
+const OBJECT_BITS: usize = 1 + OWNER_BITS + LABEL_BITS + CONFLICT_CLASSES * COMPANY_BITS + SUBJECTS * 2 * SET_BITS;
 
 pub const TABLE_BYTES: usize = SUBJECTS * LABEL_BITS / 8;
 pub const IMAGE_BYTES: usize = TABLE_BYTES + OBJECTS * OBJECT_BITS / 8;
@@ -50,8 +52,8 @@ impl Monitor {
         Monitor::from_image_in(Profile::WIDEST, image)
     }
 
-    /// A monitor begun from an image: check 16 of the profile, then 10, 11, 16 of clearances and labels, 12, 6, 7, 8, 9, each
-    /// over the whole image before the next.
+    /// A monitor begun from an image: check 16 of the profile, then 10, 11, 16 of clearances and labels, 12, 6, 7, 8, 9, 18,
+    /// each over the whole image before the next.
     pub fn from_image_in(profile: Profile, image: &[u8]) -> Result<Monitor, u8> {
         if !profile.is_in_range() {
             return Err(reply::PROFILE);
@@ -84,7 +86,7 @@ impl Monitor {
         self.subjects.iter().flatten().chain(labels).any(|level| !self.profile.has_level(level))
     }
 
-    /// The first of checks 12, 6, 7, 8, 9 that the state fails.
+    /// The first of checks 12, 6, 7, 8, 9, 18 that the state fails.
     pub fn fault(&self) -> Option<u8> {
         let any = |bad: &dyn Fn(&Object, usize) -> bool| {
             self.objects.iter().flatten().any(|object| (0..SUBJECTS).any(|s| bad(object, s)))
@@ -108,6 +110,9 @@ impl Monitor {
         }
         if !(0..SUBJECTS).all(|s| star::kept(self.star, &self.objects, s)) {
             return Some(reply::STAR);
+        }
+        if !(0..SUBJECTS).all(|s| wall::kept(self.star, &self.objects, s)) {
+            return Some(reply::WALL);
         }
         None
     }
@@ -169,6 +174,9 @@ fn read_object(bits: &mut BitReader, form: &mut bool) -> Option<Object> {
     }
     let mut object = Object::new(bits.number(OWNER_BITS) as usize);
     object.label = read_label(bits, form);
+    for company in &mut object.companies {
+        *company = bits.number(COMPANY_BITS) as u8;
+    }
     for s in 0..SUBJECTS {
         object.rights[s] = bits.number(SET_BITS) as u8;
         object.held[s] = bits.number(SET_BITS) as u8;
@@ -197,6 +205,9 @@ fn write_object(bits: &mut BitWriter, object: &Option<Object>) {
     bits.bit(true);
     bits.number(object.owner as u32, OWNER_BITS);
     write_label(bits, &object.label);
+    for company in object.companies {
+        bits.number(company.into(), COMPANY_BITS);
+    }
     for s in 0..SUBJECTS {
         bits.number(object.rights[s].into(), SET_BITS);
         bits.number(object.held[s].into(), SET_BITS);

@@ -16,6 +16,7 @@ mod record;
 mod request;
 mod star;
 mod start_order;
+mod wall;
 
 pub use image::{IMAGE_BYTES, TABLE_BYTES};
 pub use journal::{Journaled, MOST_ENTRIES};
@@ -31,6 +32,7 @@ pub use record::{Object, OBJECTS, SUBJECTS};
 pub use request::{Kind, Request, REQUEST_BYTES};
 pub use star::Star;
 pub use start_order::{orders, Get, StartOrder, MOST_GETS};
+pub use wall::{Companies, CONFLICT_CLASSES};
 
 /// The numbers that requests, takings-back, readings, writings and loads return.
 pub mod reply {
@@ -56,6 +58,8 @@ pub mod reply {
     pub const PROFILE: u8 = 16;
     /// nothing to take back
     pub const EMPTY_JOURNAL: u8 = 17;
+    /// the wall between competing companies
+    pub const WALL: u8 = 18;
 }
 
 #[cfg(test)]
@@ -64,3 +68,5 @@ mod journal_tests;
 mod profile_tests;
 #[cfg(test)]
 mod tests;
+#[cfg(test)]
+mod wall_tests;

@@ -92,7 +92,7 @@ mod tests {
         match kind {
             Kind::Get(mode) | Kind::Release(mode) | Kind::Give(_, mode) | Kind::Rescind(_, mode) => Some(mode.number()),
             Kind::Create { execute } => Some(4 * u32::from(execute)),
-            Kind::Delete | Kind::ChangeLevel(_) => None,
+            Kind::Delete | Kind::ChangeLevel(_) | Kind::SetCompanies(_) => None,
         }
     }
 

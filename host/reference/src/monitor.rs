@@ -7,6 +7,7 @@ use crate::record::{Object, OBJECTS, SUBJECTS};
 use crate::reply;
 use crate::request::{Kind, Request};
 use crate::star::{self, Star};
+use crate::wall::{self, Companies};
 
 #[derive(Clone, Debug)]
 pub struct Monitor {
@@ -14,11 +15,11 @@ pub struct Monitor {
     pub objects: [Option<Object>; OBJECTS],
     /// what of these is in use
     pub profile: Profile,
-    /// which algorithm the star check uses; the answers are the same
+    /// which algorithm the checks of star and wall use; the answers are the same
     pub star: Star,
 }
 
-/// Two monitors are the same state where subjects, objects and profile are; how star is computed does not count.
+/// Two monitors are the same state where subjects, objects and profile are; how star and wall are computed does not count.
 impl PartialEq for Monitor {
     fn eq(&self, other: &Monitor) -> bool {
         self.subjects == other.subjects && self.objects == other.objects && self.profile == other.profile
@@ -72,6 +73,7 @@ impl Monitor {
             Kind::Create { execute } => self.create(actor, object, execute),
             Kind::Delete => self.delete(actor, object),
             Kind::ChangeLevel(level) => self.change_level(actor, object, level),
+            Kind::SetCompanies(companies) => self.set_companies(actor, object, companies),
         }
     }
 
@@ -93,13 +95,19 @@ impl Monitor {
         }
         let before = it.held[actor];
         it.held[actor] |= mode.bit();
-        if mode != Mode::Execute && !star::kept(self.star, &self.objects, actor) {
-            if let Some(it) = &mut self.objects[object] {
-                it.held[actor] = before;
-            }
-            return reply::STAR;
+        let broken = self.broken_by(actor, mode);
+        if let (Some(_), Some(it)) = (broken, &mut self.objects[object]) {
+            it.held[actor] = before;
         }
-        changed(before & mode.bit() == 0)
+        broken.unwrap_or(changed(before & mode.bit() == 0))
+    }
+
+    /// Checks 9 and 18 of a get, with the access held. The wall looks at e too.
+    fn broken_by(&self, actor: usize, mode: Mode) -> Option<u8> {
+        if mode != Mode::Execute && !star::kept(self.star, &self.objects, actor) {
+            return Some(reply::STAR);
+        }
+        (!wall::kept(self.star, &self.objects, actor)).then_some(reply::WALL)
     }
 
     fn release(&mut self, actor: usize, object: usize, mode: Mode) -> u8 {
@@ -191,6 +199,25 @@ impl Monitor {
             }
         }
         changed(before != Some(level))
+    }
+
+    /// "lets the owner set them": checks 4, 6, and the wall over all subjects in the state after it.
+    fn set_companies(&mut self, actor: usize, object: usize, companies: Companies) -> u8 {
+        let Some(it) = &mut self.objects[object] else {
+            return reply::NOT_LIVE;
+        };
+        if it.owner != actor {
+            return reply::NO_RIGHT;
+        }
+        let before = it.companies;
+        it.companies = companies;
+        if !(0..SUBJECTS).all(|s| wall::kept(self.star, &self.objects, s)) {
+            if let Some(it) = &mut self.objects[object] {
+                it.companies = before;
+            }
+            return reply::WALL;
+        }
+        changed(before != companies)
     }
 }
 

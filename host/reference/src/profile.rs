@@ -41,6 +41,8 @@ impl Profile {
         let fields = match &request.kind {
             Kind::Give(other, _) | Kind::Rescind(other, _) => self.has_subject(*other),
             Kind::ChangeLevel(level) => self.has_level(level),
+            // the numbers stand in the field of the needs and are none: "not bounded by the profile"
+            Kind::SetCompanies(_) => true,
             Kind::Get(_) | Kind::Release(_) | Kind::Create { .. } | Kind::Delete => true,
         };
         fields && self.has_subject(request.actor) && self.has_object(request.object)

@@ -2,25 +2,35 @@
 
 use crate::level::Level;
 use crate::mode::Mode;
+use crate::wall::{Companies, CONFLICT_CLASSES};
 
 pub const SUBJECTS: usize = 16;
 pub const OBJECTS: usize = 64;
 
 const READS: u8 = Mode::Read.bit() | Mode::Write.bit();
 const WRITES: u8 = Mode::Write.bit() | Mode::Append.bit();
+/// The four modes; a set may be a byte with other bits, which are no modes.
+const ANY: u8 = READS | WRITES | Mode::Execute.bit();
 
 #[derive(Clone, Debug, PartialEq, Eq)]
 pub struct Object {
     pub owner: usize,
     pub label: Option<Level>,
+    pub companies: Companies,
     pub rights: [u8; SUBJECTS],
     pub held: [u8; SUBJECTS],
 }
 
 impl Object {
-    /// Without label, right or access.
+    /// Without label, company, right or access.
     pub fn new(owner: usize) -> Object {
-        Object { owner, label: None, rights: [0; SUBJECTS], held: [0; SUBJECTS] }
+        let none = [0; SUBJECTS];
+        Object { owner, label: None, companies: [0; CONFLICT_CLASSES], rights: none, held: none }
+    }
+
+    /// Whether the subject holds any access on it, e too.
+    pub fn holds(&self, subject: usize) -> bool {
+        self.held[subject] & ANY != 0
     }
 
     pub fn reads(&self, subject: usize) -> bool {

@@ -4,6 +4,7 @@ use crate::bits::{BitReader, BitWriter};
 use crate::level::Level;
 use crate::mode::Mode;
 use crate::record::{OBJECTS, SUBJECTS};
+use crate::wall::{self, Companies};
 
 pub const REQUEST_BYTES: usize = 6;
 
@@ -16,6 +17,7 @@ pub enum Kind {
     Create { execute: bool },
     Delete,
     ChangeLevel(Level),
+    SetCompanies(Companies),
 }
 
 /// Which modes a kind takes.
@@ -55,6 +57,7 @@ fn row(kind: u32) -> Option<Row> {
         5 => Row { other: false, class: false, needs: false, mode: Takes::Execute },
         6 => Row { other: false, class: false, needs: false, mode: Takes::NoMode },
         7 => Row { other: false, class: true, needs: true, mode: Takes::NoMode },
+        8 => Row { other: false, class: false, needs: true, mode: Takes::NoMode },
         _ => return None,
     })
 }
@@ -101,20 +104,27 @@ impl Request {
             5 => Kind::Create { execute: moded.is_some() },
             6 => Kind::Delete,
             7 => Kind::ChangeLevel(Level { class, needs }),
+            8 => Kind::SetCompanies(wall::from_needs(needs)),
             _ => return None,
         };
         Some(Request { actor, object, kind })
     }
 
     pub fn encode(&self) -> [u8; REQUEST_BYTES] {
-        let (kind, other, mode, level) = match self.kind {
-            Kind::Get(mode) => (1, 0, mode.number(), None),
-            Kind::Release(mode) => (2, 0, mode.number(), None),
-            Kind::Give(other, mode) => (3, other, mode.number(), None),
-            Kind::Rescind(other, mode) => (4, other, mode.number(), None),
-            Kind::Create { execute } => (5, 0, if execute { 4 } else { 0 }, None),
-            Kind::Delete => (6, 0, 0, None),
-            Kind::ChangeLevel(level) => (7, 0, 0, Some(level)),
+        let (kind, other, mode) = match self.kind {
+            Kind::Get(mode) => (1, 0, mode.number()),
+            Kind::Release(mode) => (2, 0, mode.number()),
+            Kind::Give(other, mode) => (3, other, mode.number()),
+            Kind::Rescind(other, mode) => (4, other, mode.number()),
+            Kind::Create { execute } => (5, 0, if execute { 4 } else { 0 }),
+            Kind::Delete => (6, 0, 0),
+            Kind::ChangeLevel(_) => (7, 0, 0),
+            Kind::SetCompanies(_) => (8, 0, 0),
+        };
+        let (class, needs) = match self.kind {
+            Kind::ChangeLevel(Level { class, needs }) => (class, needs),
+            Kind::SetCompanies(companies) => (0, wall::to_needs(companies)),
+            _ => (0, 0),
         };
         let mut bytes = [0; REQUEST_BYTES];
         let mut bits = BitWriter::new(&mut bytes);
@@ -123,8 +133,8 @@ impl Request {
         bits.number(other as u32, 5);
         bits.number(self.object as u32, 7);
         bits.number(mode, 3);
-        bits.number(level.map_or(0, |l| l.class.into()), 4);
-        bits.number(level.map_or(0, |l| l.needs.into()), 16);
+        bits.number(class.into(), 4);
+        bits.number(needs.into(), 16);
         bytes
     }
 }

@@ -4,7 +4,7 @@ use crate::mode::Mode;
 use crate::record::{Object, OBJECTS};
 use Asked::{Both, Held, Neither, Wanted};
 
-/// How the star check goes over the objects.
+/// How the checks of star and wall go over the objects. The wall has no table, so the third way is the first one there.
 #[derive(Clone, Copy, Debug, PartialEq, Eq)]
 pub enum Star {
     /// every pair of objects, as the text says it

@@ -1,11 +1,11 @@
 //! When it matters in which order tasks take accesses after a power return: by two gets that would together break the star
-//! property, and by carrying out every order.
+//! property or the wall, and by carrying out every order.
 
 use crate::mode::Mode;
 use crate::monitor::Monitor;
 use crate::record::SUBJECTS;
 use crate::request::{Kind, Request, REQUEST_BYTES};
-use crate::{reply, star};
+use crate::{reply, star, wall};
 
 /// As many gets as are looked at in one list.
 pub const MOST_GETS: usize = 4096;
@@ -15,7 +15,7 @@ pub const MOST_GETS: usize = 4096;
 pub enum StartOrder {
     /// no two gets are as below
     Agree,
-    /// the first two gets, each granted if it came alone, that would together break the star property
+    /// the first two gets, each granted if it came alone, that would together break star or wall
     Clash {
         first: usize,
         second: usize,
@@ -64,15 +64,32 @@ impl Monitor {
         matches!(self.reply_alone(get), reply::CHANGED | reply::ALREADY)
     }
 
-    /// Whether the two accesses, put beside those that are held, break the star property: of any subject.
-    pub fn break_star_together(&self, a: Get, b: Get) -> bool {
+    /// The state with the two accesses beside those that are held.
+    fn with_both(&self, a: Get, b: Get) -> Monitor {
         let mut state = self.clone();
         for Get { actor, object, mode } in [a, b] {
             if let Some(it) = &mut state.objects[object] {
                 it.held[actor] |= mode.bit();
             }
         }
+        state
+    }
+
+    /// Whether the two accesses, put beside those that are held, break the star property: of any subject.
+    pub fn break_star_together(&self, a: Get, b: Get) -> bool {
+        let state = self.with_both(a, b);
         !(0..SUBJECTS).all(|s| star::kept(state.star, &state.objects, s))
+    }
+
+    /// Whether they break the wall: of any subject.
+    pub fn break_wall_together(&self, a: Get, b: Get) -> bool {
+        let state = self.with_both(a, b);
+        !(0..SUBJECTS).all(|s| wall::kept(state.star, &state.objects, s))
+    }
+
+    /// "would together break star or wall"
+    pub fn clash(&self, a: Get, b: Get) -> bool {
+        self.break_star_together(a, b) || self.break_wall_together(a, b)
     }
 
     /// The answer for a list: pieces of six bytes, a short last one counted.
@@ -98,7 +115,7 @@ impl Monitor {
         let alone: Vec<bool> = gets.iter().map(|get| self.grants_alone(*get)).collect();
         for first in 0..gets.len() {
             for second in first + 1..gets.len() {
-                if alone[first] && alone[second] && self.break_star_together(gets[first], gets[second]) {
+                if alone[first] && alone[second] && self.clash(gets[first], gets[second]) {
                     return Some((first, second));
                 }
             }
@@ -221,6 +238,28 @@ mod tests {
         monitor.step(READ.request());
         assert_eq!((monitor.reply_alone(READ), monitor.reply_alone(APPEND)), (reply::ALREADY, reply::STAR));
         assert_eq!(answer(&monitor, &[READ, APPEND]), AGREE);
+    }
+
+    #[test]
+    fn two_gets_that_would_together_break_the_wall() {
+        let mut monitor = state();
+        let companies = [[1, 0, 0, 0], [0; 4], [2, 0, 0, 0], [0, 3, 0, 0]];
+        for (slot, companies) in companies.into_iter().enumerate() {
+            monitor.objects[slot].as_mut().unwrap().companies = companies;
+        }
+        let clash = StartOrder::Clash { first: 0, second: 1 };
+        let (e0, e2) = (get(0, 0, Mode::Execute), get(0, 2, Mode::Execute));
+        assert!(!monitor.break_star_together(e0, e2) && monitor.break_wall_together(e0, e2));
+        assert_eq!((answer(&monitor, &[e0, e2]), answer(&monitor, &[e2, e0, e2])), (clash, clash));
+        assert_eq!(answer(&monitor, &[e0, get(1, 2, Mode::Execute), get(0, 1, Mode::Execute)]), AGREE);
+        // equal labels: star allows it, and the second rule of the wall does not
+        let (read, write) = (get(0, 0, Mode::Read), get(0, 3, Mode::Append));
+        assert!(!monitor.break_star_together(read, write));
+        assert_eq!((answer(&monitor, &[read, write]), answer(&monitor, &[write, read])), (clash, clash));
+        // held already, the one refuses the other alone
+        monitor.step(e0.request());
+        assert_eq!((monitor.reply_alone(e0), monitor.reply_alone(e2)), (reply::ALREADY, reply::WALL));
+        assert_eq!(answer(&monitor, &[e0, e2, e0]), AGREE);
     }
 
     #[test]

@@ -224,5 +224,5 @@ fn check_14_is_after_6_and_before_8() {
 
 #[test]
 fn the_printed_sizes() {
-    assert_eq!((TABLE_BYTES, IMAGE_BYTES, PAGE_BYTES), (42, 1274, 258));
+    assert_eq!((TABLE_BYTES, IMAGE_BYTES, PAGE_BYTES), (42, 1402, 258));
 }

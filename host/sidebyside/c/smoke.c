@@ -104,6 +104,31 @@ static void start_orders(const uint8_t *image, circmon_size length) {
     printf(" %d\n", memcmp(&kept, &unit, sizeof kept) == 0);
 }
 
+/* Subject 1 sets the companies of object 0 to 1 0 0 0 and those of object 1 to 2 0 0 0, and gets w on each. */
+static const uint8_t competing[4][CIRCMON_REQUEST_BYTES] = {
+    {0x80, 0x80, 0, 0x01, 0, 0}, {0x80, 0x80, 0x08, 0x02, 0, 0}, {0x10, 0x80, 0x02, 0, 0, 0}, {0x10, 0x80, 0x0A, 0, 0, 0}};
+/* Subject 1 changes the level of object 1 to class 0, that of object 0: so only the wall keeps the two apart. */
+static const uint8_t level_1[CIRCMON_REQUEST_BYTES] = {0x70, 0x80, 0x08, 0, 0, 0};
+
+/* The wall: the two gets clash, and the second is refused with 18, on a unit and on an image; the bytes of the companies in the unit. */
+static void companies(const uint8_t *image, circmon_size length) {
+    circmon_unit unit;
+    uint8_t copy[CIRCMON_IMAGE_BYTES];
+    circmon_open(&unit, image, length);
+    circmon_ask(&unit, second[0], sizeof second[0]);
+    printf("companies %d", circmon_ask(&unit, level_1, sizeof level_1));
+    for (int i = 0; i < 2; i++) {
+        printf(" %d", circmon_ask(&unit, competing[i], sizeof competing[i]));
+    }
+    clash(&unit, competing[2], 2 * sizeof competing[2]);
+    circmon_save(&unit, copy, sizeof copy);
+    for (int i = 2; i < 4; i++) {
+        printf(" %d", circmon_ask(&unit, competing[i], sizeof competing[i]));
+        printf(" %d", circmon_request(copy, sizeof copy, competing[i], sizeof competing[i]));
+    }
+    printf(" %02x %02x\n", unit.row[128][6], unit.row[129][6]);
+}
+
 /* Under a profile of two subjects and one object, class 3 and the needs 0 and 1: table W has a third subject and is refused with 11,
  * and with needs 0 alone 16 comes for subject 1. Without its third subject it is accepted. */
 static void profiles(void) {
@@ -147,6 +172,7 @@ int main(void) {
     raised(image, sizeof image);
     taken_back(image, sizeof image);
     start_orders(image, sizeof image);
+    companies(image, sizeof image);
     profiles();
     printf("replay %d\n", circmon_replay(table, sizeof table, requests[0], sizeof requests, replies, sizeof replies));
     printf("replies %d %d %d %d\n", replies[0], replies[1], replies[2], replies[3]);

@@ -7,7 +7,7 @@
 #include <stdlib.h>
 #include <string.h>
 
-enum { STACK = 1 << 20, OBJECTS = 64, SUBJECTS = 16, PIECES = 4096, MARK = 0xA5 };
+enum { STACK = 1 << 20, OBJECTS = 64, SUBJECTS = 16, PIECES = 4096, FULL = 4 * OBJECTS, MARK = 0xA5 };
 
 static uint8_t table[CIRCMON_TABLE_BYTES];
 static circmon_unit unit;
@@ -30,18 +30,21 @@ static void request(uint8_t *to, uint64_t kind, uint64_t actor, uint64_t other, 
     }
 }
 
-/* All kinds in turn on every object: the first three times all objects become live, labelled and written by their owner. */
+/* All kinds in turn on every object: the first four times all objects become live, labelled, those of four companies, and written
+ * by their owner. */
 static void draw(void) {
     for (int i = 0; i < PIECES; i++) {
         uint64_t object = (uint64_t)(i % OBJECTS), actor = object % SUBJECTS, last = (actor + 1) % SUBJECTS;
-        switch (i / OBJECTS % 8) {
+        switch (i / OBJECTS % 10) {
         case 0: request(requests[i], 5, actor, 0, object, 4, 0); break;
         case 1: request(requests[i], 7, actor, 0, object, 0, 0x30001); break;
-        case 2: request(requests[i], 1, actor, 0, object, 2, 0); break;
-        case 3: request(requests[i], 7, actor, 0, object, 0, 0x40001); break;
-        case 4: request(requests[i], 3, actor, last, object, 1, 0); break;
-        case 5: request(requests[i], 4, actor, last, object, 1, 0); break;
-        case 6: request(requests[i], 2, actor, 0, object, 2, 0); break;
+        case 2: request(requests[i], 8, actor, 0, object, 0, 0x1234); break;
+        case 3: request(requests[i], 1, actor, 0, object, 2, 0); break;
+        case 4: request(requests[i], 7, actor, 0, object, 0, 0x40001); break;
+        case 5: request(requests[i], 8, actor, 0, object, 0, 0x1235); break;
+        case 6: request(requests[i], 3, actor, last, object, 1, 0); break;
+        case 7: request(requests[i], 4, actor, last, object, 1, 0); break;
+        case 8: request(requests[i], 2, actor, 0, object, 2, 0); break;
         default: request(requests[i], 6, actor, 0, object, 0, 0); break;
         }
     }
@@ -60,7 +63,7 @@ static void fill(void) {
     draw();
     draw_gets();
     circmon_start(&unit, table, sizeof table);
-    for (int i = 0; i < 3 * OBJECTS; i++) {
+    for (int i = 0; i < FULL; i++) {
         circmon_ask(&unit, requests[i], CIRCMON_REQUEST_BYTES);
     }
     circmon_save(&unit, image, sizeof image);
@@ -82,7 +85,12 @@ static void *page(void *unused) { answer = circmon_page(&unit, OBJECTS - 1, text
 static void *clash(void *unused) { answer = (uint8_t)circmon_clash(&unit, wanted[0], sizeof wanted); return unused; }
 static void *begin(void *unused) { answer = circmon_begin(table, sizeof table, written, sizeof written); return unused; }
 static void *reading(void *unused) { answer = circmon_read(image, sizeof image); return unused; }
-static void *level(void *unused) { answer = circmon_request(image, sizeof image, requests[3 * OBJECTS], CIRCMON_REQUEST_BYTES); return unused; }
+/* A change of level and companies, which look at all subjects. */
+static void *on_image(void *unused) {
+    answer = circmon_request(image, sizeof image, requests[FULL], CIRCMON_REQUEST_BYTES);
+    answer = circmon_request(image, sizeof image, requests[FULL + OBJECTS], CIRCMON_REQUEST_BYTES);
+    return unused;
+}
 static void *replay(void *unused) { answer = circmon_replay(table, sizeof table, requests[0], sizeof requests, replies, sizeof replies); return unused; }
 static void *distinguish(void *unused) { answer = circmon_distinguish(image, sizeof image, other, sizeof other, told, sizeof told); return unused; }
 static void *distinguish_in(void *unused) { answer = circmon_distinguish_in(SUBJECTS, OBJECTS, 15, 0xFFFF, image, sizeof image, other, sizeof other, told, sizeof told); return unused; }
@@ -91,7 +99,7 @@ static void *load(void *unused) { answer = (uint8_t)circmon_load(1, made, sizeof
 
 /* Every kind, from the full state on: what the deepest of them needs. */
 static void *ask(void *unused) {
-    for (int i = 3 * OBJECTS; i < PIECES; i++) {
+    for (int i = FULL; i < PIECES; i++) {
         answer = circmon_ask(&unit, requests[i], CIRCMON_REQUEST_BYTES);
     }
     return unused;
@@ -122,7 +130,7 @@ int main(void) {
         {"circmon_open", open_unit}, {"circmon_start", start}, {"circmon_open_in", open_in}, {"circmon_start_in", start_in}, {"circmon_ask", ask},
         {"circmon_take_back", take_back}, {"circmon_save", save},
         {"circmon_page", page}, {"circmon_clash", clash}, {"circmon_begin", begin}, {"circmon_read", reading},
-        {"circmon_request", level}, {"circmon_replay", replay}, {"circmon_distinguish", distinguish},
+        {"circmon_request", on_image}, {"circmon_replay", replay}, {"circmon_distinguish", distinguish},
         {"circmon_distinguish_in", distinguish_in}, {"circmon_compare", compare}, {"circmon_load", load}};
     depth(nothing);
     for (size_t i = 0; i < sizeof rows / sizeof *rows; i++) {

@@ -6,6 +6,11 @@ use reference::{Kind, Level, Request};
 pub fn fields(request: &Request) -> [u64; 7] {
     let none = Level { class: 0, needs: 0 };
     let (kind, other, mode, level) = match request.kind {
+        // the four numbers stand in the field of the needs, the first class highest
+        Kind::SetCompanies([first, second, third, fourth]) => {
+            let needs = u16::from_be_bytes([16 * first + second, 16 * third + fourth]);
+            (8, 0, 0, Level { class: 0, needs })
+        }
         Kind::Get(mode) => (1, 0, mode.number(), none),
         Kind::Release(mode) => (2, 0, mode.number(), none),
         Kind::Give(other, mode) => (3, other, mode.number(), none),

@@ -4,7 +4,7 @@
 use crate::orders::{is_granted, Met};
 use crate::{image, profiles};
 use circmon::Unit;
-use reference::{Journaled, Kind, Monitor, Object, Request};
+use reference::{Journaled, Kind, Monitor, Object, Request, CONFLICT_CLASSES};
 use std::collections::VecDeque;
 
 /// "A journal of up to 32 entries".
@@ -102,6 +102,14 @@ impl Followed {
         if request.kind == Kind::Delete && restored.is_some_and(has_rights_list) {
             met.note("a delete with rights and accesses of others");
         }
+        if let Kind::SetCompanies(set) = request.kind {
+            let none = restored.is_some_and(|it| it.companies == [0; CONFLICT_CLASSES]);
+            met.note(if none { "first companies taken back" } else { "other companies restored" });
+            assert!(restored.is_some_and(|it| it.companies != set), "{request:?}");
+        }
+        if request.kind == Kind::Delete && restored.is_some_and(|it| it.companies != [0; CONFLICT_CLASSES]) {
+            met.note("a delete with companies");
+        }
         if matches!(request.kind, Kind::ChangeLevel(_)) {
             let ended = restored.is_some_and(|it| it.label.is_none());
             met.note(if ended { "a label ended" } else { "a label lowered" });
@@ -116,7 +124,7 @@ fn has_rights_list(object: &Object) -> bool {
 }
 
 /// What is taken back, by the kind of request.
-pub const KINDS: [&str; 7] = [
+pub const KINDS: [&str; 8] = [
     "taken back: get",
     "taken back: release",
     "taken back: give",
@@ -124,6 +132,7 @@ pub const KINDS: [&str; 7] = [
     "taken back: create",
     "taken back: delete",
     "taken back: change of level",
+    "taken back: companies",
 ];
 
 fn kind(request: Request) -> usize {

@@ -1,4 +1,4 @@
-//! What the tests share: both monitors on one run, dominance, pairs of modes, orders of requests, profiles, the fields of a request, what
+//! What the tests share: both monitors on one run, dominance, pairs of modes, the wall, orders of requests, profiles, the fields of a request, what
 //! the rows of a unit say, what can be taken back, the program `circmon`, C programs over the header, and a program with bytes on its standard input.
 
 mod fields;
@@ -12,6 +12,7 @@ pub mod profiles;
 pub mod rights_lists;
 pub mod rows;
 pub mod start_order;
+pub mod wall;
 
 pub use fields::fields;
 
@@ -36,13 +37,13 @@ pub fn image(monitor: &Monitor) -> Vec<u8> {
     image
 }
 
-/// Shapes of runs: few objects and subjects and many conflicts, many objects, few levels, many levels.
+/// Shapes of runs: few objects and subjects and many conflicts, many objects, few levels, many levels, few companies, many, none.
 pub const SHAPES: [Shape; 5] = [
-    Shape { objects: 2, subjects: 3, classes: 3, needs: 2, damaged: 9 },
-    Shape { objects: 5, subjects: 4, classes: 2, needs: 3, damaged: 20 },
-    Shape { objects: 16, subjects: 6, classes: 4, needs: 2, damaged: 30 },
-    Shape { objects: 64, subjects: 16, classes: 3, needs: 1, damaged: 50 },
-    Shape { objects: 64, subjects: 16, classes: 16, needs: 16, damaged: 40 },
+    Shape { objects: 2, subjects: 3, classes: 3, needs: 2, companies: 2, damaged: 9 },
+    Shape { objects: 5, subjects: 4, classes: 2, needs: 3, companies: 2, damaged: 20 },
+    Shape { objects: 16, subjects: 6, classes: 4, needs: 2, companies: 0, damaged: 30 },
+    Shape { objects: 64, subjects: 16, classes: 3, needs: 1, companies: 2, damaged: 50 },
+    Shape { objects: 64, subjects: 16, classes: 16, needs: 16, companies: 15, damaged: 40 },
 ];
 
 /// The long runs: so many seeds from 0 on, each with a shape and so many requests.
@@ -75,16 +76,17 @@ pub fn held(monitor: &Monitor) -> Vec<Get> {
 }
 
 /// Every number that a request can get.
-pub const REPLIES: [u8; 11] = [0, 1, 2, 3, 4, 5, 6, 7, 8, 9, 14];
+pub const REPLIES: [u8; 12] = [0, 1, 2, 3, 4, 5, 6, 7, 8, 9, 14, 18];
 
-/// The second implementation's state with the access or the label that the request asks for put in, unchecked.
+/// The second implementation's state with the access, the label or the companies that the request asks for put in, unchecked.
 pub fn with_effect(monitor: &Monitor, request: &Request) -> Monitor {
     let mut after = monitor.clone();
     let object = after.objects[request.object].as_mut().expect("an object that is live");
     match request.kind {
         Kind::Get(mode) => object.held[request.actor] |= mode.bit(),
         Kind::ChangeLevel(level) => object.label = Some(level),
-        _ => panic!("neither get nor change of level"),
+        Kind::SetCompanies(companies) => object.companies = companies,
+        _ => panic!("neither get nor change of level or companies"),
     }
     after
 }

@@ -2,7 +2,7 @@
 
 use crate::profiles::top;
 use load::Random;
-use reference::{Level, Mode, Monitor, Object, Profile, OBJECTS, SUBJECTS, TABLE_BYTES};
+use reference::{Level, Mode, Monitor, Object, Profile, CONFLICT_CLASSES, OBJECTS, SUBJECTS, TABLE_BYTES};
 
 /// A level of which the class or a need is outside the profile, where there is one.
 fn level_outside(random: &mut Random, profile: Profile) -> Option<Level> {
@@ -38,7 +38,7 @@ fn live<'a>(random: &mut Random, monitor: &'a mut Monitor) -> Option<&'a mut Obj
 /// One thing that is changed in a state, after which it may be one that no monitor of its profile has. Nothing where it cannot be.
 pub type Change = fn(&mut Random, &mut Monitor) -> Option<()>;
 
-pub const CHANGES: [(&str, Change); 12] = [
+pub const CHANGES: [(&str, Change); 14] = [
     ("a clearance outside", |random, it| {
         let level = level_outside(random, it.profile)?;
         it.subjects[enrolled(random, it)?] = Some(level);
@@ -90,6 +90,21 @@ pub const CHANGES: [(&str, Change); 12] = [
         it.objects.iter_mut().flatten().filter(|_| random.once_in(3)).for_each(|it| it.label = Some(label));
         Some(())
     }),
+    ("companies beyond every profile", |random, it| {
+        live(random, it)?.companies = std::array::from_fn(|_| random.below(16) as u8);
+        Some(())
+    }),
+    ("two companies of one class", |random, it| {
+        let (subject, class) = (enrolled(random, it)?, random.below(CONFLICT_CLASSES));
+        let mut live = it.objects.iter_mut().flatten();
+        for company in [1, 2] {
+            let object = live.next()?;
+            object.companies[class] = company;
+            object.rights[subject] |= Mode::Execute.bit();
+            object.held[subject] |= Mode::Execute.bit();
+        }
+        Some(())
+    }),
     ("a read at the top beside an append at the bottom", |random, it| {
         let (subject, highest) = (enrolled(random, it)?, top(it.profile));
         it.subjects[subject] = Some(highest);
@@ -108,7 +123,7 @@ pub const CHANGES: [(&str, Change); 12] = [
 pub fn first_bit_beyond(random: &mut Random, profile: Profile, bytes: &mut [u8]) -> Option<&'static str> {
     let (bit, name) = match (subject_beyond(random, profile), object_beyond(random, profile)) {
         (Some(subject), _) if random.once_in(2) => (21 * subject, "the enrolled bit beyond"),
-        (_, Some(object)) => (8 * TABLE_BYTES + 154 * object, "the live bit beyond"),
+        (_, Some(object)) => (8 * TABLE_BYTES + 170 * object, "the live bit beyond"),
         _ => return None,
     };
     *bytes.get_mut(bit / 8)? |= 0x80 >> (bit % 8);

@@ -39,6 +39,7 @@ pub fn shape(profile: Profile, most_objects: usize) -> Shape {
         subjects: profile.subjects.into(),
         classes: usize::from(profile.highest_class) + 1,
         needs: 16,
+        companies: 2,
         damaged: 25,
     }
 }

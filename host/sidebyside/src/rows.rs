@@ -1,9 +1,10 @@
 //! What the rows of a unit say, from docs/FORMATS.md: byte 0 of the rest of an object's record is 1 where it is live, byte 1 is
-//! its owner, byte 2 is 1 where a level stands in bytes 3 to 5. The last row of the monitor has the numbers of subjects and objects of
+//! its owner, byte 2 is 1 where a level stands in bytes 3 to 5, and bytes 6 and 7 have the companies of the four conflict classes.
+//! The last row of the monitor has the numbers of subjects and objects of
 //! the profile in the first two bytes, and its highest class and needs as a level. The journal is behind it (`journal_rows`).
 
 use circmon::{Rows, Unit, OBJECTS, ROWS, ROW_BYTES, SUBJECTS};
-use reference::{Level, Monitor, Object, Profile};
+use reference::{Companies, Level, Monitor, Object, Profile};
 
 /// The first row of the accesses held, of the rest of each object's record and of the clearances, and that of the profile; that of
 /// the rights is row 0.
@@ -14,6 +15,11 @@ pub const PROFILE: usize = 3 * OBJECTS + SUBJECTS;
 
 pub fn level_in(row: &[u8; 16]) -> Option<Level> {
     (row[2] == 1).then(|| Level { class: row[3], needs: u16::from_be_bytes([row[4], row[5]]) })
+}
+
+/// Two numbers in each byte, the first class highest.
+pub fn companies_in(row: &[u8; 16]) -> Companies {
+    [row[6] / 16, row[6] % 16, row[7] / 16, row[7] % 16]
 }
 
 pub fn is_live(rows: &Rows, object: usize) -> bool {
@@ -38,6 +44,7 @@ pub fn monitor_said(rows: &Rows) -> Monitor {
         let rest = &rows[REST + object];
         let said = Object {
             label: level_in(rest),
+            companies: companies_in(rest),
             rights: rows[object],
             held: rows[HELD + object],
             ..Object::new(rest[1].into())
@@ -60,6 +67,8 @@ pub fn of(monitor: &Monitor) -> Rows {
             (rows[slot], rows[HELD + slot]) = (object.rights, object.held);
             rows[REST + slot] = level_row(object.label);
             rows[REST + slot][..2].copy_from_slice(&[1, object.owner as u8]);
+            let [first, second, third, fourth] = object.companies;
+            rows[REST + slot][6..8].copy_from_slice(&[16 * first + second, 16 * third + fourth]);
         }
     }
     for (subject, clearance) in monitor.subjects.iter().enumerate() {

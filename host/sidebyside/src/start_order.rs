@@ -43,7 +43,7 @@ pub fn agree(both: &Both, gets: &[Get], orders: &[Vec<usize>]) -> bool {
 }
 
 /// What lists of gets of enrolled subjects on live objects meet, if there are enough of them.
-pub const LISTS_MET: [&str; 26] = [
+pub const LISTS_MET: [&str; 27] = [
     "agree",
     "clash at 0 and 1",
     "clash at later places",
@@ -54,6 +54,7 @@ pub const LISTS_MET: [&str; 26] = [
     "clash of w and a",
     "clash of a and r",
     "clash of a and w",
+    "clash by star alone",
     "the same get twice",
     "the same get twice, agree",
     "the same get twice, clash at 0 and 1",
@@ -72,6 +73,21 @@ pub const LISTS_MET: [&str; 26] = [
     "refused alone with 9",
 ];
 
+/// What they meet beside this where objects have companies: the wall tells any two modes apart.
+pub const WALL_LISTS_MET: [&str; 11] = [
+    "clash of r and r",
+    "clash of r and e",
+    "clash of w and e",
+    "clash of a and a",
+    "clash of a and e",
+    "clash of e and r",
+    "clash of e and w",
+    "clash of e and a",
+    "clash of e and e",
+    "clash by the wall alone",
+    "refused alone with 18",
+];
+
 impl Met {
     /// The answer for a list of gets and what is in the list.
     pub fn note_list(&mut self, monitor: &Monitor, gets: &[Get], answer: StartOrder) {
@@ -84,6 +100,12 @@ impl Met {
         self.note(word);
         if let StartOrder::Clash { first, second } = answer {
             self.note(format!("clash of {} and {}", letter(gets[first].mode), letter(gets[second].mode)));
+            let (a, b) = (gets[first], gets[second]);
+            self.note(match (monitor.break_star_together(a, b), monitor.break_wall_together(a, b)) {
+                (true, false) => "clash by star alone",
+                (false, true) => "clash by the wall alone",
+                _ => "clash by star and wall",
+            });
         }
         if gets.iter().enumerate().any(|(at, get)| gets[..at].contains(get)) {
             self.note("the same get twice");

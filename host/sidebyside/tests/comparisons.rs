@@ -216,7 +216,8 @@ impl Met {
         }
         match first {
             Some(number) => assert_eq!(reply, number, "{place}"),
-            None => assert!(reply < 2, "{place}: {reply}"),
+            // the wall is looked at behind them, in a get
+            None => assert!(reply < 2 || reply == 18, "{place}: {reply}"),
         }
     }
 }

@@ -2,7 +2,7 @@
 
 use circmon::{distinguish, DISTINGUISH_BYTES, REQUEST_BYTES};
 use load::Random;
-use reference::{Kind, Monitor, Object, Request, IMAGE_BYTES, OBJECTS, SUBJECTS};
+use reference::{Kind, Monitor, Object, Request, CONFLICT_CLASSES, IMAGE_BYTES, OBJECTS, SUBJECTS, TABLE_BYTES};
 use sidebyside::{image, Count, SHAPES};
 
 const LEFT: u8 = 0xEE;
@@ -119,13 +119,16 @@ enum Thing {
     Life,
     Owner,
     Label,
+    Companies,
     Right,
     Access,
     Clearance,
 }
 
-const THINGS: [Thing; 7] =
-    [Thing::Enrolment, Thing::Life, Thing::Owner, Thing::Label, Thing::Right, Thing::Access, Thing::Clearance];
+const THINGS: [Thing; 8] = {
+    use Thing::*;
+    [Enrolment, Life, Owner, Label, Companies, Right, Access, Clearance]
+};
 
 /// The state with one thing changed, where that leaves another accepted state.
 fn change(random: &mut Random, monitor: &Monitor, thing: Thing) -> Option<Monitor> {
@@ -150,6 +153,7 @@ fn change(random: &mut Random, monitor: &Monitor, thing: Thing) -> Option<Monito
             let label = &mut other.objects[slot].as_mut()?.label;
             *label = if label.is_some() && random.once_in(2) { None } else { Some(level) };
         }
+        Thing::Companies => other.objects[slot].as_mut()?.companies[subject % CONFLICT_CLASSES] = random.below(4) as u8,
         Thing::Right => other.objects[slot].as_mut()?.rights[subject] ^= random.mode().bit(),
         Thing::Access => {
             // only a right can be held
@@ -163,8 +167,8 @@ fn change(random: &mut Random, monitor: &Monitor, thing: Thing) -> Option<Monito
 
 /// Of states from seeds, with every slot live or as the run left them, each thing changed alone, where that gives an accepted
 /// state: for each thing, how often how many requests told.
-fn one_thing(seeds: std::ops::Range<u64>, all_live: bool) -> [[usize; 5]; 7] {
-    let mut seen = [[0usize; 5]; 7];
+fn one_thing(seeds: std::ops::Range<u64>, all_live: bool) -> [[usize; 5]; 8] {
+    let mut seen = [[0usize; 5]; 8];
     for seed in seeds {
         let random = &mut Random::new(seed);
         let requests = random.below(500);
@@ -241,15 +245,17 @@ fn equal_images_and_short_buffers() {
     }
 }
 
-/// The image with a few bits, bytes or its length changed.
+/// The image with a few bits, a company number or its length changed.
 fn damaged(random: &mut Random, image: &[u8]) -> Vec<u8> {
     let mut bytes = image.to_vec();
-    match random.below(6) {
+    match random.below(8) {
         0 => bytes.resize(random.below(2 * IMAGE_BYTES), 0),
         1 => bytes.truncate(IMAGE_BYTES - 1),
-        _ => {
+        way => {
             for _ in 0..1 + random.below(2) {
-                let bit = random.below(8 * IMAGE_BYTES);
+                // the companies stand 26 bits behind the start of a record
+                let company = 8 * TABLE_BYTES + 170 * random.below(8) + 26 + random.below(16);
+                let bit = if way < 4 { company } else { random.below(8 * IMAGE_BYTES) };
                 bytes[bit / 8] ^= 0x80 >> (bit % 8);
             }
         }
@@ -285,7 +291,7 @@ fn refused_images_give_their_number_and_leave_every_byte() {
             tells(&one, &good, &format!("seed {seed}"));
         }
     }
-    for number in [6, 8, 10, 11, 12] {
+    for number in [6, 8, 10, 11, 12, 18] {
         assert!(first.of(number) > 0, "{number} was not met: {first:?}");
     }
     assert!(second.numbers() >= 3, "{second:?}");

@@ -3,7 +3,7 @@
 use circmon::{Rows, Unit, IMAGE_BYTES, OBJECTS, SUBJECTS};
 use load::Random;
 use reference::{reply, Level};
-use sidebyside::rows::{level_in, monitor_said, CLEARANCES, HELD, PROFILE, REST};
+use sidebyside::rows::{companies_in, level_in, monitor_said, CLEARANCES, HELD, PROFILE, REST};
 use sidebyside::{image, random_rows, rows_with_subjects, shape, Count, REPLIES};
 
 const LEFT: u8 = 0xEE;
@@ -38,6 +38,7 @@ fn image_said(rows: &Rows) -> Vec<u8> {
         bits.number(1, (rest[0] == 1).into());
         bits.number(4, rest[1].into());
         bits.level(level_in(rest));
+        companies_in(rest).into_iter().for_each(|company| bits.number(4, company.into()));
         for (rights, held) in rows[object].iter().zip(&rows[HELD + object]) {
             bits.number(4, (*rights).into());
             bits.number(4, (*held).into());
@@ -46,7 +47,7 @@ fn image_said(rows: &Rows) -> Vec<u8> {
     bits.bytes()
 }
 
-/// Most subjects are enrolled, and where an object is not live the bytes say no owner, label, right or access.
+/// Most subjects are enrolled, and where an object is not live the bytes say no owner, label, company, right or access.
 fn rows_of_a_monitor(random: &mut Random) -> Rows {
     let mut rows = rows_with_subjects(random);
     for object in 0..OBJECTS {
@@ -54,6 +55,7 @@ fn rows_of_a_monitor(random: &mut Random) -> Rows {
         if rest[0] != 1 {
             rest[1] = 0;
             rest[2] = rest[2].max(2) * u8::from(random.once_in(2));
+            rest[6..8].fill(0);
             rows[object] = [0; SUBJECTS];
             rows[HELD + object] = [0; SUBJECTS];
         }

@@ -93,7 +93,7 @@ fn images_under_profiles() {
         50,
         &["the enrolled bit beyond", "the live bit beyond", "16 by a clearance alone", "16 by a label alone"],
     );
-    let numbers = [0, 10, 11, 16, 12, 6, 7, 8, 9].map(|number| format!("image {number}"));
+    let numbers = [0, 10, 11, 16, 12, 6, 7, 8, 9, 18].map(|number| format!("image {number}"));
     met.check(30, &numbers.each_ref().map(String::as_str));
 }
 
@@ -167,6 +167,12 @@ fn an_image_read_under_another_profile() {
     met.check(100, &["under another 0", "under another 11", "under another 16"]);
 }
 
+/// Sets what a subject has and holds on a live object.
+fn on(monitor: &mut Monitor, object: usize, subject: usize, rights: u8, held: u8) {
+    let it = monitor.objects[object].as_mut().expect("it is live");
+    (it.rights[subject], it.held[subject]) = (rights, held);
+}
+
 #[test]
 fn the_order_of_the_checks() {
     let profile = Profile { subjects: 3, objects: 5, highest_class: 2, needs: 0b110 };
@@ -180,12 +186,14 @@ fn the_order_of_the_checks() {
         change(&mut monitor);
         numbers.push(opened(random, profile, &image(&monitor), "one more fault"));
     };
-    let on = |it: &mut Monitor, object: usize, subject: usize, rights: u8, held: u8| {
-        let it = it.objects[object].as_mut().expect("it is live");
-        (it.rights[subject], it.held[subject]) = (rights, held);
-    };
     let (read, append) = (Mode::Read.bit(), Mode::Append.bit());
     // each fault comes before those that were made earlier
+    fault(&|it| {
+        for (object, company) in [(2, 1), (3, 15)] {
+            on(it, object, 1, read, read);
+            it.objects[object].as_mut().unwrap().companies[1] = company;
+        }
+    });
     fault(&|it| {
         it.objects[1].as_mut().unwrap().label = Some(Level { class: 0, needs: 0 });
         on(it, 0, 0, read, read);
@@ -197,9 +205,8 @@ fn the_order_of_the_checks() {
     fault(&|it| on(it, 3, 15, read, 0));
     fault(&|it| it.objects[2].as_mut().unwrap().label = Some(Level { class: 2, needs: 1 }));
     fault(&|it| it.objects[63] = Some(Object::new(0)));
-    assert_eq!(numbers, [0, 9, 8, 7, 6, 12, 16, 11]);
-    let short = image(&monitor)[..IMAGE_BYTES - 1].to_vec();
-    assert_eq!(opened(random, profile, &short, "another length"), reply::LENGTH);
+    assert_eq!(numbers, [0, 18, 9, 8, 7, 6, 12, 16, 11]);
+    assert_eq!(opened(random, profile, &image(&monitor)[..IMAGE_BYTES - 1], "another length"), reply::LENGTH);
     let mut table = monitor.table();
     assert_eq!(started(random, profile, &table, "the clearances are inside"), 0);
     table[0] |= 0x78;

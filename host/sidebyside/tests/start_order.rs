@@ -1,9 +1,9 @@
 //! Start order over small states: every list of up to three gets, with all its orders carried out by both implementations.
 
 use circmon::StartOrder;
-use reference::{orders, reply, Get, Kind, Level, Mode, Monitor, Request};
+use reference::{orders, reply, Companies, Get, Kind, Level, Mode, Monitor, Request};
 use sidebyside::orders::Met;
-use sidebyside::start_order::{after_order, agree, answer, bytes, LISTS_MET};
+use sidebyside::start_order::{after_order, agree, answer, bytes, LISTS_MET, WALL_LISTS_MET};
 use sidebyside::{image, Both};
 
 const LOW: Option<Level> = level(0, 0);
@@ -35,6 +35,16 @@ const fn get(actor: usize, object: usize, mode: Mode) -> Get {
     Get { actor, object, mode }
 }
 
+const NONE: Companies = [0; 4];
+const A: Companies = [1, 0, 0, 0];
+const B: Companies = [2, 0, 0, 0];
+/// with the company A and one of another class
+const WITH_A: Companies = [1, 0, 0, 7];
+
+/// The companies of three objects with one label: the same, competing ones, none, and more of them.
+const COMPANIES: [[Companies; 3]; 6] =
+    [[A, A, B], [A, B, NONE], [NONE, A, WITH_A], [A, NONE, NONE], [WITH_A, [0, 7, 0, 0], B], [[0, 0, 0, 7], A, B]];
+
 /// What is held before the list comes.
 const HELD: [&[Get]; 4] = [
     &[],
@@ -45,7 +55,7 @@ const HELD: [&[Get]; 4] = [
 
 /// Subject 0 is cleared for every label, owns the objects and has every right. Subject 1 is cleared for the low and the middle
 /// label and has the rights r, w and a. Subject 2 is not enrolled. Nothing where an access to be held is refused.
-fn state(labels: &[Option<Level>], held: &[Get]) -> Option<Both> {
+fn state(labels: &[Option<Level>], companies: [Companies; 3], held: &[Get]) -> Option<Both> {
     let mut monitor = Monitor::empty();
     (monitor.subjects[0], monitor.subjects[1]) = (HIGH, MIDDLE);
     let mut monitor = Monitor::from_table(&monitor.table()).expect("a table that was written");
@@ -57,6 +67,9 @@ fn state(labels: &[Option<Level>], held: &[Get]) -> Option<Both> {
         label.iter().for_each(|level| granted(object, Kind::ChangeLevel(*level)));
         for mode in [Mode::Read, Mode::Write, Mode::Append] {
             granted(object, Kind::Give(1, mode));
+        }
+        if companies[object] != NONE {
+            granted(object, Kind::SetCompanies(companies[object]));
         }
     }
     let refused = held.iter().any(|get| monitor.request(&get.encode()) != reply::CHANGED);
@@ -112,7 +125,7 @@ fn every_list_of_up_to_three_gets_of_two_subjects_on_three_objects() {
     let lists = lists(&gets(2, 3));
     assert_eq!(lists.len(), 1 + 24 + 24 * 24 + 24 * 24 * 24);
     for labels in LABELS {
-        for both in HELD.iter().filter_map(|held| state(&labels, held)) {
+        for both in HELD.iter().filter_map(|held| state(&labels, [NONE; 3], held)) {
             check(&both, &lists, &mut met);
             states += 1;
         }
@@ -124,12 +137,28 @@ fn every_list_of_up_to_three_gets_of_two_subjects_on_three_objects() {
 }
 
 #[test]
+fn every_list_of_up_to_three_gets_on_objects_with_companies() {
+    let (mut met, mut states) = (Met::default(), 0);
+    let lists = lists(&gets(2, 3));
+    for companies in COMPANIES {
+        for both in HELD.iter().filter_map(|held| state(&[MIDDLE; 3], companies, held)) {
+            check(&both, &lists, &mut met);
+            states += 1;
+        }
+    }
+    println!("{states} states, {} lists in each: {met:#?}", lists.len());
+    assert!(states >= 15, "{states}");
+    met.check(300, &WALL_LISTS_MET);
+    assert_eq!(met.of("clash by star alone") + met.of("clash by star and wall"), 0, "all labels are alike: {met:#?}");
+}
+
+#[test]
 fn every_list_of_up_to_three_gets_with_a_subject_that_is_absent_and_an_object_that_is_not_live() {
     let mut met = Met::default();
     let lists = lists(&gets(3, 3));
     assert_eq!(lists.len(), 1 + 36 + 36 * 36 + 36 * 36 * 36);
     for labels in [[HIGH, LOW], [MIDDLE, APART], [MIDDLE, MIDDLE]] {
-        check(&state(&labels, &[]).expect("nothing is held"), &lists, &mut met);
+        check(&state(&labels, [NONE; 3], &[]).expect("nothing is held"), &lists, &mut met);
     }
     met.check(
         900,
@@ -141,7 +170,7 @@ fn every_list_of_up_to_three_gets_with_a_subject_that_is_absent_and_an_object_th
 #[test]
 fn images_after_the_orders_of_two_gets() {
     let lists = lists(&gets(2, 3)).into_iter().filter(|list| list.len() == 2);
-    let both = state(&[HIGH, LOW, MIDDLE], HELD[0]).expect("nothing is held");
+    let both = state(&[HIGH, LOW, MIDDLE], [NONE; 3], HELD[0]).expect("nothing is held");
     let (mut equal, mut different) = (0, 0);
     for list in lists {
         let [one, other] = [[0, 1], [1, 0]].map(|order| after_order(&both, &list, &order));

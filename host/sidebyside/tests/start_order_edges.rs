@@ -6,9 +6,9 @@ use load::Random;
 use reference::{Get, Kind, Level, Mode, Monitor, Object, Request};
 use sidebyside::orders::Met;
 use sidebyside::pair::Pair;
-use sidebyside::rows::{is_live, label_of, profile_in, CLEARANCES, HELD, PROFILE, REST};
+use sidebyside::rows::{companies_in, is_live, label_of, profile_in, CLEARANCES, HELD, PROFILE, REST};
 use sidebyside::start_order::{answer, bytes};
-use sidebyside::{image, random_rows, Both};
+use sidebyside::{image, random_rows, wall, Both};
 
 /// Subject 3 is cleared for everything and has all rights: object 0 has a label above that of object 63.
 fn state() -> Both {
@@ -64,6 +64,7 @@ fn no_gets() -> Vec<[u8; 6]> {
         Kind::Create { execute: true },
         Kind::Delete,
         Kind::ChangeLevel(level),
+        Kind::SetCompanies([0, 0, 0, 1]),
     ];
     let well_formed = kinds.map(|kind| Request { actor: 3, object: 0, kind }.encode());
     assert!(well_formed.iter().all(|piece| Request::decode(piece).is_some()));
@@ -148,7 +149,7 @@ fn as_many_pieces_as_are_looked_at_and_one_more() {
 }
 
 /// What is fixed of any content of a unit: the least two places whose gets are granted on it as it stands, have the same actor,
-/// and ask of the labels of their objects what these do not keep.
+/// and ask of the labels or of the companies of their objects what these do not keep.
 fn said(unit: &Unit, requests: &[u8]) -> StartOrder {
     let pieces: Vec<&[u8]> = requests.chunks(6).collect();
     let profile = profile_in(unit.rows());
@@ -160,11 +161,13 @@ fn said(unit: &Unit, requests: &[u8]) -> StartOrder {
     let gets: Vec<Get> = gets.into_iter().flatten().collect();
     let granted: Vec<bool> = pieces.iter().map(|piece| unit.clone().ask(piece) < 2).collect();
     let label = |get: Get| label_of(unit.rows(), get.object);
+    let companies = |get: Get| companies_in(&unit.rows()[REST + get.object]);
     for first in 0..gets.len() {
         for second in first + 1..gets.len() {
             let (a, b) = (gets[first], gets[second]);
-            let kept = Pair { held: a.mode, wanted: b.mode }.is_kept(label(a), label(b));
-            if granted[first] && granted[second] && a.actor == b.actor && !kept {
+            let star = Pair { held: a.mode, wanted: b.mode }.is_kept(label(a), label(b));
+            let wall = !wall::between((a.mode, companies(a)), (b.mode, companies(b))).any();
+            if granted[first] && granted[second] && a.actor == b.actor && !(star && wall) {
                 return StartOrder::Clash { first, second };
             }
         }

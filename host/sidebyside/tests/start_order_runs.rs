@@ -5,13 +5,13 @@ use circmon::{StartOrder, Unit};
 use load::{Random, Shape};
 use reference::{Get, Kind, Mode, Monitor, Request, OBJECTS, SUBJECTS};
 use sidebyside::orders::{beginning_with, shuffled, Met};
-use sidebyside::start_order::{after_order, agree, answer, bytes, LISTS_MET};
+use sidebyside::start_order::{after_order, agree, answer, bytes, LISTS_MET, WALL_LISTS_MET};
 use sidebyside::{drawn, held, image, shape, Both, RUNS};
 
 /// So many requests in a run, and lists after so many of them.
 const REQUESTS: usize = 300;
 const EVERY: usize = 60;
-const LISTS: usize = 34;
+const LISTS: usize = 24;
 const LONGEST: usize = 12;
 
 /// A state with the gets of each subject: those to which it has a right, and of these the ones that are granted alone.
@@ -77,6 +77,19 @@ fn released(both: &Both) -> Both {
     for Get { actor, object, mode } in held(&both.monitor) {
         let release = Request { actor, object, kind: Kind::Release(mode) }.encode();
         assert_eq!((after.unit.ask(&release), after.monitor.request(&release)), (0, 0), "{release:02x?}");
+    }
+    after
+}
+
+/// The same state with other companies: nobody holds anything, so the owners may set any.
+fn with_companies(random: &mut Random, released: &Both) -> Both {
+    let mut after = released.clone();
+    for (object, it) in released.monitor.objects.iter().enumerate() {
+        let Some(it) = it else { continue };
+        let companies = std::array::from_fn(|_| if random.once_in(3) { 1 + random.below(2) as u8 } else { 0 });
+        let set = Request { actor: it.owner, object, kind: Kind::SetCompanies(companies) }.encode();
+        let replies = (after.unit.ask(&set), after.monitor.request(&set));
+        assert!(matches!(replies, (0, 0) | (1, 1)), "{set:02x?} gets {replies:?}");
     }
     after
 }
@@ -152,12 +165,16 @@ fn a_million_gets_in_lists_along_runs() {
             assert_eq!(both.unit.ask(request), both.monitor.request(request), "seed {seed}, request {at}");
             if (at + 1) % EVERY == 0 {
                 all += check_state(random, shape, both.clone(), &mut met);
-                all += check_state(random, shape, released(&both), &mut met);
+                let released = released(&both);
+                let walled = with_companies(random, &released);
+                all += check_state(random, shape, walled, &mut met);
+                all += check_state(random, shape, released, &mut met);
             }
         }
     }
     println!("{all} gets: {met:#?}");
     assert!(all >= 1_000_000, "{all}");
     met.check(1000, &LISTS_MET);
+    met.check(200, &WALL_LISTS_MET);
     met.check(1000, &["no get", "refused alone with 3", "refused alone with 4"]);
 }

@@ -24,7 +24,7 @@ impl Run {
         let mut run = Run { random, shape, followed, met: Met::default() };
         for _ in 0..before {
             run.next();
-            if run.random.once_in(5) {
+            if run.random.once_in(12) {
                 run.followed.take_back(&mut run.met);
             }
         }
@@ -72,7 +72,7 @@ fn up_to_32_requests_are_taken_back_from_any_journal() {
         assert_eq!(run.followed.take_back(&mut run.met), EMPTY, "seed {seed}, {count} requests");
         with_entries += usize::from(left > 0);
         full += usize::from(entries == MOST);
-        assert!(count < 8 || run.met.of("another reply between") > 0, "seed {seed}, {count} requests");
+        assert!(count < 12 || run.met.of("another reply between") > 0, "seed {seed}, {count} requests");
     }
     assert!(with_entries > 300 && full > 100, "{with_entries} {full}");
 }

@@ -2,7 +2,7 @@
 //! are in the state that the history of images says.
 
 use load::{Random, Shape};
-use reference::{Monitor, Profile};
+use reference::{reply, Monitor, Profile};
 use sidebyside::history::{Followed, EMPTY, KINDS, MOST};
 use sidebyside::orders::Met;
 use sidebyside::{profiles, shape, RUNS, RUN_REQUESTS, SHAPES};
@@ -72,12 +72,14 @@ fn check(met: &Met, often: usize) {
     met.check(often, &KINDS);
     met.check(often, &["0", "17", "1 between", "refused between", "an entry gave way"]);
     met.check(often, &["a delete with rights and accesses of others", "a label lowered", "a label ended"]);
+    met.check(often, &["first companies taken back", "other companies restored", "a delete with companies"]);
     met.check(often, &["a journal emptied", "a full journal emptied"]);
     met.check(often, &["17 after a beginning from an image of a monitor with entries"]);
 }
 
+/// Every number up to 18 counts, also those that no request gets.
 fn requests(met: &Met) -> usize {
-    (0..=EMPTY).map(|number| met.of(&format!("reply {number}"))).sum()
+    (0..=reply::WALL).map(|number| met.of(&format!("reply {number}"))).sum()
 }
 
 #[test]

@@ -26,5 +26,6 @@ pub fn request_line(request: &Request) -> String {
                 (0..16).filter(|k| level.needs & 1 << k != 0).map(|k: u32| k.to_string()).collect();
             format!("s{s} level o{o} class {} needs {{{}}}", level.class, needs.join(","))
         }
+        Kind::SetCompanies([a, b, c, d]) => format!("s{s} companies o{o} {a} {b} {c} {d}"),
     }
 }

@@ -5,6 +5,7 @@ pub mod clone;
 pub mod formats;
 pub mod lines;
 
+use circtool::wall::{Breach, Rule};
 use load::{Random, Shape};
 use reference::Monitor;
 use sidebyside::fed;
@@ -63,6 +64,27 @@ pub fn second_profile(profile: circmon::Profile) -> reference::Profile {
         objects: profile.objects(),
         highest_class: profile.highest_class(),
         needs: profile.needs(),
+    }
+}
+
+/// That the two objects are held so in this state, and that their companies break the rule that is named.
+pub fn wall_is_so(breach: &Breach, state: &Monitor, what: &str) {
+    let Breach { rule, class, from, to } = breach;
+    let object = |at: usize| state.objects[at].as_ref().unwrap_or_else(|| panic!("{what}: o{at} is not live"));
+    let (one, other) = (object(from.object), object(to.object));
+    assert_eq!(from.subject, to.subject, "{what}");
+    assert_eq!((from.held.0, to.held.0), (one.held[from.subject], other.held[from.subject]), "{what}");
+    assert_eq!((from.companies.0, to.companies.0), (one.companies, other.companies), "{what}");
+    let (mine, others) = (one.companies[class - 1], other.companies[class - 1]);
+    match rule {
+        Rule::First => {
+            assert!(one.holds(from.subject) && other.holds(from.subject), "{what}");
+            assert!(mine != 0 && others != 0 && mine != others, "{what}");
+        }
+        Rule::Second => {
+            assert!(one.reads(from.subject) && other.writes(from.subject), "{what}");
+            assert!(mine != 0 && others == 0, "{what}");
+        }
     }
 }
 
