@@ -20,7 +20,6 @@ use Rattle.model.specs.Journal.{ask, asks, acted}
 use Rattle.model.specs.Reading.{labelFrom, labelForm, tableFrom, tableForm, tableChecks, begin, readTable}
 use Rattle.model.specs.Beginnings.{table, left}
 use Rattle.telling.specs.Distinguish.{orElse, search, when, byEnrolment, byLife, byOwner, toLabel, byLabel, byCompanies, byRight, byAccess, byObject, freeBelow, readAt, toClearance, byClearance, distinguish}
-
 use Rattle.equal_images.proofs.OneProfile.{low}
 
 -- subject 0 alone makes object 0, with company numbers

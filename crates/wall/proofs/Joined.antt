@@ -1,9 +1,9 @@
 -- Joined company numbers: where several objects are compatible, what a rule asks of each of them it asks of their joined numbers.
 -- Assumes nothing.
-use Prim.Native.Nat.{ℕ, zero, suc, _%_, _<_}
+use Prim.Native.Nat.{ℕ, zero, suc, _+_, _*_, _/_, _%_, _<_}
 use native.Mathlib.Omega.{arith}
-use native.Mathlib.Nat.{eq-or-lt-of-le, le-of-suc-le-suc, not-suc-le-zero}
-use mathlib.Core.Path.{_≡_, sym, ap, _∙_, subst}
+use native.Mathlib.Nat.{div-add-mod', eq-or-lt-of-le, le-of-suc-le-suc, not-suc-le-zero}
+use mathlib.Core.Path.{_≡_, sym, ap, ap₂, _∙_, subst}
 use mathlib.Core.Logic.{_⊎_, inl, inr, ⊎-elim, _≢_}
 use mathlib.Core.Bool.{Bool, true}
 use lib.Dec.{eqb}
@@ -35,6 +35,34 @@ joined-company k p q h =
     eqb-true _ _
     (below-out 4 (λ (i : ℕ). eqb (company i (joined p q)) (numberOr (company i p) (company i q)))
     (and-both (and-both (and-both (eq-eqb _ _ (four .0)) (eq-eqb _ _ (four .1))) (eq-eqb _ _ (four .2))) (eq-eqb _ _ (four .3))) k h)
+
+-- nothing is joined to p by what has no number, and nothing by the same numbers
+number-same : (a b : ℕ) → (b ≡ 0) ⊎ (b ≡ a) → numberOr a b ≡ a
+number-same a b h =
+    split (eqb a 0)
+    (λ e. cond-true (eqb a 0) b a e ∙ ⊎-elim (λ (z : b ≡ 0). z ∙ sym (eqb-true a 0 e)) (λ (z : b ≡ a). z) h)
+    (λ e. cond-false (eqb a 0) b a e)
+
+-- a number of 16 bits is made of its four
+four-back : (n : ℕ) → n < 65536 → company 0 n * 4096 + company 1 n * 256 + company 2 n * 16 + n % 16 ≡ n
+unfolding company
+four-back n h =
+    let a = n / 16 in
+    let b = a / 16 in
+    let c = b / 16 in
+    let second : n / 256 ≡ b = omega arith in
+    let first : n / 4096 ≡ c = omega arith in
+    let whole : c % 16 ≡ c = omega arith in
+    let sum : c * 4096 + b % 16 * 256 + a % 16 * 16 + n % 16 ≡ n = omega (arith, div-add-mod' n 16, div-add-mod' a 16, div-add-mod' b 16) in
+    ap₂ (λ (i j : ℕ). i % 16 * 4096 + j % 16 * 256 + a % 16 * 16 + n % 16) first second ∙ ap (λ (i : ℕ). i * 4096 + b % 16 * 256 + a % 16 * 16 + n % 16) whole ∙ sum
+
+pub joined-same : (p q : ℕ) → p < 65536 → (q ≡ 0) ⊎ (p ≡ q) → p ≡ joined p q
+unfolding joined
+joined-same p q h e =
+    let same : (k : ℕ) → k < 4 → numberOr (company k p) (company k q) ≡ company k p =
+    λ k b. number-same (company k p) (company k q)
+    (⊎-elim (λ (z : q ≡ 0). inl (ap (company k) z ∙ no-company k b)) (λ (z : p ≡ q). inr (sym (ap (company k) z))) e) in
+    sym (rw (same 0 (omega arith), same 1 (omega arith), same 2 (omega arith), same 3 (omega arith)) (ap (λ (i : ℕ). company 0 p * 4096 + company 1 p * 256 + company 2 p * 16 + i) (sym (last-company p)) ∙ four-back p h))
 
 joined-first : (k p q : ℕ) → k < 4 → company k p ≢ 0 → company k (joined p q) ≡ company k p
 joined-first k p q h n = joined-company k p q h ∙ cond-false (eqb (company k p) 0) _ _ (ne-eqb _ 0 n)

@@ -12,8 +12,8 @@ fn no_conflict(a: u16, b: u16) -> bool
     (a == 0) | ((b == 0) | (a == b))
 }
 
-// "each class has a 0 or equal numbers"
-pub fn compatible(p: u16, q: u16) -> bool
+// "each class has a 0 or equal numbers", class by class
+fn compatible_classes(p: u16, q: u16) -> bool
     ensures { λ r. ⌜ r ≡ compatible p q ⌝ }
 {
     let first = no_conflict(p / 4096 % 16, q / 4096 % 16);
@@ -23,6 +23,16 @@ pub fn compatible(p: u16, q: u16) -> bool
     first & second & third & last
 }
 
+// The same; without numbers in the second, or with equal ones, which is what most objects of a plant have, no class is looked at.
+pub fn compatible(p: u16, q: u16) -> bool
+    ensures { λ r. ⌜ r ≡ compatible p q ⌝ }
+{
+    if (q == 0) | (p == q) {
+        return true;
+    }
+    compatible_classes(p, q)
+}
+
 // A number of one class is 0, or the other is equal to it.
 fn follows(a: u16, b: u16) -> bool
     ensures { λ r. ⌜ r ≡ (eqb a 0 || eqb a b) ⌝ }
@@ -30,8 +40,8 @@ fn follows(a: u16, b: u16) -> bool
     (a == 0) | (a == b)
 }
 
-// "each nonzero number of P equals that of Q"
-pub fn confined(p: u16, q: u16) -> bool
+// "each nonzero number of P equals that of Q", class by class
+fn confined_classes(p: u16, q: u16) -> bool
     ensures { λ r. ⌜ r ≡ confined p q ⌝ }
 {
     let first = follows(p / 4096 % 16, q / 4096 % 16);
@@ -39,6 +49,16 @@ pub fn confined(p: u16, q: u16) -> bool
     let third = follows(p / 16 % 16, q / 16 % 16);
     let last = follows(p % 16, q % 16);
     first & second & third & last
+}
+
+// The same, where the first has no number or both have the same without a look at the classes.
+pub fn confined(p: u16, q: u16) -> bool
+    ensures { λ r. ⌜ r ≡ confined p q ⌝ }
+{
+    if (p == 0) | (p == q) {
+        return true;
+    }
+    confined_classes(p, q)
 }
 
 // The first number, and where that is 0 the second.
@@ -49,7 +69,7 @@ fn number_or(a: u16, b: u16) -> u16
 }
 
 // In each class the number of p, and where that is 0 the number of q.
-pub fn joined(p: u16, q: u16) -> u16
+fn joined_classes(p: u16, q: u16) -> u16
     ensures { λ r. ⌜ r ≡ joined p q ⌝ }
 {
     let first = number_or(p / 4096 % 16, q / 4096 % 16);
@@ -57,6 +77,16 @@ pub fn joined(p: u16, q: u16) -> u16
     let third = number_or(p / 16 % 16, q / 16 % 16);
     let last = number_or(p % 16, q % 16);
     first * 4096 + second * 256 + third * 16 + last
+}
+
+// The same; where q has no number or both have the same, these are the numbers of p.
+pub fn joined(p: u16, q: u16) -> u16
+    ensures { λ r. ⌜ r ≡ joined p q ⌝ }
+{
+    if (q == 0) | (p == q) {
+        return p;
+    }
+    joined_classes(p, q)
 }
 
 // The numbers of q joined to those of p where a test passes, else those of p.

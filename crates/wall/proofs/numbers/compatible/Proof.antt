@@ -1,40 +1,29 @@
 -- `wall::numbers::compatible` meets its contract.
 -- Assumes nothing.
-use borrow.Author.Needs.{needs}
-use Prim.Native.Nat.{ℕ}
-use mathlib.Core.Path.{ap₂, _∙_}
-use mathlib.Core.Bool.{_&&_, _||_}
+use mathlib.Core.Path.{sym, subst}
+use mathlib.Core.Logic.{inl, inr}
 use lib.Dec.{eqb}
-use Rattle.model.specs.Companies.{company, compatible}
-use Rattle.wall.proofs.Joined.{last-company}
+use borrow.Author.Tests.{eqb-true}
+use Rattle.model.specs.Companies.{Compatible}
+use Rattle.model.proofs.Tests.{or-cases}
+use Rattle.model.proofs.Companies.{compatible-decides, compatible-itself, no-company}
+use borrow.Author.Needs.{needs}
 use Rattle.wall.proofs.numbers.compatible.Statement.{statement}
 use Rattle.wall.proofs.numbers.compatible.Tie as tie
 
-no-conflict-requires : tie.Need-no-conflict-requires
-no-conflict-requires c κs = search needs
-
-no-conflict-requires-2 : tie.Need-no-conflict-requires-2
-no-conflict-requires-2 c κs = search needs
-
-no-conflict-requires-3 : tie.Need-no-conflict-requires-3
-no-conflict-requires-3 c κs = search needs
-
-no-conflict-requires-4 : tie.Need-no-conflict-requires-4
-no-conflict-requires-4 c κs = search needs
-
 returns : tie.Need-returns
-unfolding compatible company
 returns c =
-    let a = c .before .before .before .before .args in
-    let last = c .no-conflict4 .ensures ∙ ap₂ (λ (a b : ℕ). eqb a 0 || (eqb b 0 || eqb a b)) (last-company (a .p)) (last-company (a .q)) in
-    ap₂ _&&_ (ap₂ _&&_ (ap₂ _&&_ (c .before .before .before .no-conflict .ensures) (c .before .before .no-conflict2 .ensures)) (c .before .no-conflict3 .ensures)) last
+    let a = c .before .args in
+    sym (compatible-decides (a .p) (a .q) .1
+    (or-cases (eqb (a .q) 0) (eqb (a .p) (a .q)) (c .if1 .taken)
+    (λ e. subst (Compatible (a .p)) (sym (eqb-true (a .q) 0 e)) (λ k h. inr (inl (no-company k h))))
+    (λ e. subst (Compatible (a .p)) (eqb-true (a .p) (a .q) e) (compatible-itself (a .p)))))
+
+compatible-classes-requires : tie.Need-compatible-classes-requires
+compatible-classes-requires c κs = search needs
+
+returns-2 : tie.Need-returns-2
+returns-2 c = search needs
 
 pub compatible-spec : {M : Type 1} → statement M
-compatible-spec =
-    tie.close
-    (tie.spec
-    no-conflict-requires
-    no-conflict-requires-2
-    no-conflict-requires-3
-    no-conflict-requires-4
-    returns)
+compatible-spec = tie.close (tie.spec returns compatible-classes-requires returns-2)

@@ -1,35 +1,29 @@
 -- `wall::numbers::confined` meets its contract.
 -- Assumes nothing.
-use borrow.Author.Needs.{needs}
 use Prim.Native.Nat.{ℕ}
-use mathlib.Core.Path.{ap₂, _∙_}
-use mathlib.Core.Bool.{_&&_, _||_}
+use mathlib.Core.Path.{sym, subst}
 use lib.Dec.{eqb}
-use Rattle.model.specs.Companies.{company, confined}
-use Rattle.wall.proofs.Joined.{last-company}
+use borrow.Author.Tests.{eqb-true}
+use Rattle.model.specs.Companies.{Confined}
+use Rattle.model.proofs.Tests.{or-cases}
+use Rattle.model.proofs.Companies.{confined-decides, confined-itself, no-company}
+use borrow.Author.Needs.{needs}
 use Rattle.wall.proofs.numbers.confined.Statement.{statement}
 use Rattle.wall.proofs.numbers.confined.Tie as tie
 
-follows-requires : tie.Need-follows-requires
-follows-requires c κs = search needs
-
-follows-requires-2 : tie.Need-follows-requires-2
-follows-requires-2 c κs = search needs
-
-follows-requires-3 : tie.Need-follows-requires-3
-follows-requires-3 c κs = search needs
-
-follows-requires-4 : tie.Need-follows-requires-4
-follows-requires-4 c κs = search needs
-
 returns : tie.Need-returns
-unfolding confined company
 returns c =
-    let a = c .before .before .before .before .args in
-    let last = c .follows4 .ensures ∙ ap₂ (λ (a b : ℕ). eqb a 0 || eqb a b) (last-company (a .p)) (last-company (a .q)) in
-    ap₂ _&&_ (ap₂ _&&_ (ap₂ _&&_ (c .before .before .before .follows .ensures) (c .before .before .follows2 .ensures)) (c .before .follows3 .ensures)) last
+    let a = c .before .args in
+    sym (confined-decides (a .p) (a .q) .1
+    (or-cases (eqb (a .p) 0) (eqb (a .p) (a .q)) (c .if1 .taken)
+    (λ e. subst (λ (n : ℕ). Confined n (a .q)) (sym (eqb-true (a .p) 0 e)) (λ k h n. absurd (n (no-company k h))))
+    (λ e. subst (Confined (a .p)) (eqb-true (a .p) (a .q) e) (confined-itself (a .p)))))
+
+confined-classes-requires : tie.Need-confined-classes-requires
+confined-classes-requires c κs = search needs
+
+returns-2 : tie.Need-returns-2
+returns-2 c = search needs
 
 pub confined-spec : {M : Type 1} → statement M
-confined-spec =
-    tie.close
-    (tie.spec follows-requires follows-requires-2 follows-requires-3 follows-requires-4 returns)
+confined-spec = tie.close (tie.spec returns confined-classes-requires returns-2)
