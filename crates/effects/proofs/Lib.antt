@@ -5,4 +5,5 @@ pub mod Frames
 pub mod Labels
 pub mod Companies
 pub mod Effects
+pub mod Determined
 pub mod Demand2

@@ -96,3 +96,9 @@ pub classes-apart : (compatible 0x1000 0x2000 ≡ false) × (compatible 0x1000 0
     × (compatible 0x0001 0x0002 ≡ false) × (compatible 0x0100 0x0F00 ≡ false) × (compatible 0x1200 0x1234 ≡ true)
 unfolding compatible company
 classes-apart = (refl, refl, refl, refl, refl, refl)
+
+-- and each class by itself confines: "each nonzero number of P equals that of Q"
+pub each-class-confined : (confined 0x1000 0 ≡ false) × (confined 0x0100 0 ≡ false) × (confined 0x0010 0 ≡ false) × (confined 0x0001 0 ≡ false)
+    × (confined 0x0100 0x0200 ≡ false) × (confined 0x0010 0x1230 ≡ false) × (confined 0x1234 0x1234 ≡ true)
+unfolding confined company
+each-class-confined = (refl, refl, refl, refl, refl, refl, refl)

@@ -3,7 +3,7 @@
 use Prim.Native.Nat.{ℕ}
 use mathlib.Core.Path.{_≡_, refl}
 use mathlib.Core.Bool.{true}
-use mathlib.Core.List.{_∷_}
+use mathlib.Core.List.{List, [], _∷_, map}
 use lib.ListN.{replicate}
 use Rattle.model.specs.declared.Label.{Label}
 use Rattle.model.specs.declared.Label.the-variants.{Absent, Present}
@@ -41,11 +41,14 @@ two a numbers held b others =
 abbrev asks : ℕ → ℕ → Mode → Decision
 asks held others x = checks (Get 1 1 x) (two (level 0) 0x1000 held (level 0) others)
 
--- "For any two accesses held by one subject": whichever mode is held and whichever is asked for, e too
-pub any-two-accesses : (asks 8 0x2000 Read ≡ WallBroken) × (asks 4 0x2000 Append ≡ WallBroken) × (asks 2 0x2000 Write ≡ WallBroken)
-    × (asks 1 0x2000 Execute ≡ WallBroken) × (asks 1 0x2000 Read ≡ WallBroken) × (asks 8 0x2000 Execute ≡ WallBroken)
+-- the answers for each set held, r, w, a or e alone, and each mode asked for, r, w, a, e
+abbrev byModes : (ℕ → Mode → Decision) → List (List Decision)
+byModes f = map (λ (held : ℕ). map (f held) (Read ∷ Write ∷ Append ∷ Execute ∷ [])) (8 ∷ 4 ∷ 2 ∷ 1 ∷ [])
+
+-- "For any two accesses held by one subject": another company of the class, whatever the two modes are, e too
+pub any-two-accesses : byModes (λ (held : ℕ). asks held 0x2000) ≡ replicate 4 (replicate 4 WallBroken)
 unfolding checks changed has add implies unless starFor starFrom starPair wallFor wallFrom wallPair compatible confined company dominates levelDominates compare
-any-two-accesses = (refl, refl, refl, refl, refl, refl)
+any-two-accesses = refl
 
 -- "each class has a 0 or equal numbers": the same company, none, and another company of another class
 pub none-or-equal : (asks 8 0x1000 Read ≡ Granted) × (asks 8 0 Read ≡ Granted) × (asks 8 0x0200 Read ≡ Granted) × (asks 8 0x1200 Read ≡ Granted)
@@ -57,22 +60,33 @@ pub by-one-subject : (checks (Get 0 1 Read) (two (level 0) 0x1000 8 (level 0) 0x
 unfolding checks changed has add implies unless starFor starFrom starPair wallFor wallFrom wallPair compatible confined company dominates levelDominates compare
 by-one-subject = refl
 
--- "Where it holds r or w on P and a or w on Q, each nonzero number of P equals that of Q": it reads company 1 by r (8) or w (4), and may not
--- append to or write what has no number, nor what has another number only; a (2) and e (1) do not read, r and e do not alter
-pub read-then-altered : (asks 8 0 Append ≡ WallBroken) × (asks 8 0 Write ≡ WallBroken) × (asks 4 0 Append ≡ WallBroken) × (asks 8 0x0300 Append ≡ WallBroken)
-    × (asks 8 0x1000 Append ≡ Granted) × (asks 8 0x1300 Append ≡ Granted)
-    × (asks 2 0 Append ≡ Granted) × (asks 1 0 Write ≡ Granted) × (asks 8 0 Read ≡ Granted) × (asks 8 0 Execute ≡ Granted)
+-- "Where it holds r or w on P and a or w on Q, each nonzero number of P equals that of Q": it has P, of company 1, and asks for Q, of none
+pub read-then-altered : byModes (λ (held : ℕ). asks held 0)
+    ≡ (Granted ∷ WallBroken ∷ WallBroken ∷ Granted ∷ [])
+    ∷ (Granted ∷ WallBroken ∷ WallBroken ∷ Granted ∷ [])
+    ∷ replicate 4 Granted
+    ∷ replicate 4 Granted
+    ∷ []
 unfolding checks changed has add implies unless starFor starFrom starPair wallFor wallFrom wallPair compatible confined company dominates levelDominates compare
-read-then-altered = (refl, refl, refl, refl, refl, refl, refl, refl, refl, refl)
+read-then-altered = refl
 
--- the other way round: it alters an object without numbers, by a (2) or w (4), and asks for one of company 1
+-- a number of another class does not do; the same number does, and a number more in another class does not matter
+pub numbers-of-both : (asks 8 0x0300 Append ≡ WallBroken) × (asks 8 0x1000 Append ≡ Granted) × (asks 8 0x1300 Append ≡ Granted)
+unfolding checks changed has add implies unless starFor starFrom starPair wallFor wallFrom wallPair compatible confined company dominates levelDominates compare
+numbers-of-both = (refl, refl, refl)
+
+-- the other way round: it has Q, of no company, and asks for P, of company 1
 abbrev later : ℕ → Mode → Decision
 later held x = checks (Get 1 1 x) (two (level 0) 0 held (level 0) 0x1000)
 
-pub altered-then-read : (later 2 Read ≡ WallBroken) × (later 4 Read ≡ WallBroken) × (later 2 Write ≡ WallBroken) × (later 2 Append ≡ Granted) × (later 8 Append ≡ Granted)
-    × (later 8 Write ≡ Granted) × (later 2 Execute ≡ Granted)
+pub altered-then-read : byModes later
+    ≡ replicate 4 Granted
+    ∷ (WallBroken ∷ WallBroken ∷ Granted ∷ Granted ∷ [])
+    ∷ (WallBroken ∷ WallBroken ∷ Granted ∷ Granted ∷ [])
+    ∷ replicate 4 Granted
+    ∷ []
 unfolding checks changed has add implies unless starFor starFrom starPair wallFor wallFrom wallPair compatible confined company dominates levelDominates compare
-altered-then-read = (refl, refl, refl, refl, refl, refl, refl)
+altered-then-read = refl
 
 -- "18, .. checked last in get": star is asked before it
 pub star-before-wall : (checks (Get 1 1 Append) (two (level 1) 0x1000 8 (level 0) 0x2000) ≡ StarBroken)
@@ -82,7 +96,7 @@ star-before-wall = (refl, refl)
 
 -- ---- kind 8
 
--- subject s sets the numbers of object 1, of which subject 1 is the owner; it holds r on object 0, of company 1, and r on object 1
+-- subject s sets the numbers of object 1, of which subject 1 is the owner; it holds e on both objects, which are of company 1
 abbrev sets : ℕ → ℕ → ℕ → Decision
 sets s o n = checks (SetCompanies s o n) (withObject (two Absent 0x1000 1 Absent 0) 1 (marked Absent 0x1000 1))
 
