@@ -64,6 +64,9 @@ pub fn companies(one: [[u8; 16]; ROWS]) {
     ask(one, f); // 0: the owner sets the highest numbers
     f.actor = 4;
     ask(one, f); // 2: a subject outside the profile
+    f.actor = 0;
+    f.object = 10;
+    ask(one, f); // 2: an object outside the profile
 }
 
 // After a refusal nobody is enrolled, and the profile is the widest.

@@ -13,7 +13,7 @@ use Rattle.model.specs.declared.Profile.{Profile}
 use Rattle.model.specs.declared.Monitor.{Monitor}
 use Rattle.model.specs.declared.Mode.the-variants.{Read}
 use Rattle.model.specs.declared.Request.{Request}
-use Rattle.model.specs.declared.Request.the-variants.{Get, Give, Create, ChangeLevel}
+use Rattle.model.specs.declared.Request.the-variants.{Get, Give, Create, ChangeLevel, SetCompanies}
 use Rattle.model.specs.Tests.{implies, unless}
 use Rattle.model.specs.Levels.{need, compare, levelDominates, dominates, sameLabel}
 use Rattle.model.specs.Modes.{has, add, remove}
@@ -88,6 +88,10 @@ asked =
     ∷ (ChangeLevel 1 0 (level 4 0x0000), 2, 0)
     ∷ (ChangeLevel 1 0 (level 0 0x0004), 2, 0)
     ∷ (ChangeLevel 1 0 (level 3 0x0003), 0, 0)
+    -- kind 8: a subject, an object, and company numbers, which are "not bounded by the profile" (change request §10)
+    ∷ (SetCompanies 3 0 0x0000, 2, 3)
+    ∷ (SetCompanies 1 2 0x0000, 2, 4)
+    ∷ (SetCompanies 1 0 0xFFFF, 0, 0)
     -- the last subject in use, whose number is beyond the objects, as actor and as the other subject; the last object in use
     ∷ (Get 2 0 Read, 6, 6)
     ∷ (Give 1 2 0 Read, 0, 0)

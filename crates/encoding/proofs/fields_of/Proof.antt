@@ -1,4 +1,4 @@
--- The seven kinds.
+-- The eight kinds.
 -- Assumes nothing.
 use mathlib.Core.Path.{_≡_, _∙_}
 use mathlib.Core.Logic.{⊎-elim}
