@@ -16,7 +16,7 @@ fn scene(name: &str) -> PathBuf {
     fs::create_dir(folder.join("tools")).unwrap();
     fs::create_dir(folder.join("programs")).unwrap();
     for file in ["circtool", "toolchain.txt", "tools/library", "tools/toolchain.sh"] {
-        fs::copy(root().join(file), folder.join(file)).unwrap();
+        script(&folder.join(file), &fs::read_to_string(root().join(file)).unwrap());
     }
     fs::write(folder.join("crates.txt"), "# crates\nlow:\nmiddle: low\nother: low\ncapi: middle low\nside: other\n")
         .unwrap();

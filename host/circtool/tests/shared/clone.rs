@@ -2,9 +2,8 @@
 //! what the repository has proved. It stands outside the repository, in whose folder `rt` takes every file of Rattle for one
 //! that must be proved.
 
-use super::root;
+use super::{ended, fed, root};
 use std::fs;
-use std::os::unix::fs::PermissionsExt;
 use std::path::{Path, PathBuf};
 use std::process::{Command, Stdio};
 
@@ -63,10 +62,12 @@ fn copy(from: &Path, to: &Path) {
     }
 }
 
-/// A program that is a script of the shell.
+/// A program that is a script of the shell. Another process writes it: a file that is open for writing here is so for a moment in
+/// every process that another test starts meanwhile, and a program that is open for writing cannot be run.
 pub fn script(place: &Path, text: &str) {
-    fs::write(place, text).unwrap();
-    fs::set_permissions(place, fs::Permissions::from_mode(0o755)).unwrap();
+    let mut command = Command::new("bash");
+    command.args(["-c", "cat > \"$0\" && chmod +x \"$0\""]).arg(place);
+    ended(&fed(&mut command, text.as_bytes()), 0);
 }
 
 /// `rt`, which first copies the proofs of the repository where it finds none. The program `circmon` is not among them. The
