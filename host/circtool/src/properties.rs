@@ -39,7 +39,7 @@ fn holding(view: &View, subject: usize, object: usize, it: &Object) -> Holding {
 }
 
 /// Every holding of an access, by object and then by subject.
-pub fn holdings(view: &View) -> Vec<Holding> {
+fn holdings(view: &View) -> Vec<Holding> {
     view.live()
         .flat_map(|(object, it)| (0..it.held.len()).map(move |subject| holding(view, subject, object, it)))
         .filter(|it| !it.held.is_empty())
@@ -65,19 +65,24 @@ pub fn simple(view: &View) -> Vec<Holding> {
     places(view, |it| !it.held.reading().is_empty() && !dominates(it.clearance, it.label))
 }
 
-/// r or w on one object, a or w on another whose label does not dominate the first one's.
-pub fn star(view: &View) -> Vec<Pair> {
+/// What is found among the holdings of each subject, one subject after the other.
+pub fn of_each_subject<T>(view: &View, found: impl Fn(&[Holding]) -> Vec<T>) -> Vec<T> {
     let all = holdings(view);
-    (0..SUBJECTS).flat_map(|subject| star_of(&all, subject)).collect()
+    let of = |subject| all.iter().filter(|it| it.subject == subject).cloned().collect::<Vec<_>>();
+    (0..SUBJECTS).flat_map(|subject| found(&of(subject))).collect()
 }
 
-fn star_of(all: &[Holding], subject: usize) -> Vec<Pair> {
-    let own: Vec<&Holding> = all.iter().filter(|it| it.subject == subject).collect();
+/// r or w on one object, a or w on another whose label does not dominate the first one's.
+pub fn star(view: &View) -> Vec<Pair> {
+    of_each_subject(view, star_among)
+}
+
+fn star_among(own: &[Holding]) -> Vec<Pair> {
     let mut pairs = Vec::new();
     for read in own.iter().filter(|it| !it.held.reading().is_empty()) {
         for written in own.iter().filter(|it| !it.held.writing().is_empty()) {
             if !dominates(written.label, read.label) {
-                pairs.push(Pair { read: (*read).clone(), written: (*written).clone() });
+                pairs.push(Pair { read: read.clone(), written: written.clone() });
             }
         }
     }

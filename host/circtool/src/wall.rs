@@ -2,8 +2,8 @@
 
 use crate::companies::CONFLICT_CLASSES;
 use crate::mode::Modes;
-use crate::properties::{holdings, Holding};
-use crate::view::{View, SUBJECTS};
+use crate::properties::{of_each_subject, Holding};
+use crate::view::View;
 
 /// Two objects that one subject holds and that stand on two sides of the wall, in one conflict class.
 #[derive(Clone, Debug, PartialEq, Eq)]
@@ -33,12 +33,10 @@ const SECOND: &str =
 /// Every two objects of every subject, class by class. Where both have a company of the class and these differ, the first rule is
 /// named, also where the second is broken too.
 pub fn breaches(view: &View) -> Vec<Breach> {
-    let all = holdings(view);
-    (0..SUBJECTS).flat_map(|subject| breaches_of(&all, subject)).collect()
+    of_each_subject(view, breaches_among)
 }
 
-fn breaches_of(all: &[Holding], subject: usize) -> Vec<Breach> {
-    let own: Vec<&Holding> = all.iter().filter(|it| it.subject == subject).collect();
+fn breaches_among(own: &[Holding]) -> Vec<Breach> {
     let mut found = Vec::new();
     for (at, one) in own.iter().enumerate() {
         for other in &own[at + 1..] {

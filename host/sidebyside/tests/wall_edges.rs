@@ -9,16 +9,18 @@ use sidebyside::{rows, Both};
 const NONE: Companies = [0; CONFLICT_CLASSES];
 const HIGH: Level = Level { class: 3, needs: 0b11 };
 
-/// Subject 1 owns objects with these companies and one label, to which subjects 1 and 2 have all rights. Subject 3 is not enrolled.
+/// Subject 1 makes objects with these companies and one label, and gives subject 2 every right to them. Subject 3 is not enrolled.
 fn with_objects(companies: &[Companies]) -> Both {
     let mut monitor = Monitor::empty();
     monitor.subjects[1..3].fill(Some(HIGH));
-    for (slot, &companies) in companies.iter().enumerate() {
-        let mut object = Object { label: Some(HIGH), companies, ..Object::new(1) };
-        object.rights[1..3].fill(0b1111);
-        monitor.objects[slot] = Some(object);
+    let mut both = Both::new(monitor);
+    for (object, &companies) in companies.iter().enumerate() {
+        let made = [Kind::Create { execute: true }, Kind::ChangeLevel(HIGH), Kind::SetCompanies(companies)];
+        for kind in made.into_iter().chain(Mode::ALL.map(|mode| Kind::Give(2, mode))) {
+            assert!(asked(&mut both, 1, object, kind) < 2, "{kind:?}");
+        }
     }
-    Both::new(monitor)
+    both
 }
 
 fn asked(both: &mut Both, actor: usize, object: usize, kind: Kind) -> u8 {
