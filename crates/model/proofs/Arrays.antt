@@ -13,7 +13,7 @@ use Rattle.model.proofs.Tests.{any-default}
 
 -- what it reads past the end of the array: the default of the logic for each field, so it is written out and not made from `noObject`
 abbrev pub blank : Object
-blank = record { live = false; owner = 0; label = Absent; companies = 0; rights = []; held = [] }
+blank = record { live = false; owner = 0; label = Absent; companies = 0; rights = []; held = []; parent = 0 }
 
 -- before its end the array has the object's record
 pub read-object : (l : List Object) (o : ℕ) → length l ≡ 64 → o < 64 → getD l o blank ≡ objectAt l o

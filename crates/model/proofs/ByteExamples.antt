@@ -12,9 +12,10 @@ use Rattle.model.specs.declared.Object.{Object}
 use Rattle.model.specs.declared.Mode.the-variants.{Read, Write, Append, Execute}
 use Rattle.model.specs.declared.Request.the-variants.{Get, Release, Give, Rescind, Create, Delete, ChangeLevel, SetCompanies}
 use Rattle.model.specs.declared.Decoded.the-variants.{Says}
+use Rattle.model.specs.Tests.{implies}
 use Rattle.model.specs.Levels.{need}
-use Rattle.model.specs.State.{widest, noObject, withOwner, withLabel, withCompanies, withRows}
-use Rattle.model.specs.Requests.{fields, modeAllowed, unusedZero, fieldsFormed, within, wellFormed, request, creation, decodeFields, decode}
+use Rattle.model.specs.State.{widest, noObject, withOwner, withLabel, withCompanies, withParent, withRows}
+use Rattle.model.specs.Requests.{fields, modeAllowed, unusedZero, parentWithin, fieldsFormed, within, wellFormed, request, creation, decodeFields, decode}
 use Rattle.model.specs.Layout.{labelWidth, objectWidth, tableWidth, tableSize, objectsWidth, objectsSize, imageSize, labelBits, setsBits, objectBits}
 use Rattle.model.specs.Reading.{labelFrom, labelForm, objectFrom, objectForm}
 
@@ -30,14 +31,14 @@ every-field = refl
 abbrev level : ℕ → ℕ → Level
 level class needs = record { class = class; needs = needs }
 
--- the eight kinds, 1 to 8, by subject 5, in give and rescind for subject 9, on object 42; "Modes: .. 1 r, 2 w, 3 a, 4 e"
+-- the eight kinds, 1 to 8, by subject 5, in give and rescind for subject 9, on object 42; "Modes: .. 1 r, 2 w, 3 a, 4 e"; the second create with the last object as parent
 pub every-kind : map (decode widest)
     ((0x12 ∷ 0x80 ∷ 0x01 ∷ 0x00 ∷ 0x00 ∷ 0x00 ∷ [])
     ∷ (0x22 ∷ 0x81 ∷ 0x52 ∷ 0x00 ∷ 0x00 ∷ 0x00 ∷ [])
     ∷ (0x32 ∷ 0xA5 ∷ 0x53 ∷ 0x00 ∷ 0x00 ∷ 0x00 ∷ [])
     ∷ (0x42 ∷ 0xA5 ∷ 0x54 ∷ 0x00 ∷ 0x00 ∷ 0x00 ∷ [])
     ∷ (0x52 ∷ 0x81 ∷ 0x54 ∷ 0x00 ∷ 0x00 ∷ 0x00 ∷ [])
-    ∷ (0x52 ∷ 0x81 ∷ 0x50 ∷ 0x00 ∷ 0x00 ∷ 0x00 ∷ [])
+    ∷ (0x52 ∷ 0x81 ∷ 0x50 ∷ 0x00 ∷ 0x04 ∷ 0x00 ∷ [])
     ∷ (0x62 ∷ 0x81 ∷ 0x50 ∷ 0x00 ∷ 0x00 ∷ 0x00 ∷ [])
     ∷ (0x72 ∷ 0x81 ∷ 0x50 ∷ 0xB1 ∷ 0x23 ∷ 0x40 ∷ [])
     ∷ (0x82 ∷ 0x81 ∷ 0x50 ∷ 0x01 ∷ 0x23 ∷ 0x40 ∷ [])
@@ -47,13 +48,13 @@ pub every-kind : map (decode widest)
     ∷ Release 5 42 Write
     ∷ Give 5 9 42 Append
     ∷ Rescind 5 9 42 Execute
-    ∷ Create 5 42 (creation true)
-    ∷ Create 5 42 (creation false)
+    ∷ Create 5 42 (creation true 0)
+    ∷ Create 5 42 (creation false 64)
     ∷ Delete 5 42
     ∷ ChangeLevel 5 42 (level 11 0x1234)
     ∷ SetCompanies 5 42 0x1234
     ∷ [])
-unfolding decode decodeFields fields field bytesToBits toBits odd fromBits wellFormed fieldsFormed within modeAllowed unusedZero request
+unfolding decode decodeFields fields field bytesToBits toBits odd fromBits wellFormed fieldsFormed within modeAllowed unusedZero parentWithin implies request
 every-kind = refl
 
 -- "need k weighs 2^k": 8005 has the needs 0, 2 and 15
@@ -64,24 +65,24 @@ need-weights = refl
 -- ---- sizes
 
 -- the numbers that the scope prints, and whole bytes: no bit is lost by a division
-pub every-size : (labelWidth ≡ 21) × (objectWidth ≡ 170) × (tableSize ≡ 42) × (imageSize ≡ 1402) × (tableWidth ≡ 8 * tableSize) × (objectsWidth ≡ 8 * objectsSize)
+pub every-size : (labelWidth ≡ 21) × (objectWidth ≡ 177) × (tableSize ≡ 42) × (imageSize ≡ 1458) × (tableWidth ≡ 8 * tableSize) × (objectsWidth ≡ 8 * objectsSize)
 every-size = (refl, refl, refl, refl, refl, refl)
 
 -- ---- an object record
 
 -- live, owned by subject 5, labelled (9, 1234), with the companies 5, 0, 12 and 3; subject 0 has r and w and holds r, 1 has w and a and holds a, 5 has all and holds w,
--- 15 has r, a and e and holds e
+-- 15 has r, a and e and holds e; object 41 is its parent
 abbrev trace : Object
 trace =
-    withRows (withCompanies (withLabel (withOwner noObject 5) (Present (level 9 0x1234))) 0x50C3)
+    withRows (withCompanies (withLabel (withParent (withOwner noObject 5) 42) (Present (level 9 0x1234))) 0x50C3)
     (12 ∷ 6 ∷ 0 ∷ 0 ∷ 0 ∷ 15 ∷ 0 ∷ 0 ∷ 0 ∷ 0 ∷ 0 ∷ 0 ∷ 0 ∷ 0 ∷ 0 ∷ 11 ∷ [])
     (8 ∷ 2 ∷ 0 ∷ 0 ∷ 0 ∷ 4 ∷ 0 ∷ 0 ∷ 0 ∷ 0 ∷ 0 ∷ 0 ∷ 0 ∷ 0 ∷ 0 ∷ 1 ∷ [])
 
 -- "live 1, owner 4, label present 1, class 4, needs 16", the company numbers "after the needs" in 16, "then for subjects 0 to 15 four right
--- bits and four access bits, each r, w, a, e": 1 0101 1 1001 0001001000110100, 0101000011000011, then 1100 1000, 0110 0010, three times 0, 1111 0100, nine times 0, 1011 0001, and six bits behind it
+-- bits and four access bits, each r, w, a, e": 1 0101 1 1001 0001001000110100, 0101000011000011, then 1100 1000, 0110 0010, three times 0, 1111 0100, nine times 0, 1011 0001, the parent "number plus one", 0101010, and seven bits behind it
 abbrev traceBytes : List ℕ
 traceBytes =
-    0xAE ∷ 0x44 ∷ 0x8D ∷ 0x14 ∷ 0x30 ∷ 0xF2 ∷ 0x18 ∷ 0x80 ∷ 0x00 ∷ 0x00 ∷ 0x3D ∷ 0x00 ∷ 0x00 ∷ 0x00 ∷ 0x00 ∷ 0x00 ∷ 0x00 ∷ 0x00 ∷ 0x00 ∷ 0x00 ∷ 0x2C ∷ 0x40 ∷ []
+    0xAE ∷ 0x44 ∷ 0x8D ∷ 0x14 ∷ 0x30 ∷ 0xF2 ∷ 0x18 ∷ 0x80 ∷ 0x00 ∷ 0x00 ∷ 0x3D ∷ 0x00 ∷ 0x00 ∷ 0x00 ∷ 0x00 ∷ 0x00 ∷ 0x00 ∷ 0x00 ∷ 0x00 ∷ 0x00 ∷ 0x2C ∷ 0x55 ∷ 0x00 ∷ []
 
 pub record-bits : objectBits trace ≡ take objectWidth (bytesToBits traceBytes)
 unfolding objectBits labelBits setsBits bytesToBits toBits odd

@@ -18,9 +18,9 @@ use Rattle.model.proofs.Modes.{modes-ext}
 -- ---- field by field
 
 pub object-ext : (a b : Object) → a .live ≡ b .live → a .owner ≡ b .owner → a .label ≡ b .label → a .companies ≡ b .companies
-    → a .rights ≡ b .rights → a .held ≡ b .held → a ≡ b
-object-ext a b live owner label companies rights held =
-    λ i. record { live = live i; owner = owner i; label = label i; companies = companies i; rights = rights i; held = held i }
+    → a .rights ≡ b .rights → a .held ≡ b .held → a .parent ≡ b .parent → a ≡ b
+object-ext a b live owner label companies rights held parent =
+    λ i. record { live = live i; owner = owner i; label = label i; companies = companies i; rights = rights i; held = held i; parent = parent i }
 
 pub monitor-ext : (m n : Monitor) → m .profile ≡ n .profile → m .subjects ≡ n .subjects → m .objects ≡ n .objects → m ≡ n
 monitor-ext m n profile subjects objects = λ i. record { profile = profile i; subjects = subjects i; objects = objects i }
@@ -33,13 +33,14 @@ row-ext : (a b : List ℕ) → length a ≡ 16 → length b ≡ 16 → ((s : ℕ
 row-ext a b p q u v h = ext-getD 0 a b (p ∙ sym q) (λ s l. modes-ext _ _ (u s) (v s) (h s (omega (arith, p))))
 
 pub object-same : {k l : List Subject} (a b : Object) → WellFormedObject k a → WellFormedObject l b
-    → a .live ≡ b .live → a .owner ≡ b .owner → a .label ≡ b .label → a .companies ≡ b .companies
+    → a .live ≡ b .live → a .owner ≡ b .owner → a .parent ≡ b .parent → a .label ≡ b .label → a .companies ≡ b .companies
     → ((s : ℕ) → s < 16 → (x : Mode) → has x (rightsOf a s) ≡ has x (rightsOf b s))
     → ((s : ℕ) → s < 16 → (x : Mode) → has x (heldBy a s) ≡ has x (heldBy b s)) → a ≡ b
-object-same a b F G live owner label companies rights held =
+object-same a b F G live owner parent label companies rights held =
     object-ext a b live owner label companies
     (row-ext (a .rights) (b .rights) (F .shape .rights-length) (G .shape .rights-length) (F .shape .rights-fit) (G .shape .rights-fit) rights)
     (row-ext (a .held) (b .held) (F .shape .held-length) (G .shape .held-length) (F .shape .held-fit) (G .shape .held-fit) held)
+    parent
 
 pub state-same : (m n : Monitor) → WellFormed m → WellFormed n → m .profile ≡ n .profile
     → ((s : ℕ) → s < 16 → clearance m s ≡ clearance n s) → ((o : ℕ) → o < 64 → object m o ≡ object n o) → m ≡ n
@@ -53,17 +54,17 @@ state-same m n M N profile clearances objects =
 
 pub with-rights-same : (ob : Object) (s n : ℕ) → n ≡ rightsOf ob s → withRights ob s n ≡ ob
 with-rights-same ob s n e =
-    object-ext (withRights ob s n) ob refl refl refl refl (ap (λ (k : ℕ). set (ob .rights) s k) e ∙ set-getD (ob .rights) s 0) refl
+    object-ext (withRights ob s n) ob refl refl refl refl (ap (λ (k : ℕ). set (ob .rights) s k) e ∙ set-getD (ob .rights) s 0) refl refl
 
 pub with-held-same : (ob : Object) (s n : ℕ) → n ≡ heldBy ob s → withHeld ob s n ≡ ob
 with-held-same ob s n e =
-    object-ext (withHeld ob s n) ob refl refl refl refl refl (ap (λ (k : ℕ). set (ob .held) s k) e ∙ set-getD (ob .held) s 0)
+    object-ext (withHeld ob s n) ob refl refl refl refl refl (ap (λ (k : ℕ). set (ob .held) s k) e ∙ set-getD (ob .held) s 0) refl
 
 pub with-label-same : (ob : Object) (l : Label) → l ≡ ob .label → withLabel ob l ≡ ob
-with-label-same ob l e = object-ext (withLabel ob l) ob refl refl e refl refl refl
+with-label-same ob l e = object-ext (withLabel ob l) ob refl refl e refl refl refl refl
 
 pub with-companies-same : (ob : Object) (n : ℕ) → n ≡ ob .companies → withCompanies ob n ≡ ob
-with-companies-same ob n e = object-ext (withCompanies ob n) ob refl refl refl e refl refl
+with-companies-same ob n e = object-ext (withCompanies ob n) ob refl refl refl e refl refl refl
 
 pub with-object-same : (m : Monitor) (o : ℕ) (ob : Object) → ob ≡ object m o → withObject m o ob ≡ m
 with-object-same m o ob e =

@@ -18,6 +18,7 @@ use Rattle.model.specs.Modes.{has, add, remove}
 use Rattle.model.specs.Companies.{company, compatible, confined}
 use Rattle.model.specs.State.{noObject, nobody, object, rightsOf, heldBy, withOwner, withLabel, withRows, withObject, fresh, widest}
 use Rattle.model.specs.Requests.{creation}
+use Rattle.model.specs.Hierarchy.{parentLive, labelUnder, labelsRise}
 use Rattle.model.specs.Rules.{created, notLowered, changed, checks, simpleAll, starPair, starFrom, starFor, wallPair, wallFrom, wallFor}
 
 abbrev level : ℕ → ℕ → Label
@@ -35,11 +36,11 @@ low held = withRows (withLabel (withOwner noObject 1) (level 0 0)) (replicate 16
 
 -- an absent label is not class 0 with no needs: r, w and a are refused, e is not
 pub unlabelled-closed : (checks (Get 1 0 Read) (state Absent 0 0) ≡ NoLabel) × (checks (Get 1 0 Append) (state Absent 0 0) ≡ NoLabel)
-unfolding checks changed has add implies unless starFor starFrom starPair wallFor wallFrom wallPair compatible confined company dominates
+unfolding checks changed has add implies unless starFor starFrom starPair wallFor wallFrom wallPair compatible confined company dominates labelsRise labelUnder parentLive
 unlabelled-closed = (refl, refl)
 
 pub execute-needs-no-label : checks (Get 1 0 Execute) (state Absent 0 0) ≡ Granted
-unfolding checks changed has add implies unless starFor starFrom starPair wallFor wallFrom wallPair compatible confined company dominates
+unfolding checks changed has add implies unless starFor starFrom starPair wallFor wallFrom wallPair compatible confined company dominates labelsRise labelUnder parentLive
 execute-needs-no-label = refl
 
 -- class and needs both count, and two levels may be apart
@@ -49,14 +50,14 @@ needs-count = (refl, refl, refl)
 
 -- not dominated is not dominates: subject 1 has (3, 0003) and the label is (0, 0004), neither above the other
 pub apart-is-refused : (checks (Get 1 0 Read) (state (level 0 4) 0 0) ≡ SimpleBroken) × (checks (Get 1 0 Read) (state (level 0 3) 0 0) ≡ Granted)
-unfolding checks changed has add implies unless starFor starFrom starPair wallFor wallFrom wallPair compatible confined company dominates levelDominates compare
+unfolding checks changed has add implies unless starFor starFrom starPair wallFor wallFrom wallPair compatible confined company dominates levelDominates compare labelsRise labelUnder parentLive
 apart-is-refused = (refl, refl)
 
 -- give and rescind need ownership and the right itself; the right alone, or ownership alone, is not enough
 pub give-needs-both : (checks (Give 0 1 0 Read) (state Absent 0 0) ≡ NoRight)
-    × (checks (Give 1 0 1 Execute) (withObject (state Absent 0 0) 1 (created 1 (creation false))) ≡ NoRight)
-    × (checks (Give 1 0 1 Read) (withObject (state Absent 0 0) 1 (created 1 (creation false))) ≡ Granted)
-unfolding checks has unless
+    × (checks (Give 1 0 1 Execute) (withObject (state Absent 0 0) 1 (created 1 (creation false 0))) ≡ NoRight)
+    × (checks (Give 1 0 1 Read) (withObject (state Absent 0 0) 1 (created 1 (creation false 0))) ≡ Granted)
+unfolding checks has unless labelsRise labelUnder parentLive
 give-needs-both = (refl, refl, refl)
 
 -- get stores the access; rescind takes the right and the access
@@ -76,7 +77,7 @@ delete-leaves-nothing = refl
 
 -- change of level looks at every subject's accesses: subject 0 reads object 0
 pub change-looks-at-all : checks (ChangeLevel 1 0 (record { class = 2; needs = 1 })) (state (level 1 1) 8 0) ≡ SimpleBroken
-unfolding checks changed notLowered has implies unless simpleAll dominates levelDominates compare
+unfolding checks changed notLowered has implies unless simpleAll dominates levelDominates compare labelsRise labelUnder parentLive
 change-looks-at-all = refl
 
 -- star: who reads class 1 may not append to class 0, and who appends only reads nothing
@@ -87,5 +88,5 @@ star-one-way = (refl, refl)
 
 -- life comes before right, right before label
 pub checks-in-order : (checks (Get 0 1 Write) (state Absent 0 0) ≡ NotLive) × (checks (Get 0 0 Write) (state Absent 0 0) ≡ NoRight)
-unfolding checks changed has add implies unless starFor starFrom starPair wallFor wallFrom wallPair compatible confined company dominates
+unfolding checks changed has add implies unless starFor starFrom starPair wallFor wallFrom wallPair compatible confined company dominates labelsRise labelUnder parentLive
 checks-in-order = (refl, refl)

@@ -15,6 +15,7 @@ pub mod Requests
 pub mod Lists
 pub mod Equal
 pub mod Records
+pub mod Hierarchy
 pub mod After
 pub mod Examples
 pub mod RuleExamples

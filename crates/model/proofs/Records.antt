@@ -15,7 +15,7 @@ use Rattle.model.specs.declared.Subject.{Subject}
 use Rattle.model.specs.declared.Object.{Object}
 use Rattle.model.specs.Companies.{companiesWidth}
 use Rattle.model.specs.State.{subjectCount, classWidth, needsWidth, noObject, LabelFits, WellFormedObject}
-use Rattle.model.specs.Layout.{labelWidth, ownerWidth, labelOffset, setWidth, pairWidth, setsWidth, objectWidth, labelBits, setsBits, objectBits}
+use Rattle.model.specs.Layout.{labelWidth, ownerWidth, labelOffset, setWidth, pairWidth, setsWidth, parentWidth, objectWidth, labelBits, setsBits, objectBits}
 use Rattle.model.specs.Reading.{labelFrom, labelForm, rightsFrom, heldFrom, liveFrom, objectFrom, objectForm}
 use Rattle.model.proofs.Tests.{split}
 use Rattle.model.proofs.Equal.{object-ext}
@@ -111,29 +111,38 @@ sets-back (suc n) b h =
 pub object-length : (ob : Object) → length (ob .rights) ≡ subjectCount → length (ob .held) ≡ subjectCount → length (objectBits ob) ≡ objectWidth
 unfolding objectBits
 object-length ob p q =
-    let behind = toBits companiesWidth (ob .companies) ++ setsBits (ob .rights) (ob .held) in
+    let sets = setsBits (ob .rights) (ob .held) ++ toBits parentWidth (ob .parent) in
+    let behind = toBits companiesWidth (ob .companies) ++ sets in
     ap suc (length-append (toBits ownerWidth (ob .owner)) (labelBits (ob .label) ++ behind))
     ∙ omega (
       arith,
       length-toBits ownerWidth (ob .owner),
       length-append (labelBits (ob .label)) behind,
       label-length (ob .label),
-      length-append (toBits companiesWidth (ob .companies)) (setsBits (ob .rights) (ob .held)),
+      length-append (toBits companiesWidth (ob .companies)) sets,
       length-toBits companiesWidth (ob .companies),
+      length-append (setsBits (ob .rights) (ob .held)) (toBits parentWidth (ob .parent)),
       sets-length subjectCount (ob .rights) (ob .held) p q,
+      length-toBits parentWidth (ob .parent),
     )
 
--- where the parts of an object's record stand behind its first bit: the owner, then the label, the company numbers and the sets
+-- where the parts of an object's record stand behind its first bit: the owner, then the label, the company numbers, the sets and the parent
 abbrev companiesBehind : ℕ
 companiesBehind = ownerWidth + labelWidth
 
 abbrev setsBehind : ℕ
 setsBehind = companiesBehind + companiesWidth
 
+abbrev parentBehind : ℕ
+parentBehind = setsBehind + setsWidth
+
 module _ (ob : Object) (p : length (ob .rights) ≡ subjectCount) (q : length (ob .held) ≡ subjectCount) where
-  -- the company numbers and the sets
+  -- the sets and the parent, and with the company numbers before them
+  abbrev last-two : List Bool
+  last-two = setsBits (ob .rights) (ob .held) ++ toBits parentWidth (ob .parent)
+
   abbrev last-parts : List Bool
-  last-parts = toBits companiesWidth (ob .companies) ++ setsBits (ob .rights) (ob .held)
+  last-parts = toBits companiesWidth (ob .companies) ++ last-two
 
   tail-of : List Bool
   tail-of = toBits ownerWidth (ob .owner) ++ (labelBits (ob .label) ++ last-parts)
@@ -157,17 +166,26 @@ module _ (ob : Object) (p : length (ob .rights) ≡ subjectCount) (q : length (o
   companies-part : take companiesWidth (drop companiesBehind tail-of) ≡ toBits companiesWidth (ob .companies)
   companies-part =
       ap (take companiesWidth) behind-label
-      ∙ take-at (toBits companiesWidth (ob .companies)) (setsBits (ob .rights) (ob .held)) companiesWidth (length-toBits companiesWidth (ob .companies))
+      ∙ take-at (toBits companiesWidth (ob .companies)) last-two companiesWidth (length-toBits companiesWidth (ob .companies))
 
-  behind-companies : drop setsBehind tail-of ≡ setsBits (ob .rights) (ob .held)
+  behind-companies : drop setsBehind tail-of ≡ last-two
   behind-companies =
       sym (drop-drop companiesWidth companiesBehind tail-of) ∙ ap (drop companiesWidth) behind-label
-      ∙ drop-at (toBits companiesWidth (ob .companies)) (setsBits (ob .rights) (ob .held)) companiesWidth (length-toBits companiesWidth (ob .companies))
+      ∙ drop-at (toBits companiesWidth (ob .companies)) last-two companiesWidth (length-toBits companiesWidth (ob .companies))
+
+  whole-sets : length (setsBits (ob .rights) (ob .held)) ≡ setsWidth
+  whole-sets = sets-length subjectCount (ob .rights) (ob .held) p q
 
   sets-part : take setsWidth (drop setsBehind tail-of) ≡ setsBits (ob .rights) (ob .held)
   sets-part =
-      ap (take setsWidth) behind-companies
-      ∙ take-all setsWidth (setsBits (ob .rights) (ob .held)) (omega (arith, sets-length subjectCount (ob .rights) (ob .held) p q))
+      ap (take setsWidth) behind-companies ∙ take-at (setsBits (ob .rights) (ob .held)) (toBits parentWidth (ob .parent)) setsWidth whole-sets
+
+  parent-part : take parentWidth (drop parentBehind tail-of) ≡ toBits parentWidth (ob .parent)
+  parent-part =
+      ap (take parentWidth)
+      (sym (drop-drop setsWidth setsBehind tail-of) ∙ ap (drop setsWidth) behind-companies
+      ∙ drop-at (setsBits (ob .rights) (ob .held)) (toBits parentWidth (ob .parent)) setsWidth whole-sets)
+      ∙ take-all parentWidth (toBits parentWidth (ob .parent)) (omega (arith, length-toBits parentWidth (ob .parent)))
 
 pub object-read : (u : List Subject) (ob : Object) → WellFormedObject u ob → objectFrom (objectBits ob) ≡ ob
 unfolding objectBits objectFrom tail-of
@@ -187,7 +205,9 @@ object-read u ob F =
     let rows = sets-read subjectCount (ob .rights) (ob .held) P Q (F .shape .rights-fit) (F .shape .held-fit) in
     let rights-eq : map rightsFrom (cut subjectCount pairWidth S) ≡ ob .rights = ap (λ (k : List Bool). map rightsFrom (cut subjectCount pairWidth k)) (sets-part ob P Q) ∙ rows .0 in
     let held-eq : map heldFrom (cut subjectCount pairWidth S) ≡ ob .held = ap (λ (k : List Bool). map heldFrom (cut subjectCount pairWidth k)) (sets-part ob P Q) ∙ rows .1 in
-    let full = object-ext (liveFrom b) ob live-eq owner-eq label-eq companies-eq rights-eq held-eq in
+    let parent-eq : fromBits (take parentWidth (drop parentBehind t)) ≡ ob .parent =
+    ap fromBits (parent-part ob P Q) ∙ fromBits-toBits parentWidth (F .shape .parent-fits) in
+    let full = object-ext (liveFrom b) ob live-eq owner-eq label-eq companies-eq rights-eq held-eq parent-eq in
     ap (λ (k : Bool). cond k (liveFrom b) noObject) e ∙ full)
     (λ e. ap (λ (k : Bool). cond k (liveFrom b) noObject) e ∙ sym (F .shape .not-live e))
 
@@ -215,19 +235,24 @@ unfolding objectBits objectFrom objectForm
 object-back [] h e = absurd (omega arith)
 object-back (true ∷ b) h e =
     let label : length (take labelWidth (drop ownerWidth b)) ≡ labelWidth = length-take-le labelWidth (drop ownerWidth b) (rw (length-drop ownerWidth b) (omega arith)) in
-    let rest : length (drop setsBehind b) ≡ setsWidth = length-drop setsBehind b ∙ omega arith in
-    let sets : take setsWidth (drop setsBehind b) ≡ drop setsBehind b = take-all setsWidth (drop setsBehind b) (omega arith) in
+    let sets : length (take setsWidth (drop setsBehind b)) ≡ setsWidth = length-take-le setsWidth (drop setsBehind b) (rw (length-drop setsBehind b) (omega arith)) in
+    let rest : length (drop parentBehind b) ≡ parentWidth = length-drop parentBehind b ∙ omega arith in
+    let parent : take parentWidth (drop parentBehind b) ≡ drop parentBehind b = take-all parentWidth (drop parentBehind b) (omega arith) in
     let numbers : length (take companiesWidth (drop companiesBehind b)) ≡ companiesWidth =
     length-take-le companiesWidth (drop companiesBehind b) (rw (length-drop companiesBehind b) (omega arith)) in
     let c : drop labelWidth (drop ownerWidth b) ≡ drop companiesBehind b = drop-drop labelWidth ownerWidth b in
     let d : drop companiesWidth (drop companiesBehind b) ≡ drop setsBehind b = drop-drop companiesWidth companiesBehind b in
+    let f : drop setsWidth (drop setsBehind b) ≡ drop parentBehind b = drop-drop setsWidth setsBehind b in
     ap (λ (r : List Bool). true ∷ r)
     (rw (
       toBits-fromBits-at ownerWidth (take ownerWidth b) (length-take-le ownerWidth b (omega arith)),
       label-back (take labelWidth (drop ownerWidth b)) label e,
       toBits-fromBits-at companiesWidth (take companiesWidth (drop companiesBehind b)) numbers,
-      sets,
-      sets-back subjectCount (drop setsBehind b) rest,
+      sets-back subjectCount (take setsWidth (drop setsBehind b)) sets,
+      parent,
+      toBits-fromBits-at parentWidth (drop parentBehind b) rest,
+      ← f,
+      take-append-drop setsWidth (drop setsBehind b),
       ← d,
       take-append-drop companiesWidth (drop companiesBehind b),
       ← c,

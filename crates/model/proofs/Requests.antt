@@ -1,6 +1,6 @@
 -- Six bytes say each request whose numbers are in range, and say no other; a request that was decoded is packed into its bytes again.
 -- Assumes nothing.
-use Prim.Native.Nat.{ℕ, zero, suc, _^_, _<_}
+use Prim.Native.Nat.{ℕ, zero, suc, _^_, _<_, _≤_}
 use native.Mathlib.Omega.{arith}
 use mathlib.Core.Path.{_≡_, refl, sym, ap, _∙_, subst}
 use mathlib.Core.Bool.{Bool, true, false, cond, _&&_, _||_}
@@ -17,9 +17,9 @@ use Rattle.model.specs.declared.Request.{Request}
 use Rattle.model.specs.declared.Request.the-variants.{Get, Release, Give, Rescind, Create, Delete, ChangeLevel, SetCompanies}
 use Rattle.model.specs.declared.Decoded.{Decoded}
 use Rattle.model.specs.declared.Decoded.the-variants.{Malformed, Says}
-use Rattle.model.specs.Requests.{requestSize, fields, modeNumber, modeOf, modeAllowed, unusedZero, fieldsFormed, wellFormed, request, creation, decodeFields, decode, fieldsOf, pack, encode, InRange, Within}
-use Rattle.model.proofs.Tests.{and-left, and-right, and-both, or-cases, split, clash, apart, cond-true, cond-false}
-use Rattle.model.proofs.Within.{formed-of, within-of, well-formed, request-within, fieldsOf-within}
+use Rattle.model.specs.Requests.{requestSize, fields, modeNumber, modeOf, modeAllowed, unusedZero, parentWithin, fieldsFormed, wellFormed, request, creation, decodeFields, decode, fieldsOf, pack, encode, InRange, Within}
+use Rattle.model.proofs.Tests.{and-left, and-right, and-both, or-cases, split, clash, apart, cond-true, cond-false, cond-all}
+use Rattle.model.proofs.Within.{formed-of, within-of, well-formed, parent-within, within-parent, request-within, fieldsOf-within}
 use Rattle.model.proofs.Packing.{FieldsFit, fields-fit, pack-length, fields-packed, packed-fields}
 
 -- ---- what a request says, and back
@@ -66,7 +66,7 @@ module _ (f : Fields) (e : fieldsFormed f ≡ true) where
   unfolding fieldsFormed
   actor-in = ltb-true _ _ (and-left (ltb (f .actor) 16) _ (and-right (leb 1 (f .kind) && leb (f .kind) 8) _ e))
 
-  after-actor : (ltb (f .other) 16 && (ltb (f .object) 64 && (modeAllowed (f .kind) (f .mode) && unusedZero f))) ≡ true
+  after-actor : (ltb (f .other) 16 && (ltb (f .object) 64 && (parentWithin 64 f && (modeAllowed (f .kind) (f .mode) && unusedZero f)))) ≡ true
   unfolding fieldsFormed
   after-actor = and-right (ltb (f .actor) 16) _ (and-right (leb 1 (f .kind) && leb (f .kind) 8) _ e)
 
@@ -77,7 +77,10 @@ module _ (f : Fields) (e : fieldsFormed f ≡ true) where
   object-in = ltb-true _ _ (and-left (ltb (f .object) 64) _ (and-right (ltb (f .other) 16) _ after-actor))
 
   pub last-two : (modeAllowed (f .kind) (f .mode) && unusedZero f) ≡ true
-  last-two = and-right (ltb (f .object) 64) _ (and-right (ltb (f .other) 16) _ after-actor)
+  last-two = and-right (parentWithin 64 f) _ (and-right (ltb (f .object) 64) _ (and-right (ltb (f .other) 16) _ after-actor))
+
+  pub parent-in : eqb (f .kind) 5 ≡ true → f .needs ≤ 64
+  parent-in = parent-within 64 f (and-left (parentWithin 64 f) _ (and-right (ltb (f .object) 64) _ (and-right (ltb (f .other) 16) _ after-actor)))
 
 -- the parts of the test of unused fields, where its kind is known
 module _ (k a t o x c n z : ℕ) where
@@ -88,7 +91,7 @@ module _ (k a t o x c n z : ℕ) where
   unfolding unusedZero
   spare-zero e =
       eqb-true z 0
-      (and-right (eqb k 7 || (eqb k 8 || eqb n 0)) (eqb z 0) (and-right (eqb k 7 || eqb c 0) _ (and-right (eqb k 3 || (eqb k 4 || eqb t 0)) _ e)))
+      (and-right (eqb k 5 || (eqb k 7 || (eqb k 8 || eqb n 0))) (eqb z 0) (and-right (eqb k 7 || eqb c 0) _ (and-right (eqb k 3 || (eqb k 4 || eqb t 0)) _ e)))
 
   other-zero : eqb k 3 ≡ false → eqb k 4 ≡ false → unusedZero it ≡ true → t ≡ 0
   unfolding unusedZero
@@ -102,19 +105,19 @@ module _ (k a t o x c n z : ℕ) where
       or-cases (eqb k 7) (eqb c 0) (and-left (eqb k 7 || eqb c 0) _ (and-right (eqb k 3 || (eqb k 4 || eqb t 0)) _ e))
       (λ w. apart w p) (λ w. eqb-true c 0 w)
 
-  needs-zero : eqb k 7 ≡ false → eqb k 8 ≡ false → unusedZero it ≡ true → n ≡ 0
+  needs-zero : eqb k 5 ≡ false → eqb k 7 ≡ false → eqb k 8 ≡ false → unusedZero it ≡ true → n ≡ 0
   unfolding unusedZero
-  needs-zero p q e =
-      or-cases (eqb k 7) (eqb k 8 || eqb n 0)
-      (and-left (eqb k 7 || (eqb k 8 || eqb n 0)) _ (and-right (eqb k 7 || eqb c 0) _ (and-right (eqb k 3 || (eqb k 4 || eqb t 0)) _ e)))
-      (λ w. apart w p) (λ w. or-cases (eqb k 8) (eqb n 0) w (λ v. apart v q) (λ v. eqb-true n 0 v))
+  needs-zero j p q e =
+      or-cases (eqb k 5) (eqb k 7 || (eqb k 8 || eqb n 0))
+      (and-left (eqb k 5 || (eqb k 7 || (eqb k 8 || eqb n 0))) _ (and-right (eqb k 7 || eqb c 0) _ (and-right (eqb k 3 || (eqb k 4 || eqb t 0)) _ e)))
+      (λ w. apart w j) (λ w. or-cases (eqb k 7) (eqb k 8 || eqb n 0) w (λ v. apart v p)
+      (λ v. or-cases (eqb k 8) (eqb n 0) v (λ g. apart g q) (λ g. eqb-true n 0 g)))
 
-  -- of a kind that has neither a level nor company numbers
-  plain-back : (u y : ℕ) → eqb k 7 ≡ false → eqb k 8 ≡ false → unusedZero it ≡ true → u ≡ t → y ≡ x
-      → _≡_ {A = Fields} (record { kind = k; actor = a; other = u; object = o; mode = y; class = 0; needs = 0; spare = 0 }) it
-  plain-back u y e g h p q =
+  -- of a kind that has no level, where d is what its needs field holds
+  plain-back : (u y d : ℕ) → eqb k 7 ≡ false → unusedZero it ≡ true → u ≡ t → y ≡ x → d ≡ n
+      → _≡_ {A = Fields} (record { kind = k; actor = a; other = u; object = o; mode = y; class = 0; needs = d; spare = 0 }) it
+  plain-back u y d e h p q s =
       let r = sym (class-zero e h) in
-      let s = sym (needs-zero e g h) in
       let v = sym (spare-zero h) in
       λ i. record { kind = k; actor = a; other = p i; object = o; mode = q i; class = r i; needs = s i; spare = v i }
 
@@ -127,26 +130,24 @@ request-fields : (k a t o x c n z : ℕ) → (leb 1 k && leb k 8) ≡ true → m
 unfolding request modeAllowed
 request-fields zero a t o x c n z h m u = clash (sym h)
 request-fields (suc zero) a t o x c n z h m u =
-    plain-back 1 a t o x c n z 0 _ refl refl u (sym (other-zero 1 a t o x c n z refl refl u)) (mode-number x m)
+    plain-back 1 a t o x c n z 0 _ 0 refl u (sym (other-zero 1 a t o x c n z refl refl u)) (mode-number x m) (sym (needs-zero 1 a t o x c n z refl refl refl u))
 request-fields (suc (suc zero)) a t o x c n z h m u =
-    plain-back 2 a t o x c n z 0 _ refl refl u (sym (other-zero 2 a t o x c n z refl refl u)) (mode-number x m)
-request-fields (suc (suc (suc zero))) a t o x c n z h m u = plain-back 3 a t o x c n z t _ refl refl u refl (mode-number x m)
-request-fields (suc (suc (suc (suc zero)))) a t o x c n z h m u = plain-back 4 a t o x c n z t _ refl refl u refl (mode-number x m)
+    plain-back 2 a t o x c n z 0 _ 0 refl u (sym (other-zero 2 a t o x c n z refl refl u)) (mode-number x m) (sym (needs-zero 2 a t o x c n z refl refl refl u))
+request-fields (suc (suc (suc zero))) a t o x c n z h m u =
+    plain-back 3 a t o x c n z t _ 0 refl u refl (mode-number x m) (sym (needs-zero 3 a t o x c n z refl refl refl u))
+request-fields (suc (suc (suc (suc zero)))) a t o x c n z h m u =
+    plain-back 4 a t o x c n z t _ 0 refl u refl (mode-number x m) (sym (needs-zero 4 a t o x c n z refl refl refl u))
 request-fields (suc (suc (suc (suc (suc zero))))) a t o x c n z h m u =
-    plain-back 5 a t o x c n z 0 _ refl refl u (sym (other-zero 5 a t o x c n z refl refl u)) (create-number x m)
+    plain-back 5 a t o x c n z 0 _ n refl u (sym (other-zero 5 a t o x c n z refl refl u)) (create-number x m) refl
 request-fields (suc (suc (suc (suc (suc (suc zero)))))) a t o x c n z h m u =
-    plain-back 6 a t o x c n z 0 0 refl refl u (sym (other-zero 6 a t o x c n z refl refl u)) (sym (eqb-true x 0 m))
+    plain-back 6 a t o x c n z 0 0 0 refl u (sym (other-zero 6 a t o x c n z refl refl u)) (sym (eqb-true x 0 m)) (sym (needs-zero 6 a t o x c n z refl refl refl u))
 request-fields (suc (suc (suc (suc (suc (suc (suc zero))))))) a t o x c n z h m u =
     let p = other-zero 7 a t o x c n z refl refl u in
     let q = eqb-true x 0 m in
     let r = spare-zero 7 a t o x c n z u in
     λ i. record { kind = 7; actor = a; other = sym p i; object = o; mode = sym q i; class = c; needs = n; spare = sym r i }
 request-fields (suc (suc (suc (suc (suc (suc (suc (suc zero)))))))) a t o x c n z h m u =
-    let p = other-zero 8 a t o x c n z refl refl u in
-    let q = eqb-true x 0 m in
-    let g = class-zero 8 a t o x c n z refl u in
-    let r = spare-zero 8 a t o x c n z u in
-    λ i. record { kind = 8; actor = a; other = sym p i; object = o; mode = sym q i; class = sym g i; needs = n; spare = sym r i }
+    plain-back 8 a t o x c n z 0 0 n refl u (sym (other-zero 8 a t o x c n z refl refl u)) (sym (eqb-true x 0 m)) refl
 request-fields (suc (suc (suc (suc (suc (suc (suc (suc (suc k))))))))) a t o x c n z h m u =
     beyond-eight (suc (suc (suc (suc (suc (suc (suc (suc (suc k))))))))) h (omega arith)
 
@@ -161,8 +162,8 @@ request-in f F e =
     (pick (eqb (f .kind) 2) _ _ (a, o)
     (pick (eqb (f .kind) 3) _ _ (a, t, o)
     (pick (eqb (f .kind) 4) _ _ (a, t, o)
-    (pick (eqb (f .kind) 5) _ _ (a, o)
-    (pick (eqb (f .kind) 6) _ _ (a, o)
+    (cond-all InRange (eqb (f .kind) 5) _ _ (λ k. (a, o, parent-in f e k)) (λ k.
+    pick (eqb (f .kind) 6) _ _ (a, o)
     (pick (eqb (f .kind) 7) _ _ (a, o, (F .class, F .needs)) (a, o, F .needs)))))))
   where
     pick : (b : Bool) (x y : Request) → InRange x → InRange y → InRange (cond b x y)
@@ -243,27 +244,27 @@ fieldsOf-fit (Get s o x) r = omega (arith, r .0, r .1, mode-below x)
 fieldsOf-fit (Release s o x) r = omega (arith, r .0, r .1, mode-below x)
 fieldsOf-fit (Give s t o x) r = omega (arith, r .0, r .1, r .2, mode-below x)
 fieldsOf-fit (Rescind s t o x) r = omega (arith, r .0, r .1, r .2, mode-below x)
-fieldsOf-fit (Create s o c) r = omega (arith, r .0, r .1, create-mode-below (c .execute))
+fieldsOf-fit (Create s o c) r = omega (arith, r .0, r .1, r .2, create-mode-below (c .execute))
 fieldsOf-fit (Delete s o) r = omega (arith, r .0, r .1)
 fieldsOf-fit (ChangeLevel s o l) r = omega (arith, r .0, r .1, r .2 .0, r .2 .1)
 fieldsOf-fit (SetCompanies s o n) r = omega (arith, r .0, r .1, r .2)
 
 pub in-range : (f : Fields) → (leb 1 (f .kind) && leb (f .kind) 8) ≡ true → f .actor < 16 → f .other < 16 → f .object < 64
-    → modeAllowed (f .kind) (f .mode) ≡ true → unusedZero f ≡ true → fieldsFormed f ≡ true
+    → (eqb (f .kind) 5 ≡ true → f .needs ≤ 64) → modeAllowed (f .kind) (f .mode) ≡ true → unusedZero f ≡ true → fieldsFormed f ≡ true
 unfolding fieldsFormed
-in-range f k a t o m u =
-    and-both k (and-both (lt-ltb _ _ a) (and-both (lt-ltb _ _ t) (and-both (lt-ltb _ _ o) (and-both m u))))
+in-range f k a t o p m u =
+    and-both k (and-both (lt-ltb _ _ a) (and-both (lt-ltb _ _ t) (and-both (lt-ltb _ _ o) (and-both (within-parent 64 f p) (and-both m u)))))
 
 fieldsOf-formed : (q : Request) → InRange q → fieldsFormed (fieldsOf q) ≡ true
 unfolding modeAllowed unusedZero
-fieldsOf-formed (Get s o x) r = in-range _ refl (r .0) (omega arith) (r .1) (mode-moded x) refl
-fieldsOf-formed (Release s o x) r = in-range _ refl (r .0) (omega arith) (r .1) (mode-moded x) refl
-fieldsOf-formed (Give s t o x) r = in-range _ refl (r .0) (r .1) (r .2) (mode-moded x) refl
-fieldsOf-formed (Rescind s t o x) r = in-range _ refl (r .0) (r .1) (r .2) (mode-moded x) refl
-fieldsOf-formed (Create s o c) r = in-range _ refl (r .0) (omega arith) (r .1) (create-moded (c .execute)) refl
-fieldsOf-formed (Delete s o) r = in-range _ refl (r .0) (omega arith) (r .1) refl refl
-fieldsOf-formed (ChangeLevel s o l) r = in-range _ refl (r .0) (omega arith) (r .1) refl refl
-fieldsOf-formed (SetCompanies s o n) r = in-range _ refl (r .0) (omega arith) (r .1) refl refl
+fieldsOf-formed (Get s o x) r = in-range _ refl (r .0) (omega arith) (r .1) (λ k. clash (sym k)) (mode-moded x) refl
+fieldsOf-formed (Release s o x) r = in-range _ refl (r .0) (omega arith) (r .1) (λ k. clash (sym k)) (mode-moded x) refl
+fieldsOf-formed (Give s t o x) r = in-range _ refl (r .0) (r .1) (r .2) (λ k. clash (sym k)) (mode-moded x) refl
+fieldsOf-formed (Rescind s t o x) r = in-range _ refl (r .0) (r .1) (r .2) (λ k. clash (sym k)) (mode-moded x) refl
+fieldsOf-formed (Create s o c) r = in-range _ refl (r .0) (omega arith) (r .1) (λ k. r .2) (create-moded (c .execute)) refl
+fieldsOf-formed (Delete s o) r = in-range _ refl (r .0) (omega arith) (r .1) (λ k. clash (sym k)) refl refl
+fieldsOf-formed (ChangeLevel s o l) r = in-range _ refl (r .0) (omega arith) (r .1) (λ k. clash (sym k)) refl refl
+fieldsOf-formed (SetCompanies s o n) r = in-range _ refl (r .0) (omega arith) (r .1) (λ k. clash (sym k)) refl refl
 
 request-back : (q : Request) → request (fieldsOf q) ≡ q
 unfolding request
@@ -271,7 +272,7 @@ request-back (Get s o x) = ap (Get s o) (mode-back x)
 request-back (Release s o x) = ap (Release s o) (mode-back x)
 request-back (Give s t o x) = ap (Give s t o) (mode-back x)
 request-back (Rescind s t o x) = ap (Rescind s t o) (mode-back x)
-request-back (Create s o c) = ap (λ (e : Bool). Create s o (creation e)) (create-back (c .execute))
+request-back (Create s o c) = ap (λ (e : Bool). Create s o (creation e (c .parent))) (create-back (c .execute))
 request-back (Delete s o) = refl
 request-back (ChangeLevel s o l) = refl
 request-back (SetCompanies s o n) = refl

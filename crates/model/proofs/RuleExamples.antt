@@ -18,6 +18,7 @@ use Rattle.model.specs.Levels.{dominates, levelDominates, compare}
 use Rattle.model.specs.Modes.{has, add}
 use Rattle.model.specs.Companies.{company, compatible, confined}
 use Rattle.model.specs.State.{noObject, nobody, withOwner, withLabel, withRows, withObject, fresh, widest}
+use Rattle.model.specs.Hierarchy.{parentLive, labelUnder, labelsRise}
 use Rattle.model.specs.Rules.{changed, checks, starPair, starFrom, starFor, wallPair, wallFrom, wallFor}
 
 abbrev level : ℕ → ℕ → Label
@@ -39,7 +40,7 @@ abbrev asks : Mode → Decision
 asks x = checks (Get 0 0 x) (two (level 2 1) 0 (level 0 0))
 
 pub who-reads : (asks Read ≡ SimpleBroken) × (asks Write ≡ SimpleBroken) × (asks Append ≡ Granted) × (asks Execute ≡ Granted)
-unfolding checks changed has add implies unless starFor starFrom starPair wallFor wallFrom wallPair compatible confined company dominates levelDominates compare
+unfolding checks changed has add implies unless starFor starFrom starPair wallFor wallFrom wallPair compatible confined company dominates levelDominates compare labelsRise labelUnder parentLive
 who-reads = (refl, refl, refl, refl)
 
 -- "r or w on P and a or w on Q": subject 1 holds a set on an object of class 1 and asks for a mode on one of class 0
@@ -48,12 +49,12 @@ downward held x = checks (Get 1 1 x) (two (level 1 0) held (level 0 0))
 
 -- it reads the upper object by r (8) or w (4), and alters the lower one by a or w
 pub reading-then-altering : (downward 8 Append ≡ StarBroken) × (downward 8 Write ≡ StarBroken) × (downward 4 Append ≡ StarBroken) × (downward 4 Write ≡ StarBroken)
-unfolding checks changed has add implies unless starFor starFrom starPair wallFor wallFrom wallPair compatible confined company dominates levelDominates compare
+unfolding checks changed has add implies unless starFor starFrom starPair wallFor wallFrom wallPair compatible confined company dominates levelDominates compare labelsRise labelUnder parentLive
 reading-then-altering = (refl, refl, refl, refl)
 
 -- a (2) and e (1) do not read, r and e do not alter
 pub neither-way : (downward 2 Append ≡ Granted) × (downward 1 Append ≡ Granted) × (downward 8 Read ≡ Granted) × (downward 8 Execute ≡ Granted)
-unfolding checks changed has add implies unless starFor starFrom starPair wallFor wallFrom wallPair compatible confined company dominates levelDominates compare
+unfolding checks changed has add implies unless starFor starFrom starPair wallFor wallFrom wallPair compatible confined company dominates levelDominates compare labelsRise labelUnder parentLive
 neither-way = (refl, refl, refl, refl)
 
 -- the other way round: subject 1 alters the object of class 0 by a or w and asks to read that of class 1
@@ -61,7 +62,7 @@ abbrev upward : ℕ → Mode → Decision
 upward held x = checks (Get 1 1 x) (two (level 0 0) held (level 1 0))
 
 pub altering-then-reading : (upward 2 Read ≡ StarBroken) × (upward 2 Write ≡ StarBroken) × (upward 4 Read ≡ StarBroken) × (upward 4 Append ≡ Granted)
-unfolding checks changed has add implies unless starFor starFrom starPair wallFor wallFrom wallPair compatible confined company dominates levelDominates compare
+unfolding checks changed has add implies unless starFor starFrom starPair wallFor wallFrom wallPair compatible confined company dominates levelDominates compare labelsRise labelUnder parentLive
 altering-then-reading = (refl, refl, refl, refl)
 
 -- class and needs both count in star: subject 1 reads (1, 0001) and asks to append
@@ -70,5 +71,5 @@ flows class needs = checks (Get 1 1 Append) (two (level 1 1) 8 (level class need
 
 -- equal class and other needs; equal needs and a lower class; then both equal, and each greater
 pub both-parts-count : (flows 1 2 ≡ StarBroken) × (flows 1 0 ≡ StarBroken) × (flows 0 1 ≡ StarBroken) × (flows 1 1 ≡ Granted) × (flows 1 3 ≡ Granted) × (flows 2 1 ≡ Granted)
-unfolding checks changed has add implies unless starFor starFrom starPair wallFor wallFrom wallPair compatible confined company dominates levelDominates compare
+unfolding checks changed has add implies unless starFor starFrom starPair wallFor wallFrom wallPair compatible confined company dominates levelDominates compare labelsRise labelUnder parentLive
 both-parts-count = (refl, refl, refl, refl, refl, refl)

@@ -20,6 +20,7 @@ use Rattle.model.specs.Modes.{has, add}
 use Rattle.model.specs.Companies.{company, compatible, confined}
 use Rattle.model.specs.State.{noObject, nobody, object, withOwner, withLabel, withCompanies, withRows, withObject, fresh, widest}
 use Rattle.model.specs.Requests.{creation}
+use Rattle.model.specs.Hierarchy.{parentLive, labelUnder, labelsRise}
 use Rattle.model.specs.Rules.{created, changed, already, checks, answer, step, starPair, starFrom, starFor, wallPair, wallFrom, wallFor, wallAll}
 
 abbrev level : ℕ → Label
@@ -47,17 +48,17 @@ byModes f = map (λ (held : ℕ). map (f held) (Read ∷ Write ∷ Append ∷ Ex
 
 -- "For any two accesses held by one subject": another company of the class, whatever the two modes are, e too
 pub any-two-accesses : byModes (λ (held : ℕ). asks held 0x2000) ≡ replicate 4 (replicate 4 WallBroken)
-unfolding checks changed has add implies unless starFor starFrom starPair wallFor wallFrom wallPair compatible confined company dominates levelDominates compare
+unfolding checks changed has add implies unless starFor starFrom starPair wallFor wallFrom wallPair compatible confined company dominates levelDominates compare labelsRise labelUnder parentLive
 any-two-accesses = refl
 
 -- "each class has a 0 or equal numbers": the same company, none, and another company of another class
 pub none-or-equal : (asks 8 0x1000 Read ≡ Granted) × (asks 8 0 Read ≡ Granted) × (asks 8 0x0200 Read ≡ Granted) × (asks 8 0x1200 Read ≡ Granted)
-unfolding checks changed has add implies unless starFor starFrom starPair wallFor wallFrom wallPair compatible confined company dominates levelDominates compare
+unfolding checks changed has add implies unless starFor starFrom starPair wallFor wallFrom wallPair compatible confined company dominates levelDominates compare labelsRise labelUnder parentLive
 none-or-equal = (refl, refl, refl, refl)
 
 -- "held by one subject": subject 0 holds nothing, and gets what subject 1 may not
 pub by-one-subject : (checks (Get 0 1 Read) (two (level 0) 0x1000 8 (level 0) 0x2000) ≡ Granted)
-unfolding checks changed has add implies unless starFor starFrom starPair wallFor wallFrom wallPair compatible confined company dominates levelDominates compare
+unfolding checks changed has add implies unless starFor starFrom starPair wallFor wallFrom wallPair compatible confined company dominates levelDominates compare labelsRise labelUnder parentLive
 by-one-subject = refl
 
 -- "Where it holds r or w on P and a or w on Q, each nonzero number of P equals that of Q": it has P, of company 1, and asks for Q, of none
@@ -67,12 +68,12 @@ pub read-then-altered : byModes (λ (held : ℕ). asks held 0)
     ∷ replicate 4 Granted
     ∷ replicate 4 Granted
     ∷ []
-unfolding checks changed has add implies unless starFor starFrom starPair wallFor wallFrom wallPair compatible confined company dominates levelDominates compare
+unfolding checks changed has add implies unless starFor starFrom starPair wallFor wallFrom wallPair compatible confined company dominates levelDominates compare labelsRise labelUnder parentLive
 read-then-altered = refl
 
 -- a number of another class does not do; the same number does, and a number more in another class does not matter
 pub numbers-of-both : (asks 8 0x0300 Append ≡ WallBroken) × (asks 8 0x1000 Append ≡ Granted) × (asks 8 0x1300 Append ≡ Granted)
-unfolding checks changed has add implies unless starFor starFrom starPair wallFor wallFrom wallPair compatible confined company dominates levelDominates compare
+unfolding checks changed has add implies unless starFor starFrom starPair wallFor wallFrom wallPair compatible confined company dominates levelDominates compare labelsRise labelUnder parentLive
 numbers-of-both = (refl, refl, refl)
 
 -- the other way round: it has Q, of no company, and asks for P, of company 1
@@ -85,13 +86,13 @@ pub altered-then-read : byModes later
     ∷ (WallBroken ∷ WallBroken ∷ Granted ∷ Granted ∷ [])
     ∷ replicate 4 Granted
     ∷ []
-unfolding checks changed has add implies unless starFor starFrom starPair wallFor wallFrom wallPair compatible confined company dominates levelDominates compare
+unfolding checks changed has add implies unless starFor starFrom starPair wallFor wallFrom wallPair compatible confined company dominates levelDominates compare labelsRise labelUnder parentLive
 altered-then-read = refl
 
 -- "18, .. checked last in get": star is asked before it
 pub star-before-wall : (checks (Get 1 1 Append) (two (level 1) 0x1000 8 (level 0) 0x2000) ≡ StarBroken)
     × (checks (Get 1 1 Append) (two (level 1) 0x1000 8 (level 1) 0x2000) ≡ WallBroken)
-unfolding checks changed has add implies unless starFor starFrom starPair wallFor wallFrom wallPair compatible confined company dominates levelDominates compare
+unfolding checks changed has add implies unless starFor starFrom starPair wallFor wallFrom wallPair compatible confined company dominates levelDominates compare labelsRise labelUnder parentLive
 star-before-wall = (refl, refl)
 
 -- ---- kind 8
@@ -103,7 +104,7 @@ sets s o n = checks (SetCompanies s o n) (withObject (two Absent 0x1000 1 Absent
 -- "checks 4, 6 (owner) and the wall over all subjects in the state after it"; an unlabelled object may have numbers
 pub owner-sets : (sets 1 1 0x1234 ≡ Granted) × (sets 1 1 0 ≡ Granted) × (sets 0 1 0 ≡ NoRight) × (sets 1 2 0 ≡ NotLive) × (sets 2 1 0 ≡ NotEnrolled)
     × (sets 1 1 0x2000 ≡ WallBroken)
-unfolding checks changed has add implies unless wallAll wallFor wallFrom wallPair compatible confined company
+unfolding checks changed has add implies unless wallAll wallFor wallFrom wallPair compatible confined company labelsRise labelUnder parentLive
 owner-sets = (refl, refl, refl, refl, refl, refl)
 
 -- subject 1 is the owner, and subject 0 holds r on both objects: another subject than the actor counts
@@ -111,13 +112,13 @@ pub all-subjects-count : checks (SetCompanies 1 1 0x2000)
     (withObject (withObject (two (level 0) 0 0 (level 0) 0) 0 (withRows (marked (level 0) 0x1000 0) (replicate 16 15) (8 ∷ replicate 15 0))) 1
     (withRows (marked (level 0) 0 0) (replicate 16 15) (8 ∷ replicate 15 0)))
     ≡ WallBroken
-unfolding checks changed has add implies unless wallAll wallFor wallFrom wallPair compatible confined company
+unfolding checks changed has add implies unless wallAll wallFor wallFrom wallPair compatible confined company labelsRise labelUnder parentLive
 all-subjects-count = refl
 
 -- "they are 0 at creation"; the numbers become those; the same again is 1; nothing else of the record changes
-pub numbers-set : (created 1 (creation true) .companies ≡ 0)
+pub numbers-set : (created 1 (creation true 0) .companies ≡ 0)
     × (changed (SetCompanies 1 1 0x1234) (marked (level 2) 0x1000 8) ≡ marked (level 2) 0x1234 8)
     × (step (SetCompanies 1 1 0x1000) (two Absent 0x1000 1 Absent 0x1000) .decision ≡ Already)
     × (step (SetCompanies 1 1 0x1001) (two Absent 0x1000 1 Absent 0x1000) .decision ≡ Granted)
-unfolding checks changed already answer step has add implies unless wallAll wallFor wallFrom wallPair compatible confined company
+unfolding checks changed already answer step has add implies unless wallAll wallFor wallFrom wallPair compatible confined company labelsRise labelUnder parentLive
 numbers-set = (refl, refl, refl, refl)

@@ -4,7 +4,7 @@ use Prim.Native.Nat.{ℕ}
 use mathlib.Core.Bool.{Bool}
 use lib.Dec.{leb}
 use Rattle.model.specs.declared.Decision.{Decision}
-use Rattle.model.specs.declared.Decision.the-variants.{Granted, Already, MalformedRequest, NotEnrolled, NotLive, AlreadyLive, NoRight, NoLabel, SimpleBroken, StarBroken, WrongLength, StrayBits, AbsentSubject, ShortBuffer, LabelLowered, ZeroSeed, OutsideProfile, EmptyJournal, WallBroken}
+use Rattle.model.specs.declared.Decision.the-variants.{Granted, Already, MalformedRequest, NotEnrolled, NotLive, AlreadyLive, NoRight, NoLabel, SimpleBroken, StarBroken, WrongLength, StrayBits, AbsentSubject, ShortBuffer, LabelLowered, ZeroSeed, OutsideProfile, EmptyJournal, WallBroken, ParentNotLive, HierarchyBroken}
 
 abbrev pub number : Decision → ℕ
 -- "granted and the state changed"; "An accepted table or image returns 0", "a writing returns 0"
@@ -45,6 +45,10 @@ number OutsideProfile = 16
 number EmptyJournal = 17
 -- "Refused: 18, the wall would break" (change request §10); image: is broken
 number WallBroken = 18
+-- "19, a parent that isn't live, .. where parent bits above 64 or a chain of parents that does not end counts too" (change request §11)
+number ParentNotLive = 19
+-- "20, a label that breaks the rule toward parent or child" (change request §11)
+number HierarchyBroken = 20
 
 -- every number from 2 on is a refusal
 abbrev pub refuses : Decision → Bool

@@ -1,18 +1,20 @@
 -- The journal and taking back (change request §9). The journal stands beside the monitor, not in it.
 -- Assumes nothing.
 use Prim.Native.Nat.{ℕ}
-use mathlib.Core.Bool.{cond}
+use mathlib.Core.Bool.{Bool, false, cond}
 use mathlib.Core.List.{List, [], _∷_}
 use lib.ListN.{take}
 use lib.Dec.{eqb}
 use Rattle.model.specs.declared.Object.{Object}
 use Rattle.model.specs.declared.Monitor.{Monitor}
 use Rattle.model.specs.declared.Request.{Request}
+use Rattle.model.specs.declared.Request.the-variants.{Get, Release, Give, Rescind, Create, Delete, ChangeLevel, SetCompanies}
 use Rattle.model.specs.declared.Decoded.{Decoded}
 use Rattle.model.specs.declared.Decoded.the-variants.{Malformed, Says}
 use Rattle.model.specs.declared.Decision.{Decision}
 use Rattle.model.specs.declared.Decision.the-variants.{Granted, EmptyJournal}
 use Rattle.model.specs.State.{object, withObject}
+use Rattle.model.specs.Hierarchy.{hasChild}
 use Rattle.model.specs.Decisions.{number}
 use Rattle.model.specs.Requests.{decode}
 use Rattle.model.specs.Rules.{target, step}
@@ -44,10 +46,22 @@ withoutEntries m = record { monitor = m; journal = [] }
 abbrev pub entryOf : Request → Monitor → Entry
 entryOf q m = record { place = target q; was = object m (target q) }
 
--- "keeps, for each reply 0, the object's record as it was"
+-- "A deletion that took children" (change request §11)
+abbrev pub takesChildren : Request → Monitor → Bool
+takesChildren (Get s o x) m = false
+takesChildren (Release s o x) m = false
+takesChildren (Give s t o x) m = false
+takesChildren (Rescind s t o x) m = false
+takesChildren (Create s o c) m = false
+takesChildren (Delete s o) m = hasChild (m .objects) o
+takesChildren (ChangeLevel s o l) m = false
+takesChildren (SetCompanies s o n) m = false
+
+-- "keeps, for each reply 0, the object's record as it was"; "A deletion that took children empties the journal" (change request §11)
 abbrev pub journalAfter : Decoded → Monitor → List Entry → List Entry
 journalAfter Malformed m journal = journal
-journalAfter (Says q) m journal = cond (eqb (number (step q m .decision)) 0) (entered (entryOf q m) journal) journal
+journalAfter (Says q) m journal =
+    cond (eqb (number (step q m .decision)) 0) (cond (takesChildren q m) [] (entered (entryOf q m) journal)) journal
 
 -- a byte string as a request
 unfoldable pub ask : List ℕ → Journaled → Journaled

@@ -41,9 +41,16 @@ setsOffset = companiesOffset + companiesWidth
 abbrev pub setsWidth : ℕ
 setsWidth = subjectCount * pairWidth
 
--- "object records of 154 bits", and these 16
+-- "Each object record of the image ends with 7 parent bits" (change request §11)
+abbrev pub parentWidth : ℕ
+parentWidth = 7
+
+abbrev pub parentOffset : ℕ
+parentOffset = setsOffset + setsWidth
+
+-- "object records of 154 bits", and these 16 and 7
 abbrev pub objectWidth : ℕ
-objectWidth = setsOffset + setsWidth
+objectWidth = parentOffset + parentWidth
 
 -- "The table is 16 subject records of 21 bits .. : 42 bytes"; "The object records begin at byte 42"
 abbrev pub tableWidth : ℕ
@@ -59,7 +66,7 @@ objectsWidth = objectCount * objectWidth
 abbrev pub objectsSize : ℕ
 objectsSize = objectsWidth / 8
 
--- "has 1,402 bytes" (change request §10)
+-- "in all 1,458 bytes" (change request §11)
 abbrev pub imageSize : ℕ
 imageSize = tableSize + objectsSize
 
@@ -78,12 +85,12 @@ setsBits [] hs = []
 setsBits (r ∷ rs) [] = []
 setsBits (r ∷ rs) (h ∷ hs) = (toBits setWidth r ++ toBits setWidth h) ++ setsBits rs hs
 
--- "live 1, owner 4", the label, the company numbers, the sets
+-- "live 1, owner 4", the label, the company numbers, the sets, the parent, "number plus one or 0"
 unfoldable pub objectBits : Object → List Bool
 objectBits ob =
     ob .live
     ∷ (toBits ownerWidth (ob .owner)
-    ++ (labelBits (ob .label) ++ (toBits companiesWidth (ob .companies) ++ setsBits (ob .rights) (ob .held))))
+    ++ (labelBits (ob .label) ++ (toBits companiesWidth (ob .companies) ++ (setsBits (ob .rights) (ob .held) ++ toBits parentWidth (ob .parent)))))
 
 -- "The table is 16 subject records"
 abbrev pub tableBits : List Subject → List Bool

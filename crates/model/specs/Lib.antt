@@ -4,6 +4,7 @@ pub mod Levels
 pub mod Modes
 pub mod Companies
 pub mod State
+pub mod Hierarchy
 pub mod Profiles
 pub mod Properties
 pub mod ModePairs

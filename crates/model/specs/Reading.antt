@@ -13,17 +13,18 @@ use Rattle.model.specs.declared.Object.{Object}
 use Rattle.model.specs.declared.Profile.{Profile}
 use Rattle.model.specs.declared.Monitor.{Monitor}
 use Rattle.model.specs.declared.Decision.{Decision}
-use Rattle.model.specs.declared.Decision.the-variants.{NoRight, NoLabel, SimpleBroken, StarBroken, WrongLength, StrayBits, AbsentSubject, OutsideProfile, WallBroken}
+use Rattle.model.specs.declared.Decision.the-variants.{NoRight, NoLabel, SimpleBroken, StarBroken, WrongLength, StrayBits, AbsentSubject, OutsideProfile, WallBroken, ParentNotLive, HierarchyBroken}
 use Rattle.model.specs.declared.Response.{Response}
 use Rattle.model.specs.Tests.{allBelow, allOf, implies, firstFailing}
 use Rattle.model.specs.Levels.{subset, present}
 use Rattle.model.specs.Modes.{anyNeedsLabel}
 use Rattle.model.specs.Companies.{companiesWidth}
 use Rattle.model.specs.State.{subjectCount, objectCount, classWidth, needsWidth, noObject, clearanceAt, rightsOf, heldBy, fresh, emptyMonitor}
+use Rattle.model.specs.Hierarchy.{parentsHold, labelsRise}
 use Rattle.model.specs.Profiles.{profileFits, absentBeyond, levelsInside}
 use Rattle.model.specs.Decisions.{refuses}
 use Rattle.model.specs.Rules.{simpleAll, starAll, wallAll}
-use Rattle.model.specs.Layout.{labelWidth, objectWidth, ownerWidth, setWidth, pairWidth, labelOffset, companiesOffset, setsOffset, setsWidth, tableSize, imageSize}
+use Rattle.model.specs.Layout.{labelWidth, objectWidth, ownerWidth, setWidth, pairWidth, labelOffset, companiesOffset, setsOffset, setsWidth, parentWidth, parentOffset, tableSize, imageSize}
 
 -- ---- what the bits of a record say
 
@@ -58,6 +59,7 @@ liveFrom b =
       companies = fieldOf b companiesOffset companiesWidth;
       rights = map rightsFrom (setsIn b);
       held = map heldFrom (setsIn b);
+      parent = fieldOf b parentOffset parentWidth;
     }
 
 unfoldable pub objectFrom : List Bool → Object
@@ -115,7 +117,8 @@ withinMatrix ob = allBelow subjectCount (λ (s : ℕ). subset setWidth (heldBy o
 unfoldable pub heldLabelled : Object → Bool
 heldLabelled ob = allBelow subjectCount (λ (s : ℕ). implies (anyNeedsLabel (heldBy ob s)) (present (ob .label)))
 
--- "12, 6, 7, 8, 9, each over the whole image before the next", and 18 "in images after 9" (change request §10)
+-- "12, 6, 7, 8, 9, each over the whole image before the next", 18 "in images after 9" (change request §10), 19 "in images after 18" and 20
+-- "in images after 19" (change request §11)
 abbrev pub stateList : Monitor → List (Bool × Decision)
 stateList m =
     (allOf (onlyEnrolled (m .subjects)) (m .objects), AbsentSubject)
@@ -124,6 +127,8 @@ stateList m =
     ∷ (allOf (simpleAll (m .subjects)) (m .objects), SimpleBroken)
     ∷ (starAll (m .objects), StarBroken)
     ∷ (wallAll (m .objects), WallBroken)
+    ∷ (parentsHold (m .objects), ParentNotLive)
+    ∷ (labelsRise (m .objects), HierarchyBroken)
     ∷ []
 
 unfoldable pub stateChecks : Monitor → Decision
@@ -144,7 +149,7 @@ beginningList long formed m later =
 unfoldable pub tableChecks : Profile → List ℕ → Decision
 tableChecks p b = firstFailing (beginningList (eqb (length b) tableSize) (tableForm b) (fresh p (tableFrom b)) [])
 
--- "images 10, 11, 12, 6, 7, 8, 9", 18 behind these, and 16 before 10 and behind 11
+-- "images 10, 11, 12, 6, 7, 8, 9", 18, 19 and 20 behind these, and 16 before 10 and behind 11
 unfoldable pub imageChecks : Profile → List ℕ → Decision
 imageChecks p b =
     firstFailing (beginningList (eqb (length b) imageSize) (imageForm b) (monitorFrom p b) (stateList (monitorFrom p b)))

@@ -1,6 +1,6 @@
 -- A request's six bytes ("Requests" in the scope): its fields, the rules for unused ones, what it says, and how it is packed.
 -- Assumes nothing.
-use Prim.Native.Nat.{ℕ, _+_, _<_}
+use Prim.Native.Nat.{ℕ, _+_, _<_, _≤_}
 use mathlib.Core.Bool.{Bool, cond, _&&_, _||_}
 use mathlib.Core.List.{List, _++_}
 use lib.ListN.{length}
@@ -16,6 +16,7 @@ use Rattle.model.specs.declared.Request.{Request}
 use Rattle.model.specs.declared.Request.the-variants.{Get, Release, Give, Rescind, Create, Delete, ChangeLevel, SetCompanies}
 use Rattle.model.specs.declared.Decoded.{Decoded}
 use Rattle.model.specs.declared.Decoded.the-variants.{Malformed, Says}
+use Rattle.model.specs.Tests.{implies}
 use Rattle.model.specs.State.{subjectCount, objectCount, classWidth, needsWidth, LevelFits}
 use Rattle.model.specs.Profiles.{levelInside, LevelInside}
 
@@ -94,13 +95,18 @@ modeAllowed kind mode =
     (eqb mode 0))
 
 -- "A field that the kind does not use is 0, and so is spare; the other subject stands in kinds 3 and 4, class and needs in kind 7 only"; in
--- kind 8 "the needs field holding the four" company numbers (change request §10)
+-- kind 8 "the needs field holding the four" company numbers (change request §10), and "Create carries the parent's number plus one in the
+-- needs field, 0 for none" (change request §11)
 unfoldable pub unusedZero : Fields → Bool
 unusedZero f =
     (eqb (f .kind) 3 || (eqb (f .kind) 4 || eqb (f .other) 0))
     && ((eqb (f .kind) 7 || eqb (f .class) 0)
-    && ((eqb (f .kind) 7 || (eqb (f .kind) 8 || eqb (f .needs) 0))
+    && ((eqb (f .kind) 5 || (eqb (f .kind) 7 || (eqb (f .kind) 8 || eqb (f .needs) 0)))
     && eqb (f .spare) 0))
+
+-- a parent's number plus one, of a create: "above 64, or for an object beyond the profile, it is malformed" (change request §11)
+unfoldable pub parentWithin : ℕ → Fields → Bool
+parentWithin n f = implies (eqb (f .kind) 5) (leb (f .needs) n)
 
 -- the first row of "Refused causes", but for the length: what must be so of the fields under every profile
 unfoldable pub fieldsFormed : Fields → Bool
@@ -109,30 +115,32 @@ fieldsFormed f =
     && (ltb (f .actor) subjectCount
     && (ltb (f .other) subjectCount
     && (ltb (f .object) objectCount
+    && (parentWithin objectCount f
     && (modeAllowed (f .kind) (f .mode)
-    && unusedZero f))))
+    && unusedZero f)))))
 
 -- the class and the needs of a request
 abbrev pub levelOf : Fields → Level
 levelOf f = record { class = f .class; needs = f .needs }
 
 -- "A subject, object, class or need outside it in a request is malformed" (change request §8); the company numbers of kind 8 are "not
--- bounded by the profile" (change request §10)
+-- bounded by the profile" (change request §10), and of a create's parent "the profile's needs do not bound it" (change request §11)
 unfoldable pub within : Profile → Fields → Bool
 within p f =
     ltb (f .actor) (p .subjects)
     && (ltb (f .other) (p .subjects)
     && (ltb (f .object) (p .objects)
-    && (eqb (f .kind) 8 || levelInside p (levelOf f))))
+    && (parentWithin (p .objects) f
+    && (eqb (f .kind) 5 || (eqb (f .kind) 8 || levelInside p (levelOf f))))))
 
 -- what must be so of the fields for a monitor of a profile; the test under every profile stays beside it, so that a profile that says more
 -- than sixteen subjects or sixty-four objects lets no other number pass
 unfoldable pub wellFormed : Profile → Fields → Bool
 wellFormed p f = fieldsFormed f && within p f
 
--- create with mode 4 gives the owner e too
-abbrev pub creation : Bool → Creation
-creation e = record { execute = e }
+-- create with mode 4 gives the owner e too; p is "the parent's number plus one .., 0 for none" (change request §11)
+abbrev pub creation : Bool → ℕ → Creation
+creation e p = record { execute = e; parent = p }
 
 -- the table of kinds
 unfoldable pub request : Fields → Request
@@ -141,7 +149,7 @@ request f =
     (cond (eqb (f .kind) 2) (Release (f .actor) (f .object) (modeOf (f .mode)))
     (cond (eqb (f .kind) 3) (Give (f .actor) (f .other) (f .object) (modeOf (f .mode)))
     (cond (eqb (f .kind) 4) (Rescind (f .actor) (f .other) (f .object) (modeOf (f .mode)))
-    (cond (eqb (f .kind) 5) (Create (f .actor) (f .object) (creation (eqb (f .mode) 4)))
+    (cond (eqb (f .kind) 5) (Create (f .actor) (f .object) (creation (eqb (f .mode) 4) (f .needs)))
     (cond (eqb (f .kind) 6) (Delete (f .actor) (f .object))
     (cond (eqb (f .kind) 7) (ChangeLevel (f .actor) (f .object) (levelOf f))
     (SetCompanies (f .actor) (f .object) (f .needs))))))))
@@ -160,7 +168,7 @@ fieldsOf (Get s o x) = record { kind = 1; actor = s; other = 0; object = o; mode
 fieldsOf (Release s o x) = record { kind = 2; actor = s; other = 0; object = o; mode = modeNumber x; class = 0; needs = 0; spare = 0 }
 fieldsOf (Give s t o x) = record { kind = 3; actor = s; other = t; object = o; mode = modeNumber x; class = 0; needs = 0; spare = 0 }
 fieldsOf (Rescind s t o x) = record { kind = 4; actor = s; other = t; object = o; mode = modeNumber x; class = 0; needs = 0; spare = 0 }
-fieldsOf (Create s o c) = record { kind = 5; actor = s; other = 0; object = o; mode = cond (c .execute) 4 0; class = 0; needs = 0; spare = 0 }
+fieldsOf (Create s o c) = record { kind = 5; actor = s; other = 0; object = o; mode = cond (c .execute) 4 0; class = 0; needs = c .parent; spare = 0 }
 fieldsOf (Delete s o) = record { kind = 6; actor = s; other = 0; object = o; mode = 0; class = 0; needs = 0; spare = 0 }
 fieldsOf (ChangeLevel s o l) = record { kind = 7; actor = s; other = 0; object = o; mode = 0; class = l .class; needs = l .needs; spare = 0 }
 fieldsOf (SetCompanies s o n) = record { kind = 8; actor = s; other = 0; object = o; mode = 0; class = 0; needs = n; spare = 0 }
@@ -183,7 +191,7 @@ InRange (Get s o x) = (s < subjectCount) × (o < objectCount)
 InRange (Release s o x) = (s < subjectCount) × (o < objectCount)
 InRange (Give s t o x) = (s < subjectCount) × (t < subjectCount) × (o < objectCount)
 InRange (Rescind s t o x) = (s < subjectCount) × (t < subjectCount) × (o < objectCount)
-InRange (Create s o c) = (s < subjectCount) × (o < objectCount)
+InRange (Create s o c) = (s < subjectCount) × (o < objectCount) × (c .parent ≤ objectCount)
 InRange (Delete s o) = (s < subjectCount) × (o < objectCount)
 InRange (ChangeLevel s o l) = (s < subjectCount) × (o < objectCount) × LevelFits l
 InRange (SetCompanies s o n) = (s < subjectCount) × (o < objectCount) × (n < 65536)
@@ -194,7 +202,7 @@ Within p (Get s o x) = (s < p .subjects) × (o < p .objects)
 Within p (Release s o x) = (s < p .subjects) × (o < p .objects)
 Within p (Give s t o x) = (s < p .subjects) × (t < p .subjects) × (o < p .objects)
 Within p (Rescind s t o x) = (s < p .subjects) × (t < p .subjects) × (o < p .objects)
-Within p (Create s o c) = (s < p .subjects) × (o < p .objects)
+Within p (Create s o c) = (s < p .subjects) × (o < p .objects) × (c .parent ≤ p .objects)
 Within p (Delete s o) = (s < p .subjects) × (o < p .objects)
 Within p (ChangeLevel s o l) = (s < p .subjects) × (o < p .objects) × LevelInside p l
 Within p (SetCompanies s o n) = (s < p .subjects) × (o < p .objects)

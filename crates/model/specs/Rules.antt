@@ -3,6 +3,7 @@
 use Prim.Native.Nat.{ℕ}
 use mathlib.Core.Bool.{Bool, false, cond, not, _&&_}
 use mathlib.Core.List.{List, [], _∷_}
+use lib.ListN.{set}
 use lib.Dec.{eqb}
 use Rattle.model.specs.declared.Label.{Label}
 use Rattle.model.specs.declared.Label.the-variants.{Present}
@@ -14,13 +15,14 @@ use Rattle.model.specs.declared.Creation.{Creation}
 use Rattle.model.specs.declared.Request.{Request}
 use Rattle.model.specs.declared.Request.the-variants.{Get, Release, Give, Rescind, Create, Delete, ChangeLevel, SetCompanies}
 use Rattle.model.specs.declared.Decision.{Decision}
-use Rattle.model.specs.declared.Decision.the-variants.{Granted, Already, NotEnrolled, NotLive, AlreadyLive, NoRight, NoLabel, SimpleBroken, StarBroken, LabelLowered, WallBroken}
+use Rattle.model.specs.declared.Decision.the-variants.{Granted, Already, NotEnrolled, NotLive, AlreadyLive, NoRight, NoLabel, SimpleBroken, StarBroken, LabelLowered, WallBroken, ParentNotLive, HierarchyBroken}
 use Rattle.model.specs.declared.Response.{Response}
 use Rattle.model.specs.Tests.{allBelow, allOf, implies, firstFailing}
 use Rattle.model.specs.Levels.{dominates, present, sameLabel}
 use Rattle.model.specs.Modes.{has, add, remove, observes, needsLabel, anyObserves, anyAlters, anyHeld}
 use Rattle.model.specs.Companies.{compatible, confined}
-use Rattle.model.specs.State.{subjectCount, noObject, clearanceAt, clearance, enrolled, object, rightsOf, heldBy, withOwner, withRights, withHeld, withLabel, withCompanies, withObject}
+use Rattle.model.specs.State.{subjectCount, noObject, clearanceAt, clearance, enrolled, object, rightsOf, heldBy, withOwner, withRights, withHeld, withLabel, withCompanies, withParent}
+use Rattle.model.specs.Hierarchy.{withoutBelow, parentLive, labelsRise}
 use Rattle.model.specs.Decisions.{refuses}
 
 -- ---- the tests of the simple and the star property, and of the wall
@@ -78,9 +80,9 @@ target (Delete s o) = o
 target (ChangeLevel s o l) = o
 target (SetCompanies s o n) = o
 
--- "live, unlabelled, owned by the actor, who gains r, w, a, and e if mode is 4"
+-- "live, unlabelled, owned by the actor, who gains r, w, a, and e if mode is 4"; "Create carries the parent's number plus one" (change request §11)
 abbrev pub created : ℕ → Creation → Object
-created s c = withRights (withOwner noObject s) s (cond (c .execute) 15 14)
+created s c = withRights (withParent (withOwner noObject s) (c .parent)) s (cond (c .execute) 15 14)
 
 -- the record of the object after the request
 unfoldable pub changed : Request → Object → Object
@@ -100,9 +102,25 @@ changed (ChangeLevel s o l) ob = withLabel ob (Present l)
 -- "lets the owner set them", the company numbers (change request §10)
 changed (SetCompanies s o n) ob = withCompanies ob n
 
+-- the other objects: "Deleting an object deletes everything below it" (change request §11), no other kind touches another record
+abbrev pub spared : Request → List Object → List Object
+spared (Get s o x) l = l
+spared (Release s o x) l = l
+spared (Give s t o x) l = l
+spared (Rescind s t o x) l = l
+spared (Create s o c) l = l
+spared (Delete s o) l = withoutBelow o l
+spared (ChangeLevel s o v) l = l
+spared (SetCompanies s o n) l = l
+
 -- the state after it
 abbrev pub afterwards : Request → Monitor → Monitor
-afterwards q m = withObject m (target q) (changed q (object m (target q)))
+afterwards q m =
+    record {
+      profile = m .profile;
+      subjects = m .subjects;
+      objects = set (spared q (m .objects)) (target q) (changed q (object m (target q)));
+    }
 
 -- "the state was so already"
 unfoldable pub already : Request → Object → Bool
@@ -115,7 +133,8 @@ already (Delete s o) ob = false
 already (ChangeLevel s o l) ob = sameLabel (ob .label) (Present l)
 already (SetCompanies s o n) ob = eqb (ob .companies) n
 
--- ---- the checks of each kind, "in the order 2, 3, then 4 or 5, then 6, 7, 8, 9", with 14 between 6 and 8 and 18 behind 9; 2 is in decoding
+-- ---- the checks of each kind, "in the order 2, 3, then 4 or 5, then 6, 7, 8, 9", with 14 between 6 and 8, 18 or 20 behind 9, and 19 behind 5; 2
+-- is in decoding
 
 abbrev pub owns : ℕ → Object → Bool
 owns s ob = eqb (ob .owner) s
@@ -157,10 +176,11 @@ checkList (Rescind s t o x) m =
     ∷ (object m o .live, NotLive)
     ∷ (mayGive s x (object m o), NoRight)
     ∷ []
--- "check 5"
+-- "check 5"; "19, a parent that isn't live, in create after 5" (change request §11)
 checkList (Create s o c) m =
     (enrolled m s, NotEnrolled)
     ∷ (not (object m o .live), AlreadyLive)
+    ∷ (parentLive (m .objects) (c .parent), ParentNotLive)
     ∷ []
 -- "checks 4, 6: owner"
 checkList (Delete s o) m =
@@ -168,7 +188,8 @@ checkList (Delete s o) m =
     ∷ (object m o .live, NotLive)
     ∷ (owns s (object m o), NoRight)
     ∷ []
--- "checks 4, 6: owner; 8, 9 over all subjects in the state after the change"; "14, .. checked after 6 and before 8"
+-- "checks 4, 6: owner; 8, 9 over all subjects in the state after the change"; "14, .. checked after 6 and before 8";
+-- "20, a label that breaks the rule toward parent or child, in change level after 9" (change request §11)
 checkList (ChangeLevel s o l) m =
     (enrolled m s, NotEnrolled)
     ∷ (object m o .live, NotLive)
@@ -176,6 +197,7 @@ checkList (ChangeLevel s o l) m =
     ∷ (notLowered (object m o .label) (Present l), LabelLowered)
     ∷ (simpleAll (m .subjects) (changed (ChangeLevel s o l) (object m o)), SimpleBroken)
     ∷ (starAll (afterwards (ChangeLevel s o l) m .objects), StarBroken)
+    ∷ (labelsRise (afterwards (ChangeLevel s o l) m .objects), HierarchyBroken)
     ∷ []
 -- "it has checks 4, 6 (owner) and the wall over all subjects in the state after it" (change request §10)
 checkList (SetCompanies s o n) m =

@@ -36,9 +36,9 @@ widest = record { subjects = subjectCount; objects = objectCount; highest = reco
 abbrev pub noModes : List ℕ
 noModes = replicate subjectCount 0
 
--- "An object that isn't live has no owner, label, right or access", nor a company number
+-- "An object that isn't live has no owner, label, right or access", nor a company number or a parent
 abbrev pub noObject : Object
-noObject = record { live = false; owner = 0; label = Absent; companies = 0; rights = noModes; held = noModes }
+noObject = record { live = false; owner = 0; label = Absent; companies = 0; rights = noModes; held = noModes; parent = 0 }
 
 -- "absent": a subject that is not enrolled
 abbrev pub nobody : Subject
@@ -67,23 +67,27 @@ rightsOf ob s = getD (ob .rights) s 0
 abbrev pub heldBy : Object → ℕ → ℕ
 heldBy ob s = getD (ob .held) s 0
 
--- one part of a record becomes another: an owner, with whom it is live; the label; the company numbers; both rows; the right or access set
--- of subject s
+-- one part of a record becomes another: an owner, with whom it is live; the label; the company numbers; the parent; both rows; the right or
+-- access set of subject s
 abbrev pub withOwner : Object → ℕ → Object
 withOwner ob s =
-    record { live = true; owner = s; label = ob .label; companies = ob .companies; rights = ob .rights; held = ob .held }
+    record { live = true; owner = s; label = ob .label; companies = ob .companies; rights = ob .rights; held = ob .held; parent = ob .parent }
 
 abbrev pub withLabel : Object → Label → Object
 withLabel ob l =
-    record { live = ob .live; owner = ob .owner; label = l; companies = ob .companies; rights = ob .rights; held = ob .held }
+    record { live = ob .live; owner = ob .owner; label = l; companies = ob .companies; rights = ob .rights; held = ob .held; parent = ob .parent }
 
 abbrev pub withCompanies : Object → ℕ → Object
 withCompanies ob n =
-    record { live = ob .live; owner = ob .owner; label = ob .label; companies = n; rights = ob .rights; held = ob .held }
+    record { live = ob .live; owner = ob .owner; label = ob .label; companies = n; rights = ob .rights; held = ob .held; parent = ob .parent }
+
+abbrev pub withParent : Object → ℕ → Object
+withParent ob p =
+    record { live = ob .live; owner = ob .owner; label = ob .label; companies = ob .companies; rights = ob .rights; held = ob .held; parent = p }
 
 abbrev pub withRows : Object → List ℕ → List ℕ → Object
 withRows ob rights held =
-    record { live = ob .live; owner = ob .owner; label = ob .label; companies = ob .companies; rights = rights; held = held }
+    record { live = ob .live; owner = ob .owner; label = ob .label; companies = ob .companies; rights = rights; held = held; parent = ob .parent }
 
 abbrev pub withRights : Object → ℕ → ℕ → Object
 withRights ob s n = withRows ob (set (ob .rights) s n) (ob .held)
@@ -120,7 +124,9 @@ pub record ObjectShape (ob : Object) : Type 0 where
   pub label-fits : LabelFits (ob .label)
   -- "four 4-bit company numbers"
   pub companies-fit : ob .companies < 65536
-  -- "An object that isn't live has no owner, label, right or access", nor a company number
+  -- "7 parent bits" (change request §11)
+  pub parent-fits : ob .parent < 128
+  -- "An object that isn't live has no owner, label, right or access", nor a company number or a parent
   pub not-live : ob .live ≡ false → ob ≡ noObject
 
 -- the record of an object, beside the subjects of its monitor

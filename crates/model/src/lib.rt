@@ -35,7 +35,7 @@ pub enum Mode {
 }
 
 // Companies: the numbers of four conflict classes, four bits for each, the first class highest. Rights and held accesses: for each of the
-// sixteen subjects a set of modes, r 8, w 4, a 2, e 1.
+// sixteen subjects a set of modes, r 8, w 4, a 2, e 1. Parent: the number of the object that this one is under, plus one; 0 for none.
 pub struct Object {
     pub live: bool,
     pub owner: u8,
@@ -43,9 +43,10 @@ pub struct Object {
     pub companies: u16,
     pub rights: [u8; 16],
     pub held: [u8; 16],
+    pub parent: u8,
 }
 
-// What stands where no object is live: no owner, label, company, right or access.
+// What stands where no object is live: no owner, label, company, right, access or parent.
 pub fn no_object() -> Object
     ensures { λ r. ⌜ r ≡ noObject ⌝ }
 {
@@ -56,6 +57,7 @@ pub fn no_object() -> Object
         companies: 0,
         rights: [0u8; 16],
         held: [0u8; 16],
+        parent: 0,
     }
 }
 
@@ -94,14 +96,16 @@ impl Monitor {
     // A label's record: present, class, needs. A subject's record in the table has the same form.
     pub const LABEL_BITS: usize = 1 + 4 + 16;
 
-    // Where the label stands in an object's record, behind live and owner, then the company numbers and the sets behind it.
+    // Where the label stands in an object's record, behind live and owner, then the company numbers, the sets and the parent behind it.
     pub const LABEL_AT: usize = 1 + 4;
 
     pub const COMPANIES_AT: usize = Self::LABEL_AT + Self::LABEL_BITS;
 
     pub const SETS_AT: usize = Self::COMPANIES_AT + 16;
 
-    pub const OBJECT_BITS: usize = Self::SETS_AT + Self::SUBJECTS * 8;
+    pub const PARENT_AT: usize = Self::SETS_AT + Self::SUBJECTS * 8;
+
+    pub const OBJECT_BITS: usize = Self::PARENT_AT + 7;
 
     // The size of an enrolment table, which is also where the object records of an image begin.
     pub const TABLE_BITS: usize = Self::SUBJECTS * Self::LABEL_BITS;
@@ -134,9 +138,10 @@ pub struct Fields {
     pub spare: u8,
 }
 
-// How an object is created: whether its owner gains e too.
+// How an object is created: whether its owner gains e too, and its parent, number plus one, 0 for none.
 pub struct Creation {
     pub execute: bool,
+    pub parent: u16,
 }
 
 // A well-formed request: the actor, in give and rescind the other subject, the object, then what the kind uses beside them.
@@ -178,6 +183,8 @@ pub enum Decision {
     OutsideProfile,
     EmptyJournal,
     WallBroken,
+    ParentNotLive,
+    HierarchyBroken,
 }
 
 // The answer to a request or to a beginning, and the monitor after it.
