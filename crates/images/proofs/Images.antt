@@ -1,4 +1,4 @@
--- Accepted tables and images: each begins a sound monitor, which is well formed, inside its profile and secure, and such a monitor passes
+-- Accepted tables and images: each begins a sound monitor, which is well formed, inside its profile, secure and with its objects under each other, and such a monitor passes
 -- the checks of a beginning and of a state.
 -- Assumes nothing.
 use Prim.Native.Nat.{ℕ}
@@ -27,10 +27,11 @@ use Rattle.invariants.proofs.Form.{no-modes, no-object-formed}
 use Rattle.invariants.proofs.Secure.{SecureObject, idle-secure}
 use Rattle.invariants.proofs.Wall.{wall-idle}
 use Rattle.invariants.proofs.Star.{star-idle}
+use Rattle.invariants.proofs.Hierarchy.{rise-in, none-hierarchy}
 use Rattle.invariants.proofs.Steps.{secure-of}
 use Rattle.images.specs.Tables.{TableFits, TableInside}
 use Rattle.images.proofs.Shapes.{Shape, image-shape, table-shape, fresh-shape, shape-of}
-use Rattle.images.proofs.StateTests.{formed-out, formed-in, matrix-out, matrix-in, labelled-out, labelled-in, simple-all-out, simple-all-in, stars-out, stars-in, walls-out, walls-in}
+use Rattle.images.proofs.StateTests.{formed-out, formed-in, matrix-out, matrix-in, labelled-out, labelled-in, simple-all-out, simple-all-in, stars-out, stars-in, walls-out, walls-in, hierarchy-out, parents-in}
 
 -- ---- a fresh monitor
 
@@ -59,6 +60,7 @@ sound-fresh p l t I =
           (λ o. subst (SecureObject l) (sym (replicate-at noObject 64 o)) (idle-secure l noObject no-modes))
           (λ s. star-idle s _ (nothing s))
           (λ s. wall-idle s _ (nothing s));
+      hierarchy = none-hierarchy (fresh p l) (λ o. replicate-at noObject 64 o);
     }
   where
     nothing : (s o : ℕ) → heldBy (object (fresh p l) o) s ≡ 0
@@ -116,7 +118,13 @@ state-passes m S =
           labelled-in m H (S .secure .labelled),
           (
             simple-all-in m H (S .secure .simple),
-            (stars-in m H (S .secure .star), (walls-in m H (S .secure .wall), tt)),
+            (
+              stars-in m H (S .secure .star),
+              (
+                walls-in m H (S .secure .wall),
+                (parents-in m H (S .hierarchy .parents-live) (S .hierarchy .chains-end), (rise-in m (S .hierarchy .labels-rise), tt)),
+              ),
+            ),
           ),
         ),
       ),
@@ -142,5 +150,6 @@ image-passed p b e =
           star = stars-out m S (q .1 .1 .1 .1 .0);
           wall = walls-out m S (q .1 .1 .1 .1 .1 .0);
         };
+        hierarchy = hierarchy-out m S (q .1 .1 .1 .1 .1 .1 .0) (q .1 .1 .1 .1 .1 .1 .1 .0);
       },
     )

@@ -15,7 +15,7 @@ use Rattle.model.specs.declared.Profile.{Profile}
 use Rattle.model.specs.declared.Monitor.{Monitor}
 use Rattle.model.specs.Companies.{companiesWidth}
 use Rattle.model.specs.State.{subjectCount, objectCount, classWidth, needsWidth, nobody, noObject, object, fresh, LabelFits, ObjectShape, WellFormed}
-use Rattle.model.specs.Layout.{labelWidth, ownerWidth, labelOffset, setWidth, pairWidth, companiesOffset, setsOffset, setsWidth, objectWidth, tableSize}
+use Rattle.model.specs.Layout.{labelWidth, ownerWidth, labelOffset, setWidth, pairWidth, companiesOffset, setsOffset, setsWidth, parentWidth, parentOffset, objectWidth, tableSize}
 use Rattle.model.specs.Reading.{labelFrom, subjectFrom, rightsFrom, heldFrom, setsIn, liveFrom, objectFrom, tableRecords, objectRecords, tableFrom, objectsFrom, monitorFrom}
 use Rattle.model.proofs.Tests.{cond-all, map-all, clash, replicate-at}
 use Rattle.invariants.proofs.Form.{no-object-shape}
@@ -57,6 +57,7 @@ live-shape b =
       owner-fits = fromBits-take ownerWidth (drop 1 b);
       label-fits = label-shape (take labelWidth (drop labelOffset b));
       companies-fit = fromBits-take companiesWidth (drop companiesOffset b);
+      parent-fits = fromBits-take parentWidth (drop parentOffset b);
       not-live = λ e. clash e;
     }
 

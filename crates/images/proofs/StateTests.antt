@@ -1,9 +1,12 @@
--- The six tests of a state decide what they are for, at every state whose numbers fit.
+-- The eight tests of a state decide what they are for, at every state whose numbers fit.
 -- Assumes nothing.
-use Prim.Native.Nat.{ℕ, _<_}
-use mathlib.Core.Path.{_≡_, refl}
+use Prim.Native.Nat.{ℕ, zero, suc, _<_, _≤_}
+use native.Mathlib.Omega.{arith}
+use mathlib.Core.Path.{_≡_, refl, sym, _∙_, subst}
+use mathlib.Core.Logic.{⊎-elim}
 use mathlib.Core.Bool.{true, false, _&&_, _||_}
 use mathlib.Core.List.{List}
+use lib.ListN.{length}
 use lib.Dec.{eqb}
 use borrow.Author.Tests.{eq-eqb, eqb-true}
 use Rattle.model.specs.declared.Subject.{Subject}
@@ -13,12 +16,15 @@ use Rattle.model.specs.declared.Mode.{Mode}
 use Rattle.model.specs.Tests.{allOf, implies}
 use Rattle.model.specs.Levels.{present, subset}
 use Rattle.model.specs.Modes.{has, anyNeedsLabel}
-use Rattle.model.specs.State.{noObject, clearanceAt, object, rightsOf, heldBy, ObjectShape, WellFormedObject, WellFormed}
+use Rattle.model.specs.State.{objectCount, noObject, clearanceAt, object, rightsOf, heldBy, ObjectShape, WellFormedObject, WellFormed}
 use Rattle.model.specs.Properties.{Discretionary, Labelled, Simple, Star, Wall}
 use Rattle.model.specs.Rules.{simpleAll, starAll, wallAll}
+use Rattle.model.specs.Hierarchy.{parentAt, Ends, none, onward, ends, parentLive, parentsHold, labelsRise, Hierarchy}
 use Rattle.model.specs.Reading.{onlyEnrolled, withinMatrix, heldLabelled}
-use Rattle.model.proofs.Tests.{split, apart, and-left, and-right, and-both, or-cases, or-left, or-right, implies-in, implies-out, below-in, below-out, all-in, all-out, row-all}
+use Rattle.model.proofs.Tests.{split, apart, and-left, and-right, and-both, or-cases, or-left, or-right, implies-in, implies-out, below-in, below-out, all-in, all-out, row-all, le-or-lt}
 use Rattle.model.proofs.Modes.{subset-in, subset-out, any-needs-label, needs-label-some}
+use Rattle.model.proofs.Hierarchy.{no-parent-beyond, live-in, ends-decides}
+use Rattle.invariants.proofs.Hierarchy.{parent-shape, rise-out}
 use Rattle.invariants.proofs.Form.{no-modes, no-object-formed}
 use Rattle.invariants.proofs.Pairs.{none-held}
 use Rattle.invariants.proofs.Secure.{simple-in, simple-out}
@@ -120,3 +126,40 @@ module _ (m : Monitor) (S : Shape m) where
 
   pub walls-in : Wall m → wallAll (m .objects) ≡ true
   walls-in T = wall-all-in (m .objects) (wall-for m T)
+
+  -- ---- parents and their chains, and the rule of labels
+
+  short : length (m .objects) ≤ 64
+  short = omega (arith, S .objects-length)
+
+  -- where parents are live, they are among the objects
+  parents-in-range : ((o p : ℕ) → object m o .parent ≡ suc p → object m p .live ≡ true) → (y x : ℕ) → parentAt (m .objects) y ≡ suc x → x < 64
+  parents-in-range live y x e = live-in (m .objects) short x (live y x (sym (parent-shape (m .objects) y (S .objects y)) ∙ e))
+
+  parents-out : parentsHold (m .objects) ≡ true → (o p : ℕ) → object m o .parent ≡ suc p → object m p .live ≡ true
+  unfolding parentsHold parentLive
+  parents-out e o p q =
+      subst (λ (k : ℕ). parentLive (m .objects) k ≡ true) q
+      (all-out (λ (ob : Object). parentLive (m .objects) (ob .parent)) noObject (m .objects) refl (and-left (allOf (λ (ob : Object). parentLive (m .objects) (ob .parent)) (m .objects)) _ e) o)
+
+  chains-out : parentsHold (m .objects) ≡ true → (o : ℕ) → Ends (m .objects) (suc o)
+  unfolding parentsHold
+  chains-out e o =
+      ⊎-elim (λ (b : 64 ≤ o). onward o (subst (Ends (m .objects)) (sym (no-parent-beyond (m .objects) short o b)) none))
+      (λ (b : o < 64). ends-decides (m .objects) short (parents-in-range (parents-out e)) o b .0
+      (below-out 64 (λ (k : ℕ). ends objectCount (m .objects) (suc k))
+      (and-right (allOf (λ (ob : Object). parentLive (m .objects) (ob .parent)) (m .objects)) _ e) o b)) (le-or-lt 64 o)
+
+  pub hierarchy-out : parentsHold (m .objects) ≡ true → labelsRise (m .objects) ≡ true → Hierarchy m
+  hierarchy-out e f = record { parents-live = parents-out e; chains-end = chains-out e; labels-rise = rise-out m f }
+
+  pub parents-in : ((o p : ℕ) → object m o .parent ≡ suc p → object m p .live ≡ true) → ((o : ℕ) → Ends (m .objects) (suc o)) → parentsHold (m .objects) ≡ true
+  unfolding parentsHold parentLive
+  parents-in live chains =
+      and-both
+      (all-in (λ (ob : Object). parentLive (m .objects) (ob .parent)) noObject (m .objects) (λ o. go (object m o .parent) (live o)))
+      (below-in 64 (λ (k : ℕ). ends objectCount (m .objects) (suc k)) (λ o b. ends-decides (m .objects) short (parents-in-range live) o b .1 (chains o)))
+    where
+      go : (q : ℕ) → ((p : ℕ) → q ≡ suc p → object m p .live ≡ true) → parentLive (m .objects) q ≡ true
+      go zero h = refl
+      go (suc p) h = h p refl

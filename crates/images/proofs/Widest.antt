@@ -30,7 +30,7 @@ use Rattle.model.proofs.Levels.{at-least-decides}
 use Rattle.model.proofs.Profiles.{profile-decides, inside-fits, inside-absent, inside-levels, widest-level}
 use Rattle.model.proofs.Within.{FieldsWithin, fields-within}
 use Rattle.model.proofs.Packing.{fields-fit}
-use Rattle.model.proofs.Requests.{actor-in, other-in, object-in}
+use Rattle.model.proofs.Requests.{actor-in, other-in, object-in, parent-in}
 use Rattle.invariants.proofs.Form.{enrolled-below}
 use Rattle.images.specs.Base.{baseDecode, baseTable, baseImage}
 use Rattle.images.proofs.Shapes.{Shape, fresh-shape, table-shape, image-shape}
@@ -52,7 +52,8 @@ fields-widest b e =
       actor = actor-in (fields b) e;
       other = other-in (fields b) e;
       object = object-in (fields b) e;
-      level = λ k. level-widest (levelOf (fields b)) (fields-fit b .class);
+      parent = parent-in (fields b) e;
+      level = λ j k. level-widest (levelOf (fields b)) (fields-fit b .class);
     }
 
 formed-widest : (b : List ℕ) → wellFormed widest (fields b) ≡ fieldsFormed (fields b)

@@ -1,6 +1,6 @@
 -- Each rule keeps the record that it changes well formed.
 -- Assumes nothing.
-use Prim.Native.Nat.{ℕ, zero, suc, _<_}
+use Prim.Native.Nat.{ℕ, zero, suc, _<_, _≤_}
 use native.Mathlib.Omega.{arith}
 use mathlib.Core.Path.{_≡_, refl, sym, _∙_, subst}
 use mathlib.Core.Bool.{Bool, true, false, cond}
@@ -44,6 +44,7 @@ no-object-shape =
       owner-fits = lit< tt;
       label-fits = tt;
       companies-fit = lit< tt;
+      parent-fits = lit< tt;
       not-live = λ e. refl;
     }
 
@@ -71,6 +72,7 @@ module _ (l : List Subject) where
           owner-fits = S .owner-fits;
           label-fits = S .label-fits;
           companies-fit = S .companies-fit;
+          parent-fits = S .parent-fits;
           not-live = λ e. apart live e;
         };
         owner-enrolled = F .owner-enrolled;
@@ -91,6 +93,7 @@ module _ (l : List Subject) where
           owner-fits = S .owner-fits;
           label-fits = S .label-fits;
           companies-fit = S .companies-fit;
+          parent-fits = S .parent-fits;
           not-live = λ e. apart live e;
         };
         owner-enrolled = F .owner-enrolled;
@@ -112,6 +115,7 @@ module _ (l : List Subject) where
           owner-fits = S .owner-fits;
           label-fits = label;
           companies-fit = companies;
+          parent-fits = S .parent-fits;
           not-live = λ w. apart live w;
         };
         owner-enrolled = F .owner-enrolled;
@@ -119,8 +123,8 @@ module _ (l : List Subject) where
         absent-held = F .absent-held;
       }
 
-  created-formed : (s : ℕ) (c : Creation) → s < 16 → present (clearanceAt l s) ≡ true → WellFormedObject l (created s c)
-  created-formed s c h there =
+  created-formed : (s : ℕ) (c : Creation) → s < 16 → c .parent ≤ 64 → present (clearanceAt l s) ≡ true → WellFormedObject l (created s c)
+  created-formed s c h fits-parent there =
       record {
         shape = record {
           rights-length = length-set noModes s (cond (c .execute) 15 14);
@@ -130,6 +134,7 @@ module _ (l : List Subject) where
           owner-fits = h;
           label-fits = tt;
           companies-fit = lit< tt;
+          parent-fits = omega (arith, fits-parent);
           not-live = λ w. clash w;
         };
         owner-enrolled = λ w. there;
@@ -166,7 +171,7 @@ module _ (m : Monitor) where
       (g .live) there (remove-fits x _ (F .shape .held-fit t))
   changed-formed (Create s o c) r W e =
       let g = granted-create m s o c e in
-      created-formed (m .subjects) s c (r .0) (g .there)
+      created-formed (m .subjects) s c (r .0) (r .2) (g .there)
   changed-formed (Delete s o) r W e = no-object-formed (m .subjects)
   changed-formed (ChangeLevel s o v) r W e = rest-formed (m .subjects) (object m o) (Present v) _ (W .objects-formed o) (granted-change m s o v e .live) (r .2) (W .objects-formed o .shape .companies-fit)
   changed-formed (SetCompanies s o n) r W e = rest-formed (m .subjects) (object m o) _ n (W .objects-formed o) (granted-companies m s o n e .live) (W .objects-formed o .shape .label-fits) (r .2)

@@ -15,6 +15,7 @@ use Rattle.model.specs.Tests.{implies}
 use Rattle.model.specs.Levels.{dominates, present}
 use Rattle.model.specs.Modes.{has, observes, needsLabel}
 use Rattle.model.specs.State.{clearance, enrolled, object, rightsOf}
+use Rattle.model.specs.Hierarchy.{parentLive, labelsRise}
 use Rattle.model.specs.Rules.{owns, mayGive, notLowered, simpleAll, starFor, starAll, wallFor, wallAll, changed, afterwards, checkList, checks}
 use Rattle.model.proofs.Checks.{refusals, all-passed, all-pass}
 
@@ -84,17 +85,18 @@ pub granted-rescind : (m : Monitor) (s t o : ℕ) (x : Mode) → checks (Rescind
 unfolding checks
 granted-rescind m s t o x e = granted-give m s t o x e
 
-pub record GrantedCreate (m : Monitor) (s o : ℕ) : Type 0 where
+pub record GrantedCreate (m : Monitor) (s o : ℕ) (c : Creation) : Type 0 where
   pub there : enrolled m s ≡ true
   pub free : not (object m o .live) ≡ true
+  pub parent : parentLive (m .objects) (c .parent) ≡ true
 
-pub granted-create : (m : Monitor) (s o : ℕ) (c : Creation) → checks (Create s o c) m ≡ Granted → GrantedCreate m s o
+pub granted-create : (m : Monitor) (s o : ℕ) (c : Creation) → checks (Create s o c) m ≡ Granted → GrantedCreate m s o c
 unfolding checks
-granted-create m s o c e = let p = all-passed (checkList (Create s o c) m) refl e in record { there = p .0; free = p .1 .0 }
+granted-create m s o c e = let p = all-passed (checkList (Create s o c) m) refl e in record { there = p .0; free = p .1 .0; parent = p .1 .1 .0 }
 
-pub grants-create : (m : Monitor) (s o : ℕ) (c : Creation) → GrantedCreate m s o → checks (Create s o c) m ≡ Granted
+pub grants-create : (m : Monitor) (s o : ℕ) (c : Creation) → GrantedCreate m s o c → checks (Create s o c) m ≡ Granted
 unfolding checks
-grants-create m s o c g = all-pass (checkList (Create s o c) m) (g .there, (g .free, tt))
+grants-create m s o c g = all-pass (checkList (Create s o c) m) (g .there, (g .free, (g .parent, tt)))
 
 pub record GrantedDelete (m : Monitor) (s o : ℕ) : Type 0 where
   pub there : enrolled m s ≡ true
@@ -116,16 +118,25 @@ pub record GrantedChange (m : Monitor) (s o : ℕ) (l : Level) : Type 0 where
   pub raised : notLowered (object m o .label) (Present l) ≡ true
   pub simple : simpleAll (m .subjects) (changed (ChangeLevel s o l) (object m o)) ≡ true
   pub star : starAll (afterwards (ChangeLevel s o l) m .objects) ≡ true
+  pub rise : labelsRise (afterwards (ChangeLevel s o l) m .objects) ≡ true
 
 pub granted-change : (m : Monitor) (s o : ℕ) (l : Level) → checks (ChangeLevel s o l) m ≡ Granted → GrantedChange m s o l
 unfolding checks
 granted-change m s o l e =
     let p = all-passed (checkList (ChangeLevel s o l) m) refl e in
-    record { there = p .0; live = p .1 .0; owned = p .1 .1 .0; raised = p .1 .1 .1 .0; simple = p .1 .1 .1 .1 .0; star = p .1 .1 .1 .1 .1 .0 }
+    record {
+      there = p .0;
+      live = p .1 .0;
+      owned = p .1 .1 .0;
+      raised = p .1 .1 .1 .0;
+      simple = p .1 .1 .1 .1 .0;
+      star = p .1 .1 .1 .1 .1 .0;
+      rise = p .1 .1 .1 .1 .1 .1 .0;
+    }
 
 pub grants-change : (m : Monitor) (s o : ℕ) (l : Level) → GrantedChange m s o l → checks (ChangeLevel s o l) m ≡ Granted
 unfolding checks
-grants-change m s o l g = all-pass (checkList (ChangeLevel s o l) m) (g .there, (g .live, (g .owned, (g .raised, (g .simple, (g .star, tt))))))
+grants-change m s o l g = all-pass (checkList (ChangeLevel s o l) m) (g .there, (g .live, (g .owned, (g .raised, (g .simple, (g .star, (g .rise, tt)))))))
 
 pub record GrantedCompanies (m : Monitor) (s o n : ℕ) : Type 0 where
   pub there : enrolled m s ≡ true

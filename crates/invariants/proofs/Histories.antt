@@ -4,7 +4,8 @@
 use Prim.Native.Nat.{ℕ, zero, suc}
 use native.Mathlib.Omega.{arith}
 use mathlib.Core.Path.{_≡_, refl, sym, ap, _∙_}
-use mathlib.Core.Logic.{_↔_}
+use mathlib.Core.Logic.{_↔_, _≢_}
+use mathlib.Core.Bool.{Bool, false, _&&_}
 use mathlib.Core.List.{List, [], _∷_}
 use lib.ListN.{length, take}
 use lib.Dec.{eqb}
@@ -14,7 +15,8 @@ use Rattle.model.specs.State.{withObject}
 use Rattle.model.specs.Runs.{reply}
 use Rattle.model.specs.Journal.{Entry, Journaled, journalSize, entered, withoutEntries, ask, restored, takeBack, Act, asks, takesBack, answerTo, acted}
 use Rattle.model.proofs.Tests.{cond-true, cond-false}
-use Rattle.invariants.specs.TakingBack.{History, remembered, returned, history}
+use Rattle.model.specs.Requests.{decode}
+use Rattle.invariants.specs.TakingBack.{saidToTake, tookChildren, History, remembered, returned, history}
 use Rattle.invariants.proofs.TakingBack.{ask-cases, back-17-exactly}
 
 -- the states that takings-back lead to, one after the other
@@ -32,14 +34,19 @@ undone-take (suc k) m (e ∷ journal) = ap (λ (l : List Monitor). withObject m 
 asHistory : Journaled → History
 asHistory j = record { present = j .monitor; past = undone (j .monitor) (j .journal) }
 
-remembered-asked : (b : List ℕ) (j : Journaled) → remembered (reply b (j .monitor)) (j .monitor) (undone (j .monitor) (j .journal)) ≡ undone (ask b j .monitor) (ask b j .journal)
-unfolding undone entered
+remembered-asked : (b : List ℕ) (j : Journaled) → remembered b (j .monitor) (undone (j .monitor) (j .journal)) ≡ undone (ask b j .monitor) (ask b j .journal)
+unfolding undone entered tookChildren
 remembered-asked b j =
     ask-cases b j
-    (λ z E. cond-true (eqb (reply b (j .monitor)) 0) _ _ (eq-eqb _ 0 z)
+    (λ z none E. cond-false (tookChildren b (j .monitor)) _ _ none ∙ cond-true (eqb (reply b (j .monitor)) 0) _ _ (eq-eqb _ 0 z)
     ∙ ap (take journalSize) (sym (ap (λ (n : Monitor). n ∷ undone n (j .journal)) (E .restores)))
     ∙ sym (ap (undone (ask b j .monitor)) (E .journal) ∙ undone-take journalSize (ask b j .monitor) (E .entry ∷ j .journal)))
-    (λ n e. cond-false (eqb (reply b (j .monitor)) 0) _ _ (ne-eqb _ 0 n) ∙ sym (ap (λ (x : Journaled). undone (x .monitor) (x .journal)) e))
+    (λ z took e. cond-true (tookChildren b (j .monitor)) _ _ took ∙ sym (ap (undone (ask b j .monitor)) e))
+    (λ n e. cond-false (tookChildren b (j .monitor)) _ _ (none-took n) ∙ cond-false (eqb (reply b (j .monitor)) 0) _ _ (ne-eqb _ 0 n)
+    ∙ sym (ap (λ (x : Journaled). undone (x .monitor) (x .journal)) e))
+  where
+    none-took : reply b (j .monitor) ≢ 0 → tookChildren b (j .monitor) ≡ false
+    none-took n = ap (λ (x : Bool). x && saidToTake (decode (j .monitor .profile) b) (j .monitor)) (ne-eqb _ 0 n)
 
 returned-restored : (m : Monitor) (journal : List Entry) → returned m (undone m journal) ≡ asHistory (restored m journal)
 unfolding undone asHistory restored

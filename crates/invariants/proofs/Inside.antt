@@ -11,7 +11,7 @@ use Rattle.model.specs.declared.Mode.{Mode}
 use Rattle.model.specs.declared.Request.{Request}
 use Rattle.model.specs.declared.Request.the-variants.{Get, Release, Give, Rescind, Create, Delete, ChangeLevel, SetCompanies}
 use Rattle.model.specs.declared.Decision.the-variants.{Granted}
-use Rattle.model.specs.State.{enrolled, object}
+use Rattle.model.specs.State.{noObject, enrolled, object}
 use Rattle.model.specs.Profiles.{LabelInside, Inside}
 use Rattle.model.specs.Requests.{Within}
 use Rattle.model.specs.Rules.{target, changed, afterwards, checks}
@@ -27,6 +27,10 @@ pub record ObjectInside (p : Profile) (o : ℕ) (ob : Object) : Type 0 where
 pub object-inside : (m : Monitor) → Inside m → (o : ℕ) → ObjectInside (m .profile) o (object m o)
 object-inside m I o = record { number = I .objects-inside o; label = I .labels-inside o }
 
+-- where no object is
+none-inside : (p : Profile) (o : ℕ) → ObjectInside p o noObject
+none-inside p o = record { number = λ e. clash (sym e); label = tt }
+
 pub changed-inside : (p : Profile) (q : Request) (ob : Object) → Within p q → ObjectInside p (target q) ob → ObjectInside p (target q) (changed q ob)
 unfolding changed
 changed-inside p (Get s o x) ob v I = record { number = I .number; label = I .label }
@@ -34,7 +38,7 @@ changed-inside p (Release s o x) ob v I = record { number = I .number; label = I
 changed-inside p (Give s t o x) ob v I = record { number = I .number; label = I .label }
 changed-inside p (Rescind s t o x) ob v I = record { number = I .number; label = I .label }
 changed-inside p (Create s o c) ob v I = record { number = λ e. v .1; label = tt }
-changed-inside p (Delete s o) ob v I = record { number = λ e. clash (sym e); label = tt }
+changed-inside p (Delete s o) ob v I = none-inside p o
 changed-inside p (ChangeLevel s o l) ob v I = record { number = I .number; label = v .2 }
 changed-inside p (SetCompanies s o n) ob v I = record { number = I .number; label = I .label }
 
@@ -42,7 +46,7 @@ changed-inside p (SetCompanies s o n) ob v I = record { number = I .number; labe
 pub inside-afterwards : (q : Request) (m : Monitor) → Within (m .profile) q → Inside m → Inside (afterwards q m)
 inside-afterwards q m v I =
     let O : (o : ℕ) → ObjectInside (m .profile) o (object (afterwards q m) o) =
-    objects-after (ObjectInside (m .profile)) q m (object-inside m I) (changed-inside (m .profile) q (object m (target q)) v (object-inside m I (target q))) in
+    objects-after (ObjectInside (m .profile)) q m (object-inside m I) (λ o. none-inside (m .profile) o) (changed-inside (m .profile) q (object m (target q)) v (object-inside m I (target q))) in
     record {
       profile-fits = I .profile-fits;
       subjects-inside = I .subjects-inside;

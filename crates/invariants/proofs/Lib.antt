@@ -1,4 +1,4 @@
--- What every request keeps: a state that is well formed, inside its profile and secure, in the order in which the files stand on each other.
+-- What every request keeps: a state that is well formed, inside its profile, secure and with its objects under each other, in the order in which the files stand on each other.
 pub mod Granted
 pub mod Form
 pub mod Inside
@@ -6,6 +6,7 @@ pub mod Pairs
 pub mod Secure
 pub mod Star
 pub mod Wall
+pub mod Hierarchy
 pub mod Relabelling
 pub mod Steps
 pub mod Outcomes

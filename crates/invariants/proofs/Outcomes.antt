@@ -21,6 +21,7 @@ use Rattle.model.proofs.Tests.{split, clash, and-left, and-right, not-on}
 use Rattle.model.proofs.Modes.{add-same, remove-same}
 use Rattle.model.proofs.Levels.{same-label}
 use Rattle.model.proofs.Equal.{with-held-same, with-rights-same, with-label-same, with-companies-same, with-object-same}
+use Rattle.model.proofs.Children.{one-changes, already-takes-none}
 use Rattle.invariants.proofs.Steps.{granted-or-refused, step-granted, step-refused}
 
 -- ---- the state was so already
@@ -41,7 +42,7 @@ record-same (ChangeLevel s o l) ob e =
 record-same (SetCompanies s o n) ob e = with-companies-same ob n (sym (eqb-true (ob .companies) n e))
 
 pub state-same : (q : Request) (m : Monitor) → already q (object m (target q)) ≡ true → afterwards q m ≡ m
-state-same q m e = with-object-same m (target q) _ (record-same q _ e)
+state-same q m e = one-changes q m (already-takes-none q m e) ∙ with-object-same m (target q) _ (record-same q _ e)
 
 -- ---- the replies
 

@@ -20,6 +20,7 @@ use Rattle.model.specs.State.{noObject, objectAt, object, rightsOf, heldBy, wit
 use Rattle.model.specs.Rules.{changed, afterwards}
 use Rattle.model.proofs.Tests.{set-all, apart, split, below-out, below-in, beyond, le-or-lt}
 use Rattle.model.proofs.Modes.{held-add, held-remove, has-none}
+use Rattle.model.proofs.After.{objects-after}
 use Rattle.invariants.proofs.Form.{no-modes}
 
 -- a set without modes has none
@@ -55,15 +56,23 @@ module _ {A : Type 0} (matters : Mode → Bool) (view : Object → A) (R : Mode 
   record Less (s : ℕ) (new old : Object) : Type 0 where
     keeps : (x : Mode) → matters x ≡ true → has x (heldBy new s) ≡ true → (has x (heldBy old s) ≡ true) × (view new ≡ view old)
 
-  pairs-less : (s : ℕ) (l : List Object) (o : ℕ) (ob : Object) → PairsFor R s l → Less s ob (objectAt l o) → PairsFor R s (set l o ob)
-  pairs-less s l o ob h less p q x y r w =
-      let go : (j : ℕ) → Less s (objectAt (set l o ob) j) (objectAt l j) =
-      set-all (λ j w. Less s w (objectAt l j)) l o ob noObject (λ j. record { keeps = λ x n e. (e, refl) }) less in
+  -- the same object, and none
+  less-same : (s : ℕ) (ob : Object) → Less s ob ob
+  less-same s ob = record { keeps = λ x n e. (e, refl) }
+
+  less-none : (s : ℕ) (ob : Object) → Less s noObject ob
+  less-none s ob = record { keeps = λ x n e. none-held x _ (no-modes s) e }
+
+  pairs-all-less : (s : ℕ) (l k : List Object) → PairsFor R s l → ((j : ℕ) → Less s (objectAt k j) (objectAt l j)) → PairsFor R s k
+  pairs-all-less s l k h go p q x y r w =
       only x y _ _
       (λ a b.
       let f = go p .keeps x a r in
       let g = go q .keeps y b w in
       seen x y _ _ _ _ (f .1) (g .1) (h p q x y (f .0) (g .0)))
+
+  pairs-less : (s : ℕ) (l : List Object) (o : ℕ) (ob : Object) → PairsFor R s l → Less s ob (objectAt l o) → PairsFor R s (set l o ob)
+  pairs-less s l o ob h less = pairs-all-less s l (set l o ob) h (set-all (λ j w. Less s w (objectAt l j)) l o ob noObject (λ j. less-same s _) less)
 
   -- an object that has the same accesses and looks the same
   pub pairs-unseen : (s : ℕ) (l : List Object) (o : ℕ) (ob : Object) → PairsFor R s l → ob .held ≡ objectAt l o .held → view ob ≡ view (objectAt l o)
@@ -112,7 +121,9 @@ module _ {A : Type 0} (matters : Mode → Bool) (view : Object → A) (R : Mode 
       pairs-less j (m .objects) o _ (before j)
       (record { keeps = λ y g r. let p = less .keeps y g r in (p .0, p .1 ∙ rights-unseen (object m o) t _) })
   pairs-fewer (Create s o c) m W before f j = pairs-free j (m .objects) o _ (before j) (λ x n e. none-held x _ (no-modes j) e)
-  pairs-fewer (Delete s o) m W before f j = pairs-free j (m .objects) o _ (before j) (λ x n e. none-held x _ (no-modes j) e)
+  pairs-fewer (Delete s o) m W before f j =
+      pairs-all-less j (m .objects) (afterwards (Delete s o) m .objects) (before j)
+      (objects-after (λ i ob. Less j ob (object m i)) (Delete s o) m (λ i. less-same j _) (λ i. less-none j _) (less-none j _))
   pairs-fewer (ChangeLevel s o l) m W before f j = absurd f
   pairs-fewer (SetCompanies s o n) m W before f j = absurd f
 

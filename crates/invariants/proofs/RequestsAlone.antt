@@ -43,10 +43,11 @@ unfolding Leads ask entered
 leads-asked m b j L =
     let k = ask b j in
     ask-cases b j
-    (λ changed E.
+    (λ changed none E.
     subst (Leads m (k .monitor)) (sym (E .journal))
     (leads-take m (k .monitor) journalSize (E .entry ∷ j .journal)
     (one-more m (j .monitor) b (leads-now m (j .monitor) (j .journal) L), subst (λ (n : Monitor). Leads m n (j .journal)) (sym (E .restores)) L)))
+    (λ changed took e. subst (Leads m (k .monitor)) (sym e) (one-more m (j .monitor) b (leads-now m (j .monitor) (j .journal) L)))
     (λ other same. subst (λ (x : Journaled). Leads m (x .monitor) (x .journal)) (sym same) L)
 
 leads-restored : (m n : Monitor) (journal : List Entry) → Leads m n journal → Leads m (restored n journal .monitor) (restored n journal .journal)

@@ -1,18 +1,18 @@
--- Every request, of any bytes, leaves a sound state sound: well formed, inside its profile and secure. The profile stays the same.
+-- Every request, of any bytes, leaves a sound state sound: well formed, inside its profile, secure, and with parents that are live, chains of them
+-- that end and labels that rise. The profile stays the same.
 -- Assumes nothing.
 use Prim.Native.Nat.{ℕ}
 use mathlib.Core.Path.{_≡_, refl, sym, ap, _∙_, subst}
 use mathlib.Core.Logic.{⊎-elim}
 use mathlib.Core.Bool.{true, cond}
 use mathlib.Core.List.{List, [], _∷_}
-use lib.ListN.{length-set}
 use Rattle.model.specs.declared.Monitor.{Monitor}
 use Rattle.model.specs.declared.Request.{Request}
 use Rattle.model.specs.declared.Decoded.{Decoded}
 use Rattle.model.specs.declared.Decoded.the-variants.{Malformed, Says}
 use Rattle.model.specs.declared.Decision.the-variants.{Granted, Already}
 use Rattle.model.specs.declared.Response.{Response}
-use Rattle.model.specs.State.{objectAt, object, WellFormedObject}
+use Rattle.model.specs.State.{noObject, objectAt, object, WellFormedObject}
 use Rattle.model.specs.Profiles.{Inside}
 use Rattle.model.specs.Properties.{Secure}
 use Rattle.model.specs.Decisions.{refuses}
@@ -21,14 +21,15 @@ use Rattle.model.specs.Rules.{target, already, afterwards, checkList, checks, a
 use Rattle.model.specs.Runs.{carryOut, respond, after}
 use Rattle.model.proofs.Tests.{cond-true, cond-false}
 use Rattle.model.proofs.Requests.{decode-range, decode-within}
-use Rattle.model.proofs.After.{objects-after}
+use Rattle.model.proofs.After.{objects-after, length-after}
 use Rattle.model.proofs.Checks.{granted-or-refusal}
 use Rattle.invariants.specs.Sound.{Sound}
 use Rattle.invariants.proofs.Granted.{only-refusals}
-use Rattle.invariants.proofs.Form.{changed-formed}
+use Rattle.invariants.proofs.Form.{no-modes, no-object-formed, changed-formed}
 use Rattle.invariants.proofs.Inside.{inside-afterwards}
-use Rattle.invariants.proofs.Secure.{SecureObject, object-secure, changed-secure}
+use Rattle.invariants.proofs.Secure.{SecureObject, object-secure, idle-secure, changed-secure}
 use Rattle.invariants.proofs.Star.{StarFor, star-of, changed-star}
+use Rattle.invariants.proofs.Hierarchy.{changed-hierarchy}
 use Rattle.invariants.proofs.Wall.{WallFor, wall-of, changed-wall}
 
 -- ---- the two cases of a step
@@ -72,19 +73,20 @@ pub sound-afterwards : (q : Request) (m : Monitor) → InRange q → Within (m .
 sound-afterwards q m r v S e =
     let W = S .formed in
     let F : (o : ℕ) → WellFormedObject (m .subjects) (objectAt (afterwards q m .objects) o) =
-    objects-after (λ j ob. WellFormedObject (m .subjects) ob) q m (W .objects-formed) (changed-formed m q r W e) in
+    objects-after (λ j ob. WellFormedObject (m .subjects) ob) q m (W .objects-formed) (λ j. no-object-formed (m .subjects)) (changed-formed m q r W e) in
     record {
       formed = record {
         subjects-length = W .subjects-length;
         clearances-fit = W .clearances-fit;
-        objects-length = length-set (m .objects) (target q) _ ∙ W .objects-length;
+        objects-length = length-after q m ∙ W .objects-length;
         objects-formed = F;
       };
       inside = inside-afterwards q m v (S .inside);
       secure = secure-of (afterwards q m)
-          (objects-after (λ j ob. SecureObject (m .subjects) ob) q m (object-secure m (S .secure)) (changed-secure m W (S .secure) q e))
+          (objects-after (λ j ob. SecureObject (m .subjects) ob) q m (object-secure m (S .secure)) (λ j. idle-secure (m .subjects) noObject no-modes) (changed-secure m W (S .secure) q e))
           (changed-star q m W (S .secure) (λ o. F o .shape .held-length) e)
           (changed-wall q m W (S .secure) (λ o. F o .shape .held-length) e);
+      hierarchy = changed-hierarchy q m W (S .hierarchy) r e;
     }
 
 pub sound-step : (q : Request) (m : Monitor) → InRange q → Within (m .profile) q → Sound m → Sound (step q m .monitor)

@@ -17,6 +17,7 @@ pub mod Equal
 pub mod Records
 pub mod Hierarchy
 pub mod After
+pub mod Children
 pub mod Examples
 pub mod RuleExamples
 pub mod Lowering
