@@ -133,16 +133,16 @@ module _ (m : Monitor) (S : Shape m) where
   short = omega (arith, S .objects-length)
 
   -- where parents are live, they are among the objects
-  parents-in-range : ((o p : ℕ) → object m o .parent ≡ suc p → object m p .live ≡ true) → (y x : ℕ) → parentAt (m .objects) y ≡ suc x → x < 64
+  pub parents-in-range : ((o p : ℕ) → object m o .parent ≡ suc p → object m p .live ≡ true) → (y x : ℕ) → parentAt (m .objects) y ≡ suc x → x < 64
   parents-in-range live y x e = live-in (m .objects) short x (live y x (sym (parent-shape (m .objects) y (S .objects y)) ∙ e))
 
-  parents-out : parentsHold (m .objects) ≡ true → (o p : ℕ) → object m o .parent ≡ suc p → object m p .live ≡ true
+  pub parents-out : parentsHold (m .objects) ≡ true → (o p : ℕ) → object m o .parent ≡ suc p → object m p .live ≡ true
   unfolding parentsHold parentLive
   parents-out e o p q =
       subst (λ (k : ℕ). parentLive (m .objects) k ≡ true) q
       (all-out (λ (ob : Object). parentLive (m .objects) (ob .parent)) noObject (m .objects) refl (and-left (allOf (λ (ob : Object). parentLive (m .objects) (ob .parent)) (m .objects)) _ e) o)
 
-  chains-out : parentsHold (m .objects) ≡ true → (o : ℕ) → Ends (m .objects) (suc o)
+  pub chains-out : parentsHold (m .objects) ≡ true → (o : ℕ) → Ends (m .objects) (suc o)
   unfolding parentsHold
   chains-out e o =
       ⊎-elim (λ (b : 64 ≤ o). onward o (subst (Ends (m .objects)) (sym (no-parent-beyond (m .objects) short o b)) none))

@@ -12,7 +12,7 @@ use Rattle.model.specs.declared.Subject.{Subject}
 use Rattle.model.specs.declared.Object.{Object}
 use Rattle.model.specs.declared.Profile.{Profile}
 use Rattle.model.specs.declared.Monitor.{Monitor}
-use Rattle.model.specs.declared.Decision.the-variants.{Granted, NoRight, NoLabel, SimpleBroken, StarBroken, WrongLength, StrayBits, AbsentSubject, OutsideProfile, WallBroken}
+use Rattle.model.specs.declared.Decision.the-variants.{Granted, NoRight, NoLabel, SimpleBroken, StarBroken, WrongLength, StrayBits, AbsentSubject, OutsideProfile, WallBroken, ParentNotLive, HierarchyBroken}
 use Rattle.model.specs.State.{noObject, clearanceAt, clearance, enrolled, object, rightsOf, heldBy, fresh, WellFormed}
 use Rattle.model.specs.Properties.{Secure}
 use Rattle.model.specs.Layout.{tableSize, imageSize}
@@ -25,7 +25,8 @@ use Rattle.images.proofs.Shapes.{table-shape, fresh-shape, image-shape}
 use Rattle.images.proofs.StateTests.{formed-out, matrix-out, matrix-in, labelled-out, labelled-in, simple-all-out, simple-all-in, stars-out, stars-in, walls-out, walls-in}
 use Rattle.images.proofs.Images.{image-passed}
 use Rattle.refusals.specs.First.{AnswersFirst}
-use Rattle.refusals.specs.Causes.{ProfileOutside, StrayInImage, ClearanceOutside, LabelOutside, OutsideInImage, AbsentActs, tableCauses, imageCauses}
+use Rattle.refusals.specs.Causes.{ProfileOutside, StrayInImage, ClearanceOutside, LabelOutside, OutsideInImage, AbsentActs, tableCauses, imageCauses, ParentMissing, LabelBelow}
+use Rattle.refusals.proofs.Hierarchy.{parents-not-19, parents-19, rising, not-rising}
 use Rattle.refusals.proofs.First.{answers-end, answers-check}
 use Rattle.refusals.proofs.ProfileCauses.{profile-outside, profile-not-outside, levels-outside, levels-not-outside}
 use Rattle.refusals.proofs.StrayBits.{table-11, table-not-11, image-11, image-not-11}
@@ -115,21 +116,24 @@ image-answers p b =
     (answers-check _ SimpleBroken _ _ _ refl (λ e w. w (simple-all-out m S e)) (decided _ (simple-all-in m S))
     (answers-check _ StarBroken _ _ _ refl (λ e w. w (stars-out m S e)) (decided _ (stars-in m S))
     (answers-check _ WallBroken _ _ _ refl (λ e w. w (walls-out m S e)) (decided _ (walls-in m S))
-    answers-end)))))))))
+    (answers-check _ ParentNotLive _ _ _ refl (parents-not-19 m S) (parents-19 m S)
+    (answers-check _ HierarchyBroken _ _ _ refl (rising m) (not-rising m)
+    answers-end)))))))))))
 
 -- ---- acceptance
 
 -- "An image is accepted exactly when it has this form, only enrolled subjects own, have rights or hold, and the state is secure"; under a profile
--- in its ranges, with nothing outside it
+-- in its ranges, with nothing outside it; and where no parent is missing and no label is below that of its parent (change request §11)
 pub image-accepted-exactly : (p : Profile) (b : List ℕ)
     → (imageChecks p b ≡ Granted)
     ↔ ((ProfileOutside p → ⊥) × (length b ≡ imageSize) × (StrayInImage p b → ⊥) × (OutsideInImage p b → ⊥) × (AbsentActs (monitorFrom p b) → ⊥)
-    × Secure (monitorFrom p b))
+    × Secure (monitorFrom p b) × (ParentMissing (monitorFrom p b) → ⊥) × (((o : ℕ) × (q : ℕ) × LabelBelow (monitorFrom p b) o q) → ⊥))
 image-accepted-exactly p b = (
   λ e.
       let n = image-answers p b .granted .0 e in
       let S = image-passed p b e .2 in
-      (n .0, image-passed p b e .0, n .1 .1 .0, n .1 .1 .1 .0, n .1 .1 .1 .1 .0, S .secure),
+      let behind = n .1 .1 .1 .1 .1 .1 .1 .1 .1 .1 in
+      (n .0, image-passed p b e .0, n .1 .1 .0, n .1 .1 .1 .0, n .1 .1 .1 .1 .0, S .secure, behind .0, behind .1 .0),
   λ h.
       let S = h .5 in
       image-answers p b .granted .1 (
@@ -146,7 +150,7 @@ image-accepted-exactly p b = (
                   λ w. w (S .discretionary),
                   (
                     λ w. w (S .labelled),
-                    (λ w. w (S .simple), (λ w. w (S .star), (λ w. w (S .wall), tt))),
+                    (λ w. w (S .simple), (λ w. w (S .star), (λ w. w (S .wall), (h .6, (h .7, tt))))),
                   ),
                 ),
               ),

@@ -14,12 +14,12 @@ use Rattle.model.specs.declared.Fields.{Fields}
 use Rattle.model.specs.declared.Request.{Request}
 use Rattle.model.specs.declared.Decoded.{Decoded}
 use Rattle.model.specs.declared.Decoded.the-variants.{Malformed, Says}
-use Rattle.model.specs.Requests.{fields, modeAllowed, unusedZero, fieldsFormed, levelOf, within, wellFormed, decode}
+use Rattle.model.specs.Requests.{fields, modeAllowed, unusedZero, parentWithin, fieldsFormed, levelOf, within, wellFormed, decode}
 use Rattle.model.specs.Profiles.{levelInside}
-use Rattle.model.proofs.Tests.{split, apart, clash, and-left, and-right, and-false, or-cases, or-false, cond-true, cond-false, le-or-lt}
+use Rattle.model.proofs.Tests.{split, apart, clash, and-left, and-right, and-false, implies-false, or-cases, or-false, cond-true, cond-false, le-or-lt}
 use Rattle.model.proofs.Within.{within-fields, formed-of, within-of}
-use Rattle.model.proofs.Requests.{in-kinds, actor-in, other-in, object-in, last-two, decode-says, says-decode}
-use Rattle.refusals.specs.Causes.{NeedOutside, ModeNotAllowed, UnusedSet, MalformedBytes, not-six-bytes, kind-below, kind-above, actor-above, other-above, object-above, mode-not-allowed, unused-set, actor-outside, other-outside, object-outside, class-outside, need-outside}
+use Rattle.model.proofs.Requests.{in-kinds, actor-in, other-in, object-in, parent-in, last-two, decode-says, says-decode}
+use Rattle.refusals.specs.Causes.{NeedOutside, ModeNotAllowed, UnusedSet, MalformedBytes, not-six-bytes, kind-below, kind-above, actor-above, other-above, object-above, mode-not-allowed, unused-set, actor-outside, other-outside, object-outside, class-outside, need-outside, parent-above, parent-outside}
 use Rattle.refusals.proofs.ProfileCauses.{level-outside, level-not-outside}
 
 -- ---- a test of a number that fails
@@ -84,11 +84,12 @@ unused-fails f e =
     (λ v.
     let a = or-false (eqb (f .kind) 7) (eqb (f .class) 0) v in
     inr (inl (eqb-false _ _ (a .0), eqb-false _ _ (a .1))))
-    (λ v. and-false (eqb (f .kind) 7 || (eqb (f .kind) 8 || eqb (f .needs) 0)) (eqb (f .spare) 0) v
+    (λ v. and-false (eqb (f .kind) 5 || (eqb (f .kind) 7 || (eqb (f .kind) 8 || eqb (f .needs) 0))) (eqb (f .spare) 0) v
     (λ u.
-    let a = or-false (eqb (f .kind) 7) (eqb (f .kind) 8 || eqb (f .needs) 0) u in
+    let c = or-false (eqb (f .kind) 5) (eqb (f .kind) 7 || (eqb (f .kind) 8 || eqb (f .needs) 0)) u in
+    let a = or-false (eqb (f .kind) 7) (eqb (f .kind) 8 || eqb (f .needs) 0) (c .1) in
     let b = or-false (eqb (f .kind) 8) (eqb (f .needs) 0) (a .1) in
-    inr (inr (inl (eqb-false _ _ (a .0), eqb-false _ _ (b .0), eqb-false _ _ (b .1)))))
+    inr (inr (inl (eqb-false _ _ (c .0), eqb-false _ _ (a .0), eqb-false _ _ (b .0), eqb-false _ _ (b .1)))))
     (λ u. inr (inr (inr (eqb-false _ _ u))))))
 
 unused-passes : (f : Fields) → unusedZero f ≡ true → UnusedSet f → ⊥
@@ -98,12 +99,13 @@ unused-passes f e w =
     let behind = and-right (eqb (f .kind) 3 || (eqb (f .kind) 4 || eqb (f .other) 0)) _ e in
     let class = and-left (eqb (f .kind) 7 || eqb (f .class) 0) _ behind in
     let last = and-right (eqb (f .kind) 7 || eqb (f .class) 0) _ behind in
-    let needs = and-left (eqb (f .kind) 7 || (eqb (f .kind) 8 || eqb (f .needs) 0)) _ last in
-    let spare = and-right (eqb (f .kind) 7 || (eqb (f .kind) 8 || eqb (f .needs) 0)) _ last in
+    let needs = and-left (eqb (f .kind) 5 || (eqb (f .kind) 7 || (eqb (f .kind) 8 || eqb (f .needs) 0))) _ last in
+    let spare = and-right (eqb (f .kind) 5 || (eqb (f .kind) 7 || (eqb (f .kind) 8 || eqb (f .needs) 0))) _ last in
     elim w [
       | inl p ↦ one-of-two (f .kind) 3 4 (f .other) other (p .0) (p .1) (p .2)
       | inr (inl p) ↦ or-cases (eqb (f .kind) 7) (eqb (f .class) 0) class (λ v. p .0 (eqb-true _ _ v)) (λ v. p .1 (eqb-true _ _ v))
-      | inr (inr (inl p)) ↦ one-of-two (f .kind) 7 8 (f .needs) needs (p .0) (p .1) (p .2)
+      | inr (inr (inl p)) ↦ or-cases (eqb (f .kind) 5) _ needs (λ v. p .0 (eqb-true _ _ v))
+          (λ v. one-of-two (f .kind) 7 8 (f .needs) v (p .1) (p .2) (p .3))
       | inr (inr (inr p)) ↦ p (eqb-true _ _ spare)
     ]
   where
@@ -115,6 +117,11 @@ unused-passes f e w =
 
 -- ---- the theorem
 
+-- a parent beyond the objects
+parent-fails : (n : ℕ) (f : Fields) → parentWithin n f ≡ false → (f .kind ≡ 5) × (n < f .needs)
+unfolding parentWithin
+parent-fails n f e = let q = implies-false (eqb (f .kind) 5) (leb (f .needs) n) e in (eqb-true _ _ (q .0), leb-false _ _ (q .1))
+
 form-fails : (p : Profile) (b : List ℕ) → fieldsFormed (fields b) ≡ false → MalformedBytes p b
 unfolding fieldsFormed
 form-fails p b e =
@@ -124,7 +131,8 @@ form-fails p b e =
     (λ w. and-false (ltb (f .actor) 16) _ w (λ v. actor-above (ltb-false _ 16 v))
     (λ v. and-false (ltb (f .other) 16) _ v (λ u. other-above (ltb-false _ 16 u))
     (λ u. and-false (ltb (f .object) 64) _ u (λ t. object-above (ltb-false _ 64 t))
-    (λ t. and-false (modeAllowed (f .kind) (f .mode)) _ t (λ r. mode-not-allowed (mode-fails _ _ r)) (λ r. unused-set (unused-fails f r))))))
+    (λ t. and-false (parentWithin 64 f) _ t (λ r. let q = parent-fails 64 f r in parent-above (q .0) (q .1))
+    (λ t. and-false (modeAllowed (f .kind) (f .mode)) _ t (λ r. mode-not-allowed (mode-fails _ _ r)) (λ r. unused-set (unused-fails f r)))))))
 
 within-fails : (p : Profile) (b : List ℕ) → within p (fields b) ≡ false → MalformedBytes p b
 unfolding within
@@ -133,20 +141,23 @@ within-fails p b e =
     and-false (ltb (f .actor) (p .subjects)) _ e (λ v. actor-outside (ltb-false _ _ v))
     (λ w. and-false (ltb (f .other) (p .subjects)) _ w (λ v. other-outside (ltb-false _ _ v))
     (λ u. and-false (ltb (f .object) (p .objects)) _ u (λ v. object-outside (ltb-false _ _ v))
+    (λ t. and-false (parentWithin (p .objects) f) _ t (λ r. let q = parent-fails (p .objects) f r in parent-outside (q .0) (q .1))
     (λ t.
-    let level = or-false (eqb (f .kind) 8) (levelInside p (levelOf f)) t in
-    ⊎-elim (λ (h : p .highest .class < f .class). class-outside h) (λ (h : NeedOutside p (f .needs)). need-outside (eqb-false _ _ (level .0)) h)
-    (level-outside p (levelOf f) (level .1)))))
+    let created = or-false (eqb (f .kind) 5) (eqb (f .kind) 8 || levelInside p (levelOf f)) t in
+    let level = or-false (eqb (f .kind) 8) (levelInside p (levelOf f)) (created .1) in
+    ⊎-elim (λ (h : p .highest .class < f .class). class-outside h)
+    (λ (h : NeedOutside p (f .needs)). need-outside (eqb-false _ _ (created .0)) (eqb-false _ _ (level .0)) h)
+    (level-outside p (levelOf f) (level .1))))))
 
 fields-fail : (p : Profile) (b : List ℕ) → wellFormed p (fields b) ≡ false → MalformedBytes p b
 unfolding wellFormed
 fields-fail p b e = and-false (fieldsFormed (fields b)) (within p (fields b)) e (form-fails p b) (within-fails p b)
 
--- kind 8 has no class
-no-class : (f : Fields) → eqb (f .kind) 8 ≡ true → unusedZero f ≡ true → f .class ≡ 0
+-- no kind but 7 has a class
+no-class : (f : Fields) → f .kind ≢ 7 → unusedZero f ≡ true → f .class ≡ 0
 no-class f k e =
     split (eqb (f .class) 0) (λ w. eqb-true _ _ w)
-    (λ w. absurd (unused-passes f e (inr (inl (λ z. absurd (omega (arith, z, eqb-true (f .kind) 8 k)), eqb-false _ _ w)))))
+    (λ w. absurd (unused-passes f e (inr (inl (k, eqb-false _ _ w)))))
 
 -- bytes that say a request are none of these
 pub says-not-malformed : (p : Profile) (b : List ℕ) (q : Request) → decode p b ≡ Says q → MalformedBytes p b → ⊥
@@ -168,10 +179,13 @@ says-not-malformed p b q e w =
       | actor-outside h ↦ absurd (omega (arith, h, I .actor))
       | other-outside h ↦ absurd (omega (arith, h, I .other))
       | object-outside h ↦ absurd (omega (arith, h, I .object))
-      | class-outside h ↦ split (eqb (f .kind) 8)
-          (λ k. absurd (omega (arith, h, no-class f k (and-right (modeAllowed (f .kind) (f .mode)) _ (last-two f F)))))
-          (λ k. level-not-outside p (levelOf f) (I .level k) (inl h))
-      | need-outside k h ↦ level-not-outside p (levelOf f) (I .level (not-eqb _ _ k)) (inr h)
+      | class-outside h ↦ split (eqb (f .kind) 7)
+          (λ k. let seven = eqb-true (f .kind) 7 k in
+          level-not-outside p (levelOf f) (I .level (ap (λ (j : ℕ). eqb j 5) seven) (ap (λ (j : ℕ). eqb j 8) seven)) (inl h))
+          (λ k. absurd (omega (arith, h, no-class f (eqb-false _ _ k) (and-right (modeAllowed (f .kind) (f .mode)) _ (last-two f F)))))
+      | need-outside j k h ↦ level-not-outside p (levelOf f) (I .level (not-eqb _ _ j) (not-eqb _ _ k)) (inr h)
+      | parent-above k h ↦ absurd (omega (arith, h, parent-in f F (eq-eqb _ _ k)))
+      | parent-outside k h ↦ absurd (omega (arith, h, I .parent (eq-eqb _ _ k)))
     ]
 
 pub malformed-exactly : (p : Profile) (b : List ℕ) → (decode p b ≡ Malformed) ↔ MalformedBytes p b

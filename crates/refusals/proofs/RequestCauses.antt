@@ -15,7 +15,7 @@ use Rattle.model.specs.declared.Mode.{Mode}
 use Rattle.model.specs.declared.Mode.the-variants.{Read, Write, Append, Execute}
 use Rattle.model.specs.declared.Request.{Request}
 use Rattle.model.specs.declared.Request.the-variants.{Get, Release, Give, Rescind, Create, Delete, ChangeLevel, SetCompanies}
-use Rattle.model.specs.declared.Decision.the-variants.{NotEnrolled, NotLive, AlreadyLive, NoRight, NoLabel, SimpleBroken, StarBroken, LabelLowered, WallBroken}
+use Rattle.model.specs.declared.Decision.the-variants.{NotEnrolled, NotLive, AlreadyLive, NoRight, NoLabel, SimpleBroken, StarBroken, LabelLowered, WallBroken, ParentNotLive, HierarchyBroken}
 use Rattle.model.specs.Tests.{implies}
 use Rattle.model.specs.Levels.{present, dominates, Dominates}
 use Rattle.model.specs.Modes.{has, observes, needsLabel}
@@ -27,6 +27,8 @@ use Rattle.model.proofs.Levels.{absent}
 use Rattle.model.proofs.Lowering.{not-lowered-decides}
 use Rattle.model.proofs.Tests.{apart, and-left, and-right, and-false, implies-out, implies-in, implies-false, not-on, not-off}
 use Rattle.model.proofs.After.{object-there, objects-after}
+use Rattle.invariants.proofs.Form.{no-modes}
+use Rattle.invariants.proofs.Pairs.{none-held}
 use Rattle.invariants.proofs.Secure.{simple-in, simple-out}
 use Rattle.invariants.proofs.Star.{star-in, star-for, star-of, star-get, star-all-in, star-all-out}
 use Rattle.invariants.proofs.Wall.{wall-in, wall-for, wall-of, wall-get, wall-all-in, wall-all-out}
@@ -34,6 +36,7 @@ use Rattle.invariants.specs.Sound.{Sound}
 use Rattle.invariants.proofs.Added.{simple-get-in, simple-get-out}
 use Rattle.refusals.specs.First.{AnswersFirst}
 use Rattle.refusals.specs.Causes.{NotIn, requestCauses}
+use Rattle.refusals.proofs.Hierarchy.{parent-there, parent-missing, change-rising, change-not-rising}
 use Rattle.refusals.proofs.First.{answers-end, answers-check}
 
 -- ---- what each test says of its cause
@@ -100,7 +103,7 @@ module _ (m : Monitor) (S : Sound m) where
 
   -- every row of accesses has sixteen sets
   rows-whole : (q : Request) → length (changed q (object m (target q)) .held) ≡ 16 → (o : ℕ) → length (object (afterwards q m) o .held) ≡ 16
-  rows-whole q e = objects-after (λ j ob. length (ob .held) ≡ 16) q m (λ j. S .formed .objects-formed j .shape .held-length) e
+  rows-whole q e = objects-after (λ j ob. length (ob .held) ≡ 16) q m (λ j. S .formed .objects-formed j .shape .held-length) (λ j. refl) e
 
   -- company numbers: the wall over all subjects
   wall-set-in : (s o n : ℕ) → wallAll (afterwards (SetCompanies s o n) m .objects) ≡ true → Wall (afterwards (SetCompanies s o n) m)
@@ -118,7 +121,7 @@ module _ (m : Monitor) (S : Sound m) where
     unfolding changed
     simple-change-in e t p y =
         objects-after (λ j ob. has y (heldBy ob t) ≡ true → observes y ≡ true → Dominates (clearance m t) (ob .label)) (ChangeLevel s o l) m
-        (λ j. S .secure .simple t j y)
+        (λ j. S .secure .simple t j y) (λ j e. none-held y _ (no-modes t) e)
         (simple-out (m .subjects) (withLabel (object m o) (Present l)) (S .formed .objects-formed o .shape .held-length) e t y) p
 
     simple-change-out : Simple (afterwards (ChangeLevel s o l) m) → simpleAll (m .subjects) (changed (ChangeLevel s o l) (object m o)) ≡ true
@@ -178,7 +181,8 @@ module _ (m : Monitor) (S : Sound m) where
   request-answers (Create s o c) r =
       answers-check _ NotEnrolled _ _ _ refl (not-absent (clearance m s)) (absent (clearance m s))
       (answers-check _ AlreadyLive _ _ _ refl (λ e w. apart w (not-on _ e)) (not-off _)
-      answers-end)
+      (answers-check _ ParentNotLive _ _ _ refl (parent-there m (c .parent)) (parent-missing m (c .parent))
+      answers-end))
   request-answers (Delete s o) r =
       answers-check _ NotEnrolled _ _ _ refl (not-absent (clearance m s)) (absent (clearance m s))
       (answers-check _ NotLive _ _ _ refl (λ e w. w e) fails
@@ -193,7 +197,8 @@ module _ (m : Monitor) (S : Sound m) where
       (λ e w. w (simple-change-in s o l (r .1) e)) (λ e T. fails e (simple-change-out s o l (r .1) T))
       (answers-check _ StarBroken _ _ _ refl
       (λ e w. w (star-change-in s o l (r .1) e)) (λ e T. fails e (star-all-in _ (star-for (afterwards (ChangeLevel s o l) m) T)))
-      answers-end)))))
+      (answers-check _ HierarchyBroken _ _ _ refl (change-rising m S s o l) (change-not-rising m S s o l)
+      answers-end))))))
   request-answers (SetCompanies s o n) r =
       answers-check _ NotEnrolled _ _ _ refl (not-absent (clearance m s)) (absent (clearance m s))
       (answers-check _ NotLive _ _ _ refl (λ e w. w e) fails
