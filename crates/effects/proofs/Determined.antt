@@ -21,7 +21,7 @@ use Rattle.effects.specs.Effects.{Created, Effect, SetsNumbers}
 pub created-one : (n k : Monitor) (s o : ℕ) (c : Creation) → WellFormed n → WellFormed k → Created n s o c → Created k s o c → object n o ≡ object k o
 created-one n k s o c N K A B =
     object-same (object n o) (object k o) (N .objects-formed o) (K .objects-formed o)
-    (A .live ∙ sym (B .live)) (A .owned ∙ sym (B .owned)) (A .unlabelled ∙ sym (B .unlabelled)) (A .no-company ∙ sym (B .no-company))
+    (A .live ∙ sym (B .live)) (A .owned ∙ sym (B .owned)) (A .under ∙ sym (B .under)) (A .unlabelled ∙ sym (B .unlabelled)) (A .no-company ∙ sym (B .no-company))
     (λ t h x. split (eqb t s)
     (λ e. subst (λ (j : ℕ). has x (rightsOf (object n o) j) ≡ has x (rightsOf (object k o) j)) (sym (eqb-true t s e)) (mine x))
     (λ e. ap (has x) (A .others t (λ z. apart (eq-eqb t s z) e) ∙ sym (B .others t (λ z. apart (eq-eqb t s z) e)))))

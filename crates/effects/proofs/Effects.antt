@@ -51,6 +51,7 @@ module _ (m : Monitor) (W : WellFormed m) where
         owned = ap (λ (k : Object). k .owner) e;
         unlabelled = ap (λ (k : Object). k .label) e;
         no-company = ap (λ (k : Object). k .companies) e;
+        under = ap (λ (k : Object). k .parent) e;
         read = ap (has Read) mine ∙ either (has Read) true v refl refl;
         write = ap (has Write) mine ∙ either (has Write) true v refl refl;
         append = ap (has Append) mine ∙ either (has Append) true v refl refl;

@@ -16,18 +16,20 @@ use Rattle.model.specs.declared.Decoded.the-variants.{Says}
 use Rattle.model.specs.declared.Decision.the-variants.{Granted}
 use Rattle.model.specs.declared.Response.{Response}
 use Rattle.model.specs.Modes.{has, add, remove}
-use Rattle.model.specs.State.{object, rightsOf, heldBy, WellFormed}
+use Rattle.model.specs.State.{objectCount, noObject, objectAt, object, rightsOf, heldBy, WellFormed}
+use Rattle.model.specs.Hierarchy.{parentAt, Below, below}
 use Rattle.model.specs.Requests.{decode}
-use Rattle.model.specs.Rules.{target, changed, checks, created, step}
+use Rattle.model.specs.Rules.{target, changed, spared, checks, created, step}
 use Rattle.model.specs.Runs.{respond, after}
-use Rattle.model.proofs.Tests.{set-all, split, apart, clash, not-on, and-both, or-right}
+use Rattle.model.proofs.Tests.{set-all, cond-all, split, apart, clash, not-on, and-both, or-right}
 use Rattle.model.proofs.Modes.{has-add, has-remove, sameMode, same-mode, held-add, held-remove}
-use Rattle.model.proofs.After.{object-there, objects-after}
+use Rattle.model.proofs.Hierarchy.{below-gone, meets-sound}
+use Rattle.model.proofs.After.{object-there}
 use Rattle.invariants.proofs.Granted.{granted-create}
 use Rattle.invariants.proofs.Steps.{step-all, step-granted, respond-all}
 use Rattle.invariants.proofs.Form.{no-modes}
 use Rattle.invariants.proofs.Pairs.{none-held}
-use Rattle.effects.specs.Effects.{GivesRight, TakesRight, GetsAccess, EndsAccess, ChangesLabel, SetsNumbers}
+use Rattle.effects.specs.Effects.{GivesRight, TakesRight, GetsAccess, EndsAccess, ChangesLabel, SetsNumbers, TakesAlong}
 
 -- no request changes a subject
 pub subjects-kept : (q : Request) (m : Monitor) → step q m .monitor .subjects ≡ m .subjects
@@ -41,16 +43,31 @@ subjects-kept-after (b ∷ bs) m =
     subjects-kept-after bs (respond b m .monitor)
     ∙ respond-all (λ (r : Response). r .monitor .subjects ≡ m .subjects) b m (λ e. refl) (λ q e. subjects-kept q m)
 
--- what holds of the record of object o, and of the record that a granted request on it makes, holds of it afterwards
-pub frame : (P : Object → Type 0) (q : Request) (m : Monitor) (o : ℕ) → P (object m o)
-    → (checks q m ≡ Granted → target q ≡ o → P (changed q (object m (target q)))) → P (object (step q m .monitor) o)
-frame P q m o p f =
-    step-all (λ n. P (object n o)) q m p
-    (λ g. objects-after (λ j ob. j ≡ o → P ob) q m (λ j e. subst (λ (k : ℕ). P (object m k)) (sym e) p) (f g) o refl)
+-- another object than that of the request is as it was, or a delete takes it along
+spared-or-taken : (P : Object → Type 0) (q : Request) (m : Monitor) (o : ℕ) → P (object m o) → (TakesAlong q m o → P noObject) → P (objectAt (spared q (m .objects)) o)
+spared-or-taken P (Get s t x) m o p z = p
+spared-or-taken P (Release s t x) m o p z = p
+spared-or-taken P (Give s u t x) m o p z = p
+spared-or-taken P (Rescind s u t x) m o p z = p
+spared-or-taken P (Create s t c) m o p z = p
+spared-or-taken P (Delete s t) m o p z =
+    subst P (sym (below-gone (m .objects) t o))
+    (cond-all P (below (m .objects) t o) noObject (object m o) (λ b. z (s, t, refl, meets-sound objectCount (m .objects) t (parentAt (m .objects) o) b)) (λ b. p))
+spared-or-taken P (ChangeLevel s t l) m o p z = p
+spared-or-taken P (SetCompanies s t k) m o p z = p
 
--- no record but that of the request's object changes
-pub others-kept : (q : Request) (m : Monitor) (o : ℕ) → o ≢ target q → object (step q m .monitor) o ≡ object m o
-others-kept q m o h = frame (λ (ob : Object). ob ≡ object m o) q m o refl (λ g e. absurd (h (sym e)))
+-- what holds of the record of object o, of the record that a granted request on it makes, and of no object where a delete takes it along, holds
+-- of it afterwards
+pub frame : (P : Object → Type 0) (q : Request) (m : Monitor) (o : ℕ) → P (object m o)
+    → (checks q m ≡ Granted → target q ≡ o → P (changed q (object m (target q)))) → (TakesAlong q m o → P noObject) → P (object (step q m .monitor) o)
+frame P q m o p f z =
+    step-all (λ n. P (object n o)) q m p
+    (λ g. set-all (λ j ob. j ≡ o → P ob) (spared q (m .objects)) (target q) _ noObject
+    (λ j e. subst (λ (k : ℕ). P (objectAt (spared q (m .objects)) k)) (sym e) (spared-or-taken P q m o p z)) (f g) o refl)
+
+-- no record changes but that of the request's object and, in a delete, of those below it
+pub others-kept : (q : Request) (m : Monitor) (o : ℕ) → o ≢ target q → (object (step q m .monitor) o ≡ object m o) ⊎ TakesAlong q m o
+others-kept q m o h = frame (λ (ob : Object). (ob ≡ object m o) ⊎ TakesAlong q m o) q m o (inl refl) (λ g e. absurd (h (sym e))) (λ t. inr t)
 
 -- a granted create finds an object that is not live
 pub create-finds : (s o : ℕ) (c : Creation) (m : Monitor) → checks (Create s o c) m ≡ Granted → object m o .live ≡ false
@@ -68,6 +85,18 @@ changed-owner (Create s o c) m live g e = apart live (create-finds s o c m g)
 changed-owner (Delete s o) m live g e = clash (sym e)
 changed-owner (ChangeLevel s o l) m live g e = refl
 changed-owner (SetCompanies s o k) m live g e = refl
+
+changed-parent : (q : Request) (m : Monitor) → object m (target q) .live ≡ true → checks q m ≡ Granted
+    → changed q (object m (target q)) .live ≡ true → changed q (object m (target q)) .parent ≡ object m (target q) .parent
+unfolding changed
+changed-parent (Get s o x) m live g e = refl
+changed-parent (Release s o x) m live g e = refl
+changed-parent (Give s t o x) m live g e = refl
+changed-parent (Rescind s t o x) m live g e = refl
+changed-parent (Create s o c) m live g e = apart live (create-finds s o c m g)
+changed-parent (Delete s o) m live g e = clash (sym e)
+changed-parent (ChangeLevel s o l) m live g e = refl
+changed-parent (SetCompanies s o k) m live g e = refl
 
 -- a row after a mode was added at u: what is there was there, or is that mode
 row-add : (row : List ℕ) (u : ℕ) (y x : Mode) → ((j : ℕ) → getD row j 0 < 16) → (t : ℕ) → has x (getD (set row u (add y (getD row u 0))) t 0) ≡ true
@@ -184,7 +213,13 @@ module _ (q : Request) (m : Monitor) (W : WellFormed m) (o : ℕ) (live : object
   pub owner-kept : object (step q m .monitor) o .owner ≡ object m o .owner
   owner-kept =
       frame (λ (ob : Object). ob .live ≡ true → ob .owner ≡ object m o .owner) q m o (λ e. refl)
-      (λ g e h. changed-owner q m (at-target e) g h ∙ ap (λ (k : ℕ). object m k .owner) e) stays
+      (λ g e h. changed-owner q m (at-target e) g h ∙ ap (λ (k : ℕ). object m k .owner) e) (λ t l. clash (sym l)) stays
+
+  -- and its parent
+  pub parent-kept : object (step q m .monitor) o .parent ≡ object m o .parent
+  parent-kept =
+      frame (λ (ob : Object). ob .live ≡ true → ob .parent ≡ object m o .parent) q m o (λ e. refl)
+      (λ g e h. changed-parent q m (at-target e) g h ∙ ap (λ (k : ℕ). object m k .parent) e) (λ t l. clash (sym l)) stays
 
   -- gains a right only by give
   pub right-by-give : (t : ℕ) (x : Mode) → has x (rightsOf (object (step q m .monitor) o) t) ≡ true
@@ -192,6 +227,7 @@ module _ (q : Request) (m : Monitor) (W : WellFormed m) (o : ℕ) (live : object
   right-by-give t x =
       frame (λ (ob : Object). has x (rightsOf ob t) ≡ true → (has x (rightsOf (object m o) t) ≡ true) ⊎ GivesRight q t o x) q m o (λ e. inl e)
       (λ g e h. subst (λ (k : ℕ). (has x (rightsOf (object m k) t) ≡ true) ⊎ GivesRight q t k x) e (changed-rights q m W (at-target e) g t x h))
+      (λ d e. none-held x _ (no-modes t) e)
 
   -- gains an access only by get
   pub access-by-get : (t : ℕ) (x : Mode) → has x (heldBy (object (step q m .monitor) o) t) ≡ true
@@ -199,6 +235,7 @@ module _ (q : Request) (m : Monitor) (W : WellFormed m) (o : ℕ) (live : object
   access-by-get t x =
       frame (λ (ob : Object). has x (heldBy ob t) ≡ true → (has x (heldBy (object m o) t) ≡ true) ⊎ GetsAccess q t o x) q m o (λ e. inl e)
       (λ g e h. subst (λ (k : ℕ). (has x (heldBy (object m k) t) ≡ true) ⊎ GetsAccess q t k x) e (changed-access q m W (at-target e) g t x h))
+      (λ d e. none-held x _ (no-modes t) e)
 
   -- loses a right only by rescind
   pub right-kept : (t : ℕ) (x : Mode) → has x (rightsOf (object m o) t) ≡ true
@@ -206,7 +243,7 @@ module _ (q : Request) (m : Monitor) (W : WellFormed m) (o : ℕ) (live : object
   right-kept t x h =
       frame (λ (ob : Object). ob .live ≡ true → (has x (rightsOf ob t) ≡ true) ⊎ TakesRight q t o x) q m o (λ l. inl h)
       (λ g e l. subst (λ (k : ℕ). (has x (rightsOf (changed q (object m (target q))) t) ≡ true) ⊎ TakesRight q t k x) e
-      (kept-right q m W (at-target e) g l t x (subst (λ (k : ℕ). has x (rightsOf (object m k) t) ≡ true) (sym e) h))) stays
+      (kept-right q m W (at-target e) g l t x (subst (λ (k : ℕ). has x (rightsOf (object m k) t) ≡ true) (sym e) h))) (λ d l. clash (sym l)) stays
 
   -- loses an access only by release or rescind
   pub access-kept : (t : ℕ) (x : Mode) → has x (heldBy (object m o) t) ≡ true
@@ -214,21 +251,21 @@ module _ (q : Request) (m : Monitor) (W : WellFormed m) (o : ℕ) (live : object
   access-kept t x h =
       frame (λ (ob : Object). ob .live ≡ true → (has x (heldBy ob t) ≡ true) ⊎ EndsAccess q t o x) q m o (λ l. inl h)
       (λ g e l. subst (λ (k : ℕ). (has x (heldBy (changed q (object m (target q))) t) ≡ true) ⊎ EndsAccess q t k x) e
-      (kept-access q m W (at-target e) g l t x (subst (λ (k : ℕ). has x (heldBy (object m k) t) ≡ true) (sym e) h))) stays
+      (kept-access q m W (at-target e) g l t x (subst (λ (k : ℕ). has x (heldBy (object m k) t) ≡ true) (sym e) h))) (λ d l. clash (sym l)) stays
 
   -- and changes its label only by change of level
   pub label-by-change : (object (step q m .monitor) o .label ≡ object m o .label) ⊎ ChangesLabel q o (object (step q m .monitor) o .label)
   label-by-change =
       frame (λ (ob : Object). ob .live ≡ true → (ob .label ≡ object m o .label) ⊎ ChangesLabel q o (ob .label)) q m o (λ e. inl refl)
       (λ g e h. subst (λ (k : ℕ). (changed q (object m (target q)) .label ≡ object m k .label) ⊎ ChangesLabel q k (changed q (object m (target q)) .label)) e
-      (changed-label q m (at-target e) g h)) stays
+      (changed-label q m (at-target e) g h)) (λ d l. clash (sym l)) stays
 
   -- and its company numbers only by kind 8
   pub companies-by-kind-8 : (object (step q m .monitor) o .companies ≡ object m o .companies) ⊎ SetsNumbers q o (object (step q m .monitor) o .companies)
   companies-by-kind-8 =
       frame (λ (ob : Object). ob .live ≡ true → (ob .companies ≡ object m o .companies) ⊎ SetsNumbers q o (ob .companies)) q m o (λ e. inl refl)
       (λ g e h. subst (λ (k : ℕ). (changed q (object m (target q)) .companies ≡ object m k .companies) ⊎ SetsNumbers q k (changed q (object m (target q)) .companies)) e
-      (changed-companies q m (at-target e) g h)) stays
+      (changed-companies q m (at-target e) g h)) (λ d l. clash (sym l)) stays
 
 -- after a granted create the record is what create says, whatever the slot held before
 pub create-fresh : (s o : ℕ) (c : Creation) (m : Monitor) → WellFormed m → o < 64 → checks (Create s o c) m ≡ Granted
@@ -236,41 +273,3 @@ pub create-fresh : (s o : ℕ) (c : Creation) (m : Monitor) → WellFormed m →
 unfolding changed
 create-fresh s o c m W h g =
     ap (λ (r : Response). object (r .monitor) o) (step-granted (Create s o c) m g) ∙ object-there (Create s o c) m W h
-
--- ---- the life of an object
-
--- what a request does to the life of object o: nothing, or it begins by a create of it, or it ends by a delete of it
-data Life (q : Request) (o : ℕ) (before behind : Bool) : Type 0 where
-  stays : behind ≡ before → Life q o before behind
-  begins : (s : ℕ) (c : Creation) → q ≡ Create s o c → behind ≡ true → Life q o before behind
-  ends : (s : ℕ) → q ≡ Delete s o → behind ≡ false → Life q o before behind
-
-changed-life : (q : Request) (ob : Object) → Life q (target q) (ob .live) (changed q ob .live)
-unfolding changed
-changed-life (Get s o x) ob = stays refl
-changed-life (Release s o x) ob = stays refl
-changed-life (Give s t o x) ob = stays refl
-changed-life (Rescind s t o x) ob = stays refl
-changed-life (Create s o c) ob = begins s c refl refl
-changed-life (Delete s o) ob = ends s refl refl
-changed-life (ChangeLevel s o l) ob = stays refl
-changed-life (SetCompanies s o k) ob = stays refl
-
-step-life : (q : Request) (m : Monitor) (o : ℕ) → Life q o (object m o .live) (object (step q m .monitor) o .live)
-step-life q m o =
-    frame (λ (ob : Object). Life q o (object m o .live) (ob .live)) q m o (stays refl)
-    (λ g e. subst (λ (k : ℕ). Life q k (object m k .live) (changed q (object m (target q)) .live)) e (changed-life q (object m (target q))))
-
--- whatever the bytes and the monitor: a live object ends only by a delete of it
-pub live-kept : (m : Monitor) (g : List ℕ) (o : ℕ) → object m o .live ≡ true
-    → (object (respond g m .monitor) o .live ≡ true) ⊎ ((s : ℕ) × (decode (m .profile) g ≡ Says (Delete s o)))
-live-kept m g o live =
-    respond-all (λ (r : Response). (object (r .monitor) o .live ≡ true) ⊎ ((s : ℕ) × (decode (m .profile) g ≡ Says (Delete s o)))) g m (λ e. inl live)
-    (λ q d. elim (step-life q m o) [ stays e ↦ inl (e ∙ live) | begins s c e f ↦ inl f | ends s e f ↦ inr (s, d ∙ ap Says e) ])
-
--- and one that is not live begins only by a create of it
-pub live-by-create : (m : Monitor) (g : List ℕ) (o : ℕ) → object m o .live ≡ false
-    → (object (respond g m .monitor) o .live ≡ false) ⊎ ((s : ℕ) × (c : Creation) × (decode (m .profile) g ≡ Says (Create s o c)))
-live-by-create m g o dead =
-    respond-all (λ (r : Response). (object (r .monitor) o .live ≡ false) ⊎ ((s : ℕ) × (c : Creation) × (decode (m .profile) g ≡ Says (Create s o c)))) g m (λ e. inl dead)
-    (λ q d. elim (step-life q m o) [ stays e ↦ inl (e ∙ dead) | begins s c e f ↦ inr (s, c, d ∙ ap Says e) | ends s e f ↦ inl f ])

@@ -36,7 +36,8 @@ use Rattle.invariants.proofs.Granted.{granted-change}
 use Rattle.invariants.proofs.Relabelling.{same-label-granted, first-label-granted}
 use Rattle.invariants.proofs.Steps.{step-granted, respond-all}
 use Rattle.images.proofs.Reached.{reached-after, sound-reached, respond-says}
-use Rattle.effects.proofs.Frames.{frame, create-finds, live-kept, subjects-kept-after}
+use Rattle.effects.proofs.Frames.{frame, create-finds, subjects-kept-after}
+use Rattle.effects.proofs.Lives.{DeletesWith, live-kept}
 
 -- a label, where there is one, is dominated by the later one
 Rises : Label → Label → Type 0
@@ -64,6 +65,7 @@ step-rises q m o live =
     frame (λ (ob : Object). ob .live ≡ true → Rises (object m o .label) (ob .label)) q m o (λ e. dominates-refl (object m o .label))
     (λ g e h. subst (λ (k : ℕ). Rises (object m k .label) (changed q (object m (target q)) .label)) e
     (changed-rises q m (subst (λ (k : ℕ). object m k .live ≡ true) (sym e) live) g h))
+    (λ t l. clash (sym l))
 
 respond-rises : (g : List ℕ) (m : Monitor) (o : ℕ) → object m o .live ≡ true → object (respond g m .monitor) o .live ≡ true
     → Rises (object m o .label) (object (respond g m .monitor) o .label)
@@ -72,14 +74,15 @@ respond-rises g m o live =
     respond-all (λ (r : Response). object (r .monitor) o .live ≡ true → Rises (object m o .label) (object (r .monitor) o .label)) g m
     (λ e h. dominates-refl (object m o .label)) (λ q e. step-rises q m o live)
 
--- whatever the bytes and the monitor: the label of a live object is dominated by the next one, or the bytes say a delete of the object
+-- whatever the bytes and the monitor: the label of a live object is dominated by the next one, or the bytes say a delete of the object or of one
+-- that it is below
 pub label-ends-by-delete : (m : Monitor) (g : List ℕ) (o : ℕ) → object m o .live ≡ true → object m o .label ≢ Absent
-    → Dominates (object (respond g m .monitor) o .label) (object m o .label) ⊎ ((s : ℕ) × (decode (m .profile) g ≡ Says (Delete s o)))
+    → Dominates (object (respond g m .monitor) o .label) (object m o .label) ⊎ DeletesWith g m o
 unfolding Rises
 label-ends-by-delete m g o live there = kept (live-kept m g o live)
   where
-    kept : (object (respond g m .monitor) o .live ≡ true) ⊎ ((s : ℕ) × (decode (m .profile) g ≡ Says (Delete s o)))
-        → Dominates (object (respond g m .monitor) o .label) (object m o .label) ⊎ ((s : ℕ) × (decode (m .profile) g ≡ Says (Delete s o)))
+    kept : (object (respond g m .monitor) o .live ≡ true) ⊎ DeletesWith g m o
+        → Dominates (object (respond g m .monitor) o .label) (object m o .label) ⊎ DeletesWith g m o
     kept (inl stays) = inl (respond-rises g m o live stays there)
     kept (inr ended) = inr ended
 
@@ -98,10 +101,10 @@ module _ (m : Monitor) (R : Reached m) (g : List ℕ) (o : ℕ) (l : Level) (say
   pub same-label-replies-1 : object m o .label ≡ Present l → reply g m ≡ 1
   same-label-replies-1 e = owner-reply true (same-label-granted m (sound-reached m R) o l live e) (label-same _ _ e)
 
-  -- "a first label is free"
-  pub first-label-replies-0 : object m o .label ≡ Absent → reply g m ≡ 0
+  -- "a first label is free", under a parent where it dominates that of the parent (change request §11)
+  pub first-label-replies-0 : object m o .label ≡ Absent → ((p : ℕ) → object m o .parent ≡ suc p → Dominates (Present l) (object m p .label)) → reply g m ≡ 0
   unfolding sameLabel
-  first-label-replies-0 e = owner-reply false (first-label-granted m (sound-reached m R) o l live e) (ap (λ (k : Label). sameLabel k (Present l)) e)
+  first-label-replies-0 e fits = owner-reply false (first-label-granted m (sound-reached m R) o l live e fits) (ap (λ (k : Label). sameLabel k (Present l)) e)
 
 -- ---- lists of requests
 

@@ -2,6 +2,7 @@
 pub mod Replies
 pub mod Gets
 pub mod Frames
+pub mod Lives
 pub mod Labels
 pub mod Companies
 pub mod Effects

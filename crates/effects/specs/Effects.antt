@@ -15,15 +15,17 @@ use Rattle.model.specs.declared.Request.{Request}
 use Rattle.model.specs.declared.Request.the-variants.{Get, Release, Give, Rescind, Create, Delete, ChangeLevel, SetCompanies}
 use Rattle.model.specs.Modes.{has}
 use Rattle.model.specs.State.{noObject, object, rightsOf, heldBy}
+use Rattle.model.specs.Hierarchy.{Below}
 use Rattle.model.specs.Properties.{Holds, Permits}
 
 -- "live, unlabelled, owned by the actor, who gains r, w, a, and e if mode is 4", and nobody else has or holds anything; the company numbers
--- "are 0 at creation" (change request §10)
+-- "are 0 at creation" (change request §10), and "Create carries the parent's number plus one" (change request §11)
 pub record Created (n : Monitor) (s o : ℕ) (c : Creation) : Type 0 where
   pub live : object n o .live ≡ true
   pub owned : object n o .owner ≡ s
   pub unlabelled : object n o .label ≡ Absent
   pub no-company : object n o .companies ≡ 0
+  pub under : object n o .parent ≡ c .parent
   pub read : Permits n s o Read
   pub write : Permits n s o Write
   pub append : Permits n s o Append
@@ -71,3 +73,7 @@ ChangesLabel q o a = (s : ℕ) × (l : Level) × (q ≡ ChangeLevel s o l) × (P
 -- it sets the company numbers of object o to k
 abbrev pub SetsNumbers : Request → ℕ → ℕ → Type 0
 SetsNumbers q o k = (s : ℕ) × (q ≡ SetCompanies s o k)
+
+-- it deletes an object that object o is below: "Deleting an object deletes everything below it" (change request §11)
+abbrev pub TakesAlong : Request → Monitor → ℕ → Type 0
+TakesAlong q m o = (s : ℕ) × (t : ℕ) × (q ≡ Delete s t) × Below (m .objects) t o

@@ -82,6 +82,14 @@ module _ (P : ℕ → ℕ → Type 0) (one : (j k y : ℕ) → P j y → P k y �
 
 -- ---- the tests decide
 
+-- what a test finds is met
+pub meets-sound : (n : ℕ) (l : List Object) (o p : ℕ) → meets n l o p ≡ true → Meets l o p
+unfolding meets
+meets-sound zero l o p e = clash (sym e)
+meets-sound (suc n) l o zero e = clash (sym e)
+meets-sound (suc n) l o (suc y) e =
+    or-cases (eqb y o) _ e (λ w. subst (λ (k : ℕ). Meets l o (suc k)) (sym (eqb-true y o w)) here) (λ w. further y (meets-sound n l o (parentAt l y) w))
+
 -- among the first n of a chain, and among more of it
 meets-more : (n : ℕ) (l : List Object) (o p : ℕ) → meets n l o p ≡ true → meets (suc n) l o p ≡ true
 unfolding meets
@@ -167,14 +175,8 @@ module _ (l : List Object) (short : length l ≤ objectCount) where
 
     pub meets-decides : (p : ℕ) → (meets objectCount l o p ≡ true) ↔ Meets l o p
     unfolding meets
-    meets-decides p = (sound objectCount p, λ h. let e = found p h in whole p (e .0) (e .1))
+    meets-decides p = (meets-sound objectCount l o p, λ h. let e = found p h in whole p (e .0) (e .1))
       where
-        sound : (n p : ℕ) → meets n l o p ≡ true → Meets l o p
-        sound zero p e = clash (sym e)
-        sound (suc n) zero e = clash (sym e)
-        sound (suc n) (suc y) e =
-            or-cases (eqb y o) _ e (λ w. subst (λ (k : ℕ). Meets l o (suc k)) (sym (eqb-true y o w)) here) (λ w. further y (sound n (parentAt l y) w))
-
         found : (p : ℕ) → Meets l o p → (n : ℕ) × (meets n l o p ≡ true)
         found p here = (1, or-left (eqb o o) _ (eq-eqb o o refl))
         found p (further y h) = let r = found (parentAt l y) h in (suc (r .0), or-right (eqb y o) _ (r .1))
