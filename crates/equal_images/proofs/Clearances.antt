@@ -2,7 +2,7 @@
 -- Assumes nothing.
 use Prim.Native.Nat.{ℕ, zero, suc, _<_, _≤_}
 use native.Mathlib.Omega.{arith}
-use mathlib.Core.Path.{_≡_, refl, sym, ap, _∙_, subst, subst₂}
+use mathlib.Core.Path.{_≡_, refl, sym, ap, _∙_, subst}
 use mathlib.Core.Logic.{⊎-elim}
 use mathlib.Core.Bool.{true, false, not, cond, _||_}
 use mathlib.Core.List.{List, [], _∷_}
@@ -21,14 +21,14 @@ use Rattle.model.specs.declared.Mode.the-variants.{Read}
 use Rattle.model.specs.declared.Request.{Request}
 use Rattle.model.specs.declared.Request.the-variants.{Get, Create, Delete, ChangeLevel}
 use Rattle.model.specs.declared.Decision.the-variants.{Granted, NotEnrolled, NotLive, NoRight, NoLabel, SimpleBroken, StarBroken, WallBroken}
-use Rattle.model.specs.declared.Response.{Response}
 use Rattle.model.specs.Tests.{implies, unless}
 use Rattle.model.specs.Levels.{compare, equalOrAbove, dominates, levelDominates, present}
 use Rattle.model.specs.Modes.{has}
 use Rattle.model.specs.State.{noModes, clearance, enrolled, object, rightsOf, withLabel, LevelFits, LabelFits}
 use Rattle.model.specs.Profiles.{LevelInside}
+use Rattle.model.specs.Hierarchy.{parentLive}
 use Rattle.model.specs.Requests.{creation}
-use Rattle.model.specs.Rules.{changed, afterwards, checks, created, starFor, step, wallFor}
+use Rattle.model.specs.Rules.{changed, afterwards, checks, created, starFor, wallFor}
 use Rattle.model.proofs.Tests.{pass, stop, not-stop, distinct, cond-all, or-false, le-or-lt}
 use Rattle.model.proofs.Tests as tests
 use Rattle.model.proofs.Levels.{level-refl}
@@ -38,21 +38,10 @@ use Rattle.telling.specs.Distinguish.{freeBelow, readAt, toClearance, byClearan
 use Rattle.equal_images.proofs.Answers.{comparison-all}
 use Rattle.invariants.proofs.Granted.{grants-create}
 use Rattle.invariants.proofs.Relabelling.{first-label-granted}
-use Rattle.invariants.proofs.Steps.{step-granted}
-use Rattle.equal_images.proofs.Objects.{tells-refusal, delete-granted}
+use Rattle.equal_images.proofs.Objects.{tells-refusal, delete-granted, delete-formed, after-granted}
 use Rattle.equal_images.specs.Inputs.{Formed, AllFormed}
 use Rattle.equal_images.proofs.Under.{Under, subject-in, clearance-in, under-afterwards}
-use Rattle.equal_images.proofs.Probes.{Differs, differs-sym, differs-first, differs-later, Probe, alike, apart}
-
--- the state that a granted request leaves
-left-by : (q : Request) (m : Monitor) → checks q m ≡ Granted → step q m .monitor ≡ afterwards q m
-left-by q m g = ap (λ (r : Response). r .monitor) (step-granted q m g)
-
--- two lists that differ after a request that both grant
-after-granted : (p : Profile) (q : Request) (qs : List Request) (m n : Monitor) → Under p m → Under p n → Formed p q → checks q m ≡ Granted → checks q n ≡ Granted
-    → Differs qs (afterwards q m) (afterwards q n) → Differs (q ∷ qs) m n
-after-granted p q qs m n S N f g h d =
-    differs-later p m n (S .profile) (N .profile) q qs f (subst₂ (Differs qs) (sym (left-by q m g)) (sym (left-by q n h)) d)
+use Rattle.equal_images.proofs.Probes.{Differs, differs-sym, differs-first, Probe, alike, apart}
 
 -- a subject, an object and a level that are in use under the profile
 record InUse (p : Profile) (s o : ℕ) (l : Level) : Type 0 where
@@ -66,8 +55,8 @@ record InUse (p : Profile) (s o : ℕ) (l : Level) : Type 0 where
 -- ---- subject s creates object o, labels it and asks to read it
 
 module _ (p : Profile) (s o : ℕ) (l : Level) (I : InUse p s o l) where
-  create-formed : Formed p (Create s o (creation false))
-  create-formed = ((I .s-below, I .o-below), (I .s-inside, I .o-inside))
+  create-formed : Formed p (Create s o (creation false 0))
+  create-formed = ((I .s-below, I .o-below, omega arith), (I .s-inside, I .o-inside, omega arith))
 
   change-formed : Formed p (ChangeLevel s o l)
   change-formed = ((I .s-below, I .o-below, I .fits), (I .s-inside, I .o-inside, I .l-inside))
@@ -76,22 +65,23 @@ module _ (p : Profile) (s o : ℕ) (l : Level) (I : InUse p s o l) where
   get-formed = ((I .s-below, I .o-below), (I .s-inside, I .o-inside))
 
   made : Monitor → Monitor
-  made m = afterwards (Create s o (creation false)) m
+  made m = afterwards (Create s o (creation false 0)) m
 
   ready : Monitor → Monitor
   ready m = afterwards (ChangeLevel s o l) (made m)
 
   module _ (m : Monitor) (S : Under p m) (there : enrolled m s ≡ true) (free : object m o .live ≡ false) where
-    create-granted : checks (Create s o (creation false)) m ≡ Granted
-    create-granted = grants-create m s o (creation false) (record { there = there; free = ap not free })
+    create-granted : checks (Create s o (creation false 0)) m ≡ Granted
+    unfolding parentLive
+    create-granted = grants-create m s o (creation false 0) (record { there = there; free = ap not free; parent = refl })
 
     under-made : Under p (made m)
     unfolding made
-    under-made = under-afterwards p m S (Create s o (creation false)) create-formed create-granted
+    under-made = under-afterwards p m S (Create s o (creation false 0)) create-formed create-granted
 
-    object-made : object (made m) o ≡ created s (creation false)
+    object-made : object (made m) o ≡ created s (creation false 0)
     unfolding made changed
-    object-made = object-there (Create s o (creation false)) m (S .sound .formed) (I .o-below)
+    object-made = object-there (Create s o (creation false 0)) m (S .sound .formed) (I .o-below)
 
     clearance-made : clearance (made m) s ≡ clearance m s
     unfolding made
@@ -100,13 +90,14 @@ module _ (p : Profile) (s o : ℕ) (l : Level) (I : InUse p s o l) where
     level-granted : checks (ChangeLevel s o l) (made m) ≡ Granted
     level-granted =
         subst (λ (w : ℕ). checks (ChangeLevel w o l) (made m) ≡ Granted) (ap (λ (k : Object). k .owner) object-made)
-        (first-label-granted (made m) (under-made .sound) o l (ap (λ (k : Object). k .live) object-made) (ap (λ (k : Object). k .label) object-made))
+        (first-label-granted (made m) (under-made .sound) o l (ap (λ (k : Object). k .live) object-made) (ap (λ (k : Object). k .label) object-made)
+        (λ q e. absurd (omega (arith, sym (ap (λ (k : Object). k .parent) object-made) ∙ e))))
 
     under-ready : Under p (ready m)
     unfolding ready
     under-ready = under-afterwards p (made m) under-made (ChangeLevel s o l) change-formed level-granted
 
-    object-ready : object (ready m) o ≡ withLabel (created s (creation false)) (Present l)
+    object-ready : object (ready m) o ≡ withLabel (created s (creation false 0)) (Present l)
     unfolding ready changed
     object-ready =
         object-there (ChangeLevel s o l) (made m) (under-made .sound .formed) (I .o-below)
@@ -133,10 +124,10 @@ module _ (p : Profile) (s o : ℕ) (l : Level) (I : InUse p s o l) where
   module _ (m n : Monitor) (S : Under p m) (N : Under p n) (here : enrolled m s ≡ true) (there : enrolled n s ≡ true)
       (free : object m o .live ≡ false) (empty : object n o .live ≡ false)
       (above : dominates (clearance m s) (Present l) ≡ true) (not-above : dominates (clearance n s) (Present l) ≡ false) where
-    tells-clearance : Differs (Create s o (creation false) ∷ ChangeLevel s o l ∷ Get s o Read ∷ []) m n
+    tells-clearance : Differs (Create s o (creation false 0) ∷ ChangeLevel s o l ∷ Get s o Read ∷ []) m n
     unfolding ready made
     tells-clearance =
-        after-granted p (Create s o (creation false)) _ m n S N create-formed (create-granted m S here free) (create-granted n N there empty)
+        after-granted p (Create s o (creation false 0)) _ m n S N create-formed (create-granted m S here free) (create-granted n N there empty)
         (after-granted p (ChangeLevel s o l) _ (made m) (made n) (under-made m S here free) (under-made n N there empty) change-formed (level-granted m S here free) (level-granted n N there empty)
         (differs-first p (ready m) (ready n) (under-ready m S here free .profile) (under-ready n N there empty .profile) (Get s o Read) [] get-formed
         (tells-refusal (Get s o Read) (ready m) (ready n) SimpleBroken refl
@@ -151,11 +142,6 @@ unfolding changed
 gone p m S o h w = ap (λ (k : Object). k .live) (object-there (Delete w o) m (S .sound .formed) h)
 
 module _ (p : Profile) (s o : ℕ) (l : Level) (I : InUse p s o l) where
-  delete-formed : (m : Monitor) → Under p m → object m o .live ≡ true → Formed p (Delete (object m o .owner) o)
-  delete-formed m S live =
-      let F = S .sound .formed .objects-formed o in
-      ((F .shape .owner-fits, I .o-below), (subject-in p m S (object m o .owner) (F .owner-enrolled live), I .o-inside))
-
   -- the owner that both have
   read-differs : (m n : Monitor) → Under p m → Under p n → object m o ≡ object n o → enrolled m s ≡ true → enrolled n s ≡ true
       → dominates (clearance m s) (Present l) ≡ true → dominates (clearance n s) (Present l) ≡ false → Differs (readAt m o s l) m n
@@ -165,7 +151,7 @@ module _ (p : Profile) (s o : ℕ) (l : Level) (I : InUse p s o l) where
       cond-all (λ (qs : List Request). Differs qs m n) (object m o .live) _ _
       (λ live.
       let live-too : object n o .live ≡ true = sym (ap (λ (k : Object). k .live) same) ∙ live in
-      let own : Formed p (Delete w o) = delete-formed m S live in
+      let own : Formed p (Delete w o) = delete-formed p m S o (I .o-below) live in
       let gm : checks (Delete w o) m ≡ Granted = delete-granted m (S .sound) o live in
       let gn : checks (Delete w o) n ≡ Granted =
       subst (λ (k : ℕ). checks (Delete k o) n ≡ Granted) (sym (ap (λ (k : Object). k .owner) same)) (delete-granted n (N .sound) o live-too) in
@@ -178,7 +164,7 @@ module _ (p : Profile) (s o : ℕ) (l : Level) (I : InUse p s o l) where
   unfolding readAt
   read-formed m S =
       cond-all (AllFormed p) (object m o .live) _ _
-      (λ live. (delete-formed m S live, (create-formed p s o l I, (change-formed p s o l I, (get-formed p s o l I, tt)))))
+      (λ live. (delete-formed p m S o (I .o-below) live, (create-formed p s o l I, (change-formed p s o l I, (get-formed p s o l I, tt)))))
       (λ free. (create-formed p s o l I, (change-formed p s o l I, (get-formed p s o l I, tt))))
 
   read-short : (m : Monitor) → length (readAt m o s l) ≤ 4
@@ -188,7 +174,7 @@ module _ (p : Profile) (s o : ℕ) (l : Level) (I : InUse p s o l) where
   read-same : (m n : Monitor) → object m o ≡ object n o → readAt n o s l ≡ readAt m o s l
   unfolding readAt
   read-same m n same =
-      ap (λ (k : Object). cond (k .live) (Delete (k .owner) o ∷ Create s o (creation false) ∷ ChangeLevel s o l ∷ Get s o Read ∷ []) (Create s o (creation false) ∷ ChangeLevel s o l ∷ Get s o Read ∷ []))
+      ap (λ (k : Object). cond (k .live) (Delete (k .owner) o ∷ Create s o (creation false 0) ∷ ChangeLevel s o l ∷ Get s o Read ∷ []) (Create s o (creation false 0) ∷ ChangeLevel s o l ∷ Get s o Read ∷ []))
       (sym same)
 
 -- ---- the search over clearances

@@ -1,7 +1,7 @@
 -- Demand 3: two images of monitors of one profile are equal in every byte exactly when every further list of requests draws the same replies from
 -- both. "Image equality is claimed between monitors of one profile" (change request §8).
 -- Assumes nothing.
-use Prim.Native.Nat.{ℕ, _≤_}
+use Prim.Native.Nat.{ℕ, _<_, _≤_}
 use mathlib.Core.Path.{_≡_, refl, sym, ap, _∙_}
 use mathlib.Core.Logic.{_↔_, _≢_}
 use mathlib.Core.List.{List, [], _∷_, map}
@@ -19,7 +19,7 @@ use Rattle.model.specs.Writing.{writing, written}
 use Rattle.model.specs.Beginnings.{Beginning, Accepted, left, Reached, AllBytes}
 use Rattle.model.proofs.Packing.{pack-bytes}
 use Rattle.model.proofs.Equal.{state-same}
-use Rattle.telling.specs.Distinguish.{search, byEnrolment, byObject, byClearance, distinguish}
+use Rattle.telling.specs.Distinguish.{orElse, search, byEnrolment, byLifeAndOwner, byParent, byStanding, byObject, byClearance, distinguish}
 use Rattle.invariants.specs.Sound.{Sound}
 use Rattle.images.proofs.Trips.{image-tells}
 use Rattle.images.specs.Tables.{beginningProfile}
@@ -27,20 +27,39 @@ use Rattle.images.proofs.Reached.{sound-reached, fills, reached-left, left-prof
 use Rattle.equal_images.specs.Inputs.{AllFormed}
 use Rattle.equal_images.proofs.Under.{Under}
 use Rattle.equal_images.proofs.Probes.{Differs, Probe, alike, apart, probe-map, probe-or, probe-search}
-use Rattle.equal_images.proofs.ObjectProbes.{probe-enrolment, probe-object}
+use Rattle.equal_images.proofs.ObjectProbes.{probe-enrolment, probe-life-and-owner, probe-object}
+use Rattle.equal_images.proofs.ParentProbes.{probe-parent}
 use Rattle.equal_images.proofs.Clearances.{probe-clearance}
 
 -- ---- the list that tells two states apart
+
+-- who is enrolled, what is live and who owns it, and what is under what, are the same
+pub record Standing (m n : Monitor) : Type 0 where
+  pub same : (s : ℕ) → s < 16 → enrolled m s ≡ enrolled n s
+  pub alive : (o : ℕ) → o < 64 → object m o .live ≡ object n o .live
+  pub owned : (o : ℕ) → o < 64 → object m o .owner ≡ object n o .owner
+  pub under : (o : ℕ) → o < 64 → object m o .parent ≡ object n o .parent
+
+pub probe-standing : (p : Profile) (m n : Monitor) → Under p m → Under p n → Probe p m n (byStanding m n) (Standing m n)
+unfolding byStanding
+probe-standing p m n S N =
+    probe-map p m n (byStanding m n) (λ t. record { same = t .0; alive = λ o h. t .1 .0 o h .0; owned = λ o h. t .1 .0 o h .1; under = t .1 .1 })
+    (probe-or p m n (search 16 (byEnrolment m n)) _
+    (probe-search p m n (λ s. enrolled m s ≡ enrolled n s) 16 (byEnrolment m n) (probe-enrolment p m n S N))
+    (λ same. probe-or p m n (search 64 (byLifeAndOwner m n)) (search 64 (byParent m n))
+    (probe-search p m n (λ o. (object m o .live ≡ object n o .live) × (object m o .owner ≡ object n o .owner)) 64 (byLifeAndOwner m n) (probe-life-and-owner p m n S N same))
+    (λ t. probe-search p m n (λ o. object m o .parent ≡ object n o .parent) 64 (byParent m n)
+    (probe-parent p m n S N same (λ o h. t o h .0) (λ o h. t o h .1)))))
 
 probe-under : (p : Profile) (m n : Monitor) → Under p m → Under p n → Probe p m n (distinguish m n) (m ≡ n)
 unfolding distinguish
 probe-under p m n S N =
     probe-map p m n (distinguish m n) (λ t. state-same m n (S .sound .formed) (N .sound .formed) (S .profile ∙ sym (N .profile)) (t .1 .1) (t .1 .0))
-    (probe-or p m n (search 16 (byEnrolment m n)) _
-    (probe-search p m n (λ s. enrolled m s ≡ enrolled n s) 16 (byEnrolment m n) (probe-enrolment p m n S N))
-    (λ same. probe-or p m n (search 64 (byObject m n)) (search 16 (byClearance m n))
-    (probe-search p m n (λ o. object m o ≡ object n o) 64 (byObject m n) (probe-object p m n S N same))
-    (λ objects. probe-search p m n (λ s. clearance m s ≡ clearance n s) 16 (byClearance m n) (probe-clearance p m n S N objects same))))
+    (probe-or p m n (byStanding m n) _ (probe-standing p m n S N)
+    (λ t. probe-or p m n (search 64 (byObject m n)) (search 16 (byClearance m n))
+    (probe-search p m n (λ o. object m o ≡ object n o) 64 (byObject m n)
+    (λ o h. probe-object p m n S N (t .same) o h (t .alive o h) (t .owned o h) (t .under o h)))
+    (λ objects. probe-search p m n (λ s. clearance m s ≡ clearance n s) 16 (byClearance m n) (probe-clearance p m n S N objects (t .same)))))
 
 probe-all : (m n : Monitor) → Sound m → Sound n → m .profile ≡ n .profile → Probe (m .profile) m n (distinguish m n) (m ≡ n)
 probe-all m n S N one = probe-under (m .profile) m n (record { sound = S; profile = refl }) (record { sound = N; profile = sym one })

@@ -3,9 +3,11 @@ pub mod Probes
 pub mod Under
 pub mod Objects
 pub mod ObjectProbes
+pub mod ParentProbes
 pub mod Answers
 pub mod Clearances
 pub mod Demand3
+pub mod ParentsApart
 pub mod ToldApart
 pub mod OneProfile
 pub mod CompaniesApart

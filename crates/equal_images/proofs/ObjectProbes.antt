@@ -13,7 +13,6 @@ use Rattle.model.specs.declared.Object.{Object}
 use Rattle.model.specs.declared.Profile.{Profile}
 use Rattle.model.specs.declared.Monitor.{Monitor}
 use Rattle.model.specs.declared.Mode.{Mode}
-use Rattle.model.specs.declared.Mode.the-variants.{Read}
 use Rattle.model.specs.declared.Request.{Request}
 use Rattle.model.specs.declared.Request.the-variants.{Get, Release, Delete, ChangeLevel, SetCompanies}
 use Rattle.model.specs.Levels.{present, sameLabel}
@@ -25,7 +24,7 @@ use Rattle.model.proofs.Tests.{split, clash, cond-true, cond-false, not-on, not
 use Rattle.model.proofs.Equal.{object-same}
 use Rattle.model.proofs.Tests as tests
 use Rattle.model.proofs.Levels.{same-label, label-same}
-use Rattle.telling.specs.Distinguish.{when, search, searchModes, byEnrolment, byLife, byOwner, toLabel, byLabel, byCompanies, byRight, byAccess, byObject}
+use Rattle.telling.specs.Distinguish.{when, search, searchModes, byEnrolment, byLife, byOwner, byLifeAndOwner, toLabel, byLabel, byCompanies, byRight, byAccess, byObject}
 use Rattle.equal_images.specs.Inputs.{Formed}
 use Rattle.equal_images.proofs.Under.{Under}
 use Rattle.equal_images.proofs.Probes.{Probe, alike, probe-map, probe-or, probe-search, probe-modes, probe-when, probe-differ}
@@ -59,11 +58,11 @@ module _ (p : Profile) (m n : Monitor) (S : Under p m) (N : Under p n) where
     probe-life : Probe p m n (byLife m n o) (object m o .live ≡ object n o .live)
     unfolding byLife Told
     probe-life =
-        probe-differ p m n (S .profile) (N .profile) (object m o .live) (object n o .live) (Release (cond (object m o .live) (object m o .owner) (object n o .owner)) o Read)
-        (λ a b. subst (λ (w : ℕ). Told (Release w o Read)) (sym (cond-true (object m o .live) _ _ a)) (tells-life p m n S N same o o-below a b))
+        probe-differ p m n (S .profile) (N .profile) (object m o .live) (object n o .live) (Delete (cond (object m o .live) (object m o .owner) (object n o .owner)) o)
+        (λ a b. subst (λ (w : ℕ). Told (Delete w o)) (sym (cond-true (object m o .live) _ _ a)) (tells-life p m n S N same o o-below a b))
         (λ a b.
         let t = tells-life p n m N S back o o-below b a in
-        subst (λ (w : ℕ). Told (Release w o Read)) (sym (cond-false (object m o .live) _ _ a)) (t .0, swap (t .1)))
+        subst (λ (w : ℕ). Told (Delete w o)) (sym (cond-false (object m o .live) _ _ a)) (t .0, swap (t .1)))
 
     module _ (alive : object m o .live ≡ object n o .live) where
       -- both are live, or both are no object
@@ -143,12 +142,16 @@ module _ (p : Profile) (m n : Monitor) (S : Under p m) (N : Under p n) where
           (λ a b. let t = tells-access p m n S N same o o-below a b s x h e g in (t .0, swap (t .1))) (λ w. tests.apart e (differs w ∙ g)))
           (λ e g. live-or-same (λ a b. tells-access p n m N S back o o-below b a s x h g e) (λ w. tests.apart g (sym (differs w) ∙ e)))))
 
-    pub probe-object : Probe p m n (byObject m n o) (object m o ≡ object n o)
+    pub probe-life-and-owner : Probe p m n (byLifeAndOwner m n o) ((object m o .live ≡ object n o .live) × (object m o .owner ≡ object n o .owner))
+    unfolding byLifeAndOwner
+    probe-life-and-owner = probe-or p m n (byLife m n o) (byOwner m n o) probe-life probe-owner
+
+    -- where life, owner and parent are the same, the rest of the object
+    pub probe-object : object m o .live ≡ object n o .live → object m o .owner ≡ object n o .owner → object m o .parent ≡ object n o .parent
+        → Probe p m n (byObject m n o) (object m o ≡ object n o)
     unfolding byObject
-    probe-object =
-        probe-map p m n (byObject m n o) (λ t. object-same (object m o) (object n o) (S .sound .formed .objects-formed o) (N .sound .formed .objects-formed o) (t .0) (t .1 .0) (t .1 .1 .0) (t .1 .1 .1 .0) (t .1 .1 .1 .1 .0) (t .1 .1 .1 .1 .1))
-        (probe-or p m n (byLife m n o) _ probe-life
-        (λ alive. probe-or p m n (byOwner m n o) _ (probe-owner alive)
-        (λ owned. probe-or p m n (byLabel m n o) _ (probe-label alive owned)
+    probe-object alive owned under =
+        probe-map p m n (byObject m n o) (λ t. object-same (object m o) (object n o) (S .sound .formed .objects-formed o) (N .sound .formed .objects-formed o) alive owned under (t .0) (t .1 .0) (t .1 .1 .0) (t .1 .1 .1))
+        (probe-or p m n (byLabel m n o) _ (probe-label alive owned)
         (λ l. probe-or p m n (byCompanies m n o) _ (probe-companies alive)
-        (λ c. probe-or p m n (search 16 (λ s. searchModes (byRight m n o s))) (search 16 (λ s. searchModes (byAccess m n o s))) (probe-rights alive) (λ r. probe-accesses alive))))))
+        (λ c. probe-or p m n (search 16 (λ s. searchModes (byRight m n o s))) (search 16 (λ s. searchModes (byAccess m n o s))) (probe-rights alive) (λ r. probe-accesses alive))))

@@ -2,9 +2,10 @@
 -- Assumes nothing.
 use Prim.Native.Nat.{ℕ, _<_, _≤_}
 use native.Mathlib.Omega.{arith}
-use mathlib.Core.Path.{_≡_, refl, sym, ap, _∙_, subst}
+use mathlib.Core.Path.{_≡_, refl, sym, ap, _∙_, subst, subst₂}
 use mathlib.Core.Logic.{_≢_}
 use mathlib.Core.Bool.{true, false, not}
+use mathlib.Core.List.{List, _∷_}
 use lib.ListN.{drop}
 use lib.Dec.{eqb, lit<}
 use borrow.Author.Tests.{eq-eqb, eqb-true, leb-true}
@@ -13,16 +14,16 @@ use Rattle.model.specs.declared.Label.the-variants.{Present}
 use Rattle.model.specs.declared.Profile.{Profile}
 use Rattle.model.specs.declared.Monitor.{Monitor}
 use Rattle.model.specs.declared.Mode.{Mode}
-use Rattle.model.specs.declared.Mode.the-variants.{Read}
 use Rattle.model.specs.declared.Request.{Request}
 use Rattle.model.specs.declared.Request.the-variants.{Get, Release, Delete, ChangeLevel, SetCompanies}
+use Rattle.model.specs.declared.Response.{Response}
 use Rattle.model.specs.declared.Decision.{Decision}
 use Rattle.model.specs.declared.Decision.the-variants.{Granted, NotEnrolled, NotLive, NoRight}
 use Rattle.model.specs.Levels.{sameLabel}
 use Rattle.model.specs.Modes.{has}
 use Rattle.model.specs.State.{enrolled, object, rightsOf, heldBy, LabelFits}
 use Rattle.model.specs.Decisions.{number, refuses}
-use Rattle.model.specs.Rules.{checkList, target, already, checks, owns, step}
+use Rattle.model.specs.Rules.{checkList, target, already, afterwards, checks, owns, step}
 use Rattle.model.proofs.Tests.{split, apart, pass, stop, distinct}
 use Rattle.model.proofs.Decisions.{number-inj}
 use Rattle.model.proofs.Modes.{has-none}
@@ -32,10 +33,11 @@ use Rattle.invariants.proofs.Granted.{grants-release, grants-delete}
 use Rattle.invariants.proofs.Relabelling.{same-label-granted}
 use Rattle.invariants.proofs.WallAdded.{same-companies-granted}
 use Rattle.invariants.specs.Sound.{Sound}
-use Rattle.invariants.proofs.Steps.{step-refused}
+use Rattle.invariants.proofs.Steps.{step-granted, step-refused}
 use Rattle.invariants.proofs.Outcomes.{step-cases}
 use Rattle.equal_images.specs.Inputs.{Formed}
 use Rattle.equal_images.proofs.Under.{Under, subject-in, object-in, first-in, label-in}
+use Rattle.equal_images.proofs.Probes.{Differs, differs-later}
 
 -- ---- replies that differ
 
@@ -65,8 +67,23 @@ delete-granted m S o live =
     grants-delete m (object m o .owner) o
     (record { there = S .formed .objects-formed o .owner-enrolled live; live = live; owned = eq-eqb (object m o .owner) _ refl })
 
+pub delete-formed : (p : Profile) (m : Monitor) → Under p m → (o : ℕ) → o < 64 → object m o .live ≡ true → Formed p (Delete (object m o .owner) o)
+delete-formed p m S o h live =
+    let F = S .sound .formed .objects-formed o in
+    ((F .shape .owner-fits, h), (subject-in p m S (object m o .owner) (F .owner-enrolled live), object-in p m S o live))
+
 pub release-granted : (m : Monitor) (s o : ℕ) (x : Mode) → enrolled m s ≡ true → object m o .live ≡ true → checks (Release s o x) m ≡ Granted
 release-granted m s o x e g = grants-release m s o x (record { there = e; live = g })
+
+-- two lists that differ after a request that both grant
+pub after-granted : (p : Profile) (q : Request) (qs : List Request) (m n : Monitor) → Under p m → Under p n → Formed p q → checks q m ≡ Granted → checks q n ≡ Granted
+    → Differs qs (afterwards q m) (afterwards q n) → Differs (q ∷ qs) m n
+after-granted p q qs m n S N f g h d =
+    differs-later p m n (S .profile) (N .profile) q qs f (subst₂ (Differs qs) (sym (left-by q m g)) (sym (left-by q n h)) d)
+  where
+    -- the state that a granted request leaves
+    left-by : (q : Request) (m : Monitor) → checks q m ≡ Granted → step q m .monitor ≡ afterwards q m
+    left-by q m g = ap (λ (r : Response). r .monitor) (step-granted q m g)
 
 -- ---- each difference of an object, from one state to the other
 
@@ -85,15 +102,14 @@ module _ (p : Profile) (m n : Monitor) (S : Under p m) (N : Under p n) where
     there s h e = sym (same s h) ∙ e
 
     pub tells-life : object m o .live ≡ true → object n o .live ≡ false
-        → Formed p (Release (object m o .owner) o Read) × (number (step (Release (object m o .owner) o Read) m .decision) ≢ number (step (Release (object m o .owner) o Read) n .decision))
+        → Formed p (Delete (object m o .owner) o) × (number (step (Delete (object m o .owner) o) m .decision) ≢ number (step (Delete (object m o .owner) o) n .decision))
     unfolding checks
     tells-life a b =
         let F = S .sound .formed .objects-formed o in
-        let w = object m o .owner in
-        let q = Release w o Read in (
-          ((F .shape .owner-fits, o-below), (subject-in p m S w (F .owner-enrolled a), object-in p m S o a)),
-          tells-refusal q m n NotLive refl (pass _ NotEnrolled _ (there w (F .shape .owner-fits) (F .owner-enrolled a)) ∙ stop _ NotLive _ b)
-              (λ e. distinct _ _ refl (sym (release-granted m w o Read (F .owner-enrolled a) a) ∙ e)),
+        let w = object m o .owner in (
+          delete-formed p m S o o-below a,
+          tells-refusal (Delete w o) m n NotLive refl (pass _ NotEnrolled _ (there w (F .shape .owner-fits) (F .owner-enrolled a)) ∙ stop _ NotLive _ b)
+              (λ e. distinct _ _ refl (sym (delete-granted m (S .sound) o a) ∙ e)),
         )
 
     module _ (a : object m o .live ≡ true) (b : object n o .live ≡ true) where
@@ -103,7 +119,7 @@ module _ (p : Profile) (m n : Monitor) (S : Under p m) (N : Under p n) where
       tells-owner h =
           let F = S .sound .formed .objects-formed o in
           let w = object m o .owner in (
-            ((F .shape .owner-fits, o-below), (subject-in p m S w (F .owner-enrolled a), object-in p m S o a)),
+            delete-formed p m S o o-below a,
             tells-refusal (Delete w o) m n NoRight refl
                 (pass _ NotEnrolled _ (there w (F .shape .owner-fits) (F .owner-enrolled a)) ∙ pass _ NotLive _ b ∙ stop _ NoRight _ (not-owned h))
                 (λ e. distinct _ _ refl (sym (delete-granted m (S .sound) o a) ∙ e)),

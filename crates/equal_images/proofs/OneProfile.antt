@@ -19,15 +19,16 @@ use Rattle.model.specs.Tests.{implies, unless}
 use Rattle.model.specs.Levels.{compare, levelDominates, dominates, sameLabel}
 use Rattle.model.specs.Modes.{has, add}
 use Rattle.model.specs.Profiles.{site, profileFits, labelInside, absentBeyond, levelsInside}
-use Rattle.model.specs.Requests.{fields, modeAllowed, unusedZero, fieldsFormed, within, wellFormed, request, creation, decodeFields, decode, pack, encode}
+use Rattle.model.specs.Requests.{fields, modeAllowed, unusedZero, parentWithin, fieldsFormed, within, wellFormed, request, creation, decodeFields, decode, pack, encode}
 use Rattle.model.specs.Companies.{company, compatible, confined}
+use Rattle.model.specs.Hierarchy.{meets, without, hasChild, parentLive, labelUnder, labelsRise}
 use Rattle.model.specs.Rules.{simpleAll, starPair, starFrom, starFor, starAll, notLowered, changed, already, checks, answer, step, wallPair, wallFrom, wallFor, wallAll}
 use Rattle.model.specs.Runs.{respond, replies}
-use Rattle.model.specs.Journal.{ask, asks, acted}
+use Rattle.model.specs.Journal.{entered, ask, asks, acted}
 use Rattle.model.specs.Layout.{imageSize, tableBits, objectsBits, imageBits, imageOf}
 use Rattle.model.specs.Reading.{labelFrom, labelForm, tableFrom, tableForm, tableChecks, begin, readTable}
 use Rattle.model.specs.Beginnings.{table, Accepted, left}
-use Rattle.telling.specs.Distinguish.{orElse, search, when, byEnrolment, byLife, byOwner, toLabel, byLabel, byCompanies, byRight, byAccess, byObject, freeBelow, readAt, toClearance, byClearance, distinguish}
+use Rattle.telling.specs.Distinguish.{orElse, search, when, byEnrolment, byLife, byOwner, byLifeAndOwner, byBelow, toParent, byParent, byStanding, toLabel, byLabel, byCompanies, byRight, byAccess, byObject, freeBelow, readAt, toClearance, byClearance, distinguish}
 
 abbrev level : ℕ → Level
 level class = record { class = class; needs = 0 }
@@ -56,27 +57,27 @@ pub objects-in-use : Accepted (table (oneSubject 1 0) low) × Accepted (table (o
     × (imageOf (begunLow (oneSubject 1 0) []) ≡ imageOf (begunLow (oneSubject 2 0) []))
     × (replies (map encode (Get 0 1 Read ∷ [])) (begunLow (oneSubject 1 0) []) ≡ 2 ∷ [])
     × (replies (map encode (Get 0 1 Read ∷ [])) (begunLow (oneSubject 2 0) []) ≡ 4 ∷ [])
-unfolding low bitsToBytes pack tableFrom tableForm labelForm labelFrom tableChecks profileFits absentBeyond levelsInside labelInside begin readTable allZero bytesToBits toBits odd cut fromBits field decode decodeFields fields wellFormed fieldsFormed within modeAllowed unusedZero request respond step replies acted ask checks already changed starAll starFor starFrom starPair wallAll wallFor wallFrom wallPair compatible confined company implies unless answer simpleAll has add notLowered sameLabel dominates levelDominates compare
+unfolding low bitsToBytes pack tableFrom tableForm labelForm labelFrom tableChecks profileFits absentBeyond levelsInside labelInside begin readTable allZero bytesToBits toBits odd cut fromBits field decode decodeFields fields wellFormed fieldsFormed within modeAllowed unusedZero parentWithin request respond step replies acted ask entered meets without hasChild parentLive labelUnder labelsRise checks already changed starAll starFor starFrom starPair wallAll wallFor wallFrom wallPair compatible confined company implies unless answer simpleAll has add notLowered sameLabel dominates levelDominates compare
 objects-in-use = (refl, refl, image-parts _ _ refl refl, refl, refl)
 
 -- highest class 0, and 1: after a create, a change of level to class 1 draws 2 from the one and 0 from the other
 pub class-in-use : Accepted (table (oneSubject 1 0) low) × Accepted (table (oneSubject 1 1) low)
-    × (imageOf (begunLow (oneSubject 1 0) (Create 0 0 (creation false) ∷ [])) ≡ imageOf (begunLow (oneSubject 1 1) (Create 0 0 (creation false) ∷ [])))
-    × (replies (map encode (ChangeLevel 0 0 (level 1) ∷ [])) (begunLow (oneSubject 1 0) (Create 0 0 (creation false) ∷ [])) ≡ 2 ∷ [])
-    × (replies (map encode (ChangeLevel 0 0 (level 1) ∷ [])) (begunLow (oneSubject 1 1) (Create 0 0 (creation false) ∷ [])) ≡ 0 ∷ [])
-unfolding low bitsToBytes pack tableFrom tableForm labelForm labelFrom tableChecks profileFits absentBeyond levelsInside labelInside begin readTable allZero bytesToBits toBits odd cut fromBits field decode decodeFields fields wellFormed fieldsFormed within modeAllowed unusedZero request respond step replies acted ask checks already changed starAll starFor starFrom starPair wallAll wallFor wallFrom wallPair compatible confined company implies unless answer simpleAll has add notLowered sameLabel dominates levelDominates compare
+    × (imageOf (begunLow (oneSubject 1 0) (Create 0 0 (creation false 0) ∷ [])) ≡ imageOf (begunLow (oneSubject 1 1) (Create 0 0 (creation false 0) ∷ [])))
+    × (replies (map encode (ChangeLevel 0 0 (level 1) ∷ [])) (begunLow (oneSubject 1 0) (Create 0 0 (creation false 0) ∷ [])) ≡ 2 ∷ [])
+    × (replies (map encode (ChangeLevel 0 0 (level 1) ∷ [])) (begunLow (oneSubject 1 1) (Create 0 0 (creation false 0) ∷ [])) ≡ 0 ∷ [])
+unfolding low bitsToBytes pack tableFrom tableForm labelForm labelFrom tableChecks profileFits absentBeyond levelsInside labelInside begin readTable allZero bytesToBits toBits odd cut fromBits field decode decodeFields fields wellFormed fieldsFormed within modeAllowed unusedZero parentWithin request respond step replies acted ask entered meets without hasChild parentLive labelUnder labelsRise checks already changed starAll starFor starFrom starPair wallAll wallFor wallFrom wallPair compatible confined company implies unless answer simpleAll has add notLowered sameLabel dominates levelDominates compare
 class-in-use = (refl, refl, image-parts _ _ refl refl, refl, refl)
 
 -- what subject 0 is asked in the only slot
 abbrev reading : List Request
-reading = Create 0 0 (creation false) ∷ ChangeLevel 0 0 (level 1) ∷ Get 0 0 Read ∷ []
+reading = Create 0 0 (creation false 0) ∷ ChangeLevel 0 0 (level 1) ∷ Get 0 0 Read ∷ []
 
 -- one subject and one object, and two clearances: three requests where the only slot is free, and four where it is live
 pub told-in-one-slot :
     (distinguish (left (table (oneSubject 1 1) low) []) (left (table (oneSubject 1 1) high) []) ≡ reading)
-    × (distinguish (left (table (oneSubject 1 1) low) (asks (encode (Create 0 0 (creation false))) ∷ [])) (left (table (oneSubject 1 1) high) (asks (encode (Create 0 0 (creation false))) ∷ []))
+    × (distinguish (left (table (oneSubject 1 1) low) (asks (encode (Create 0 0 (creation false 0))) ∷ [])) (left (table (oneSubject 1 1) high) (asks (encode (Create 0 0 (creation false 0))) ∷ []))
     ≡ Delete 0 0 ∷ reading)
     × (replies (map encode reading) (left (table (oneSubject 1 1) low) []) ≡ 0 ∷ 0 ∷ 8 ∷ [])
     × (replies (map encode reading) (left (table (oneSubject 1 1) high) []) ≡ 0 ∷ 0 ∷ 0 ∷ [])
-unfolding low high orElse search when byEnrolment byLife byOwner toLabel byLabel byCompanies byRight byAccess byObject freeBelow readAt toClearance byClearance distinguish bitsToBytes pack tableFrom tableForm labelForm labelFrom tableChecks profileFits absentBeyond levelsInside labelInside begin readTable allZero bytesToBits toBits odd cut fromBits field decode decodeFields fields wellFormed fieldsFormed within modeAllowed unusedZero request respond step replies acted ask checks already changed starAll starFor starFrom starPair wallAll wallFor wallFrom wallPair compatible confined company implies unless answer simpleAll has add notLowered sameLabel dominates levelDominates compare
+unfolding low high orElse search when byEnrolment byLife byOwner byLifeAndOwner byBelow toParent byParent byStanding toLabel byLabel byCompanies byRight byAccess byObject freeBelow readAt toClearance byClearance distinguish bitsToBytes pack tableFrom tableForm labelForm labelFrom tableChecks profileFits absentBeyond levelsInside labelInside begin readTable allZero bytesToBits toBits odd cut fromBits field decode decodeFields fields wellFormed fieldsFormed within modeAllowed unusedZero parentWithin request respond step replies acted ask entered meets without hasChild parentLive labelUnder labelsRise checks already changed starAll starFor starFrom starPair wallAll wallFor wallFrom wallPair compatible confined company implies unless answer simpleAll has add notLowered sameLabel dominates levelDominates compare
 told-in-one-slot = (refl, refl, refl, refl)

@@ -24,10 +24,11 @@ use Rattle.model.specs.Layout.{imageOf}
 use Rattle.model.specs.Reading.{imageChecks, monitorFrom, begin, readImage}
 use Rattle.model.specs.Beginnings.{image, Accepted}
 use Rattle.model.proofs.Tests.{cond-all, cond-false}
-use Rattle.telling.specs.Distinguish.{orElse, search, searchModes, when, byEnrolment, byLife, byOwner, toLabel, byLabel, byCompanies, byRight, byAccess, byObject, readAt, toClearance, byClearance, distinguish}
+use Rattle.telling.specs.Distinguish.{orElse, search, searchModes, when, toLabel, byLabel, byCompanies, byRight, byAccess, byObject, readAt, toClearance, byClearance, distinguish}
 use Rattle.equal_images.proofs.Answers.{comparison-all}
 use Rattle.images.proofs.Trips.{image-bytes-back}
 use Rattle.images.proofs.Reached.{sound-begun, begun-profile}
+use Rattle.equal_images.proofs.ParentsApart.{standing-short}
 use Rattle.equal_images.proofs.Demand3.{distinguishes, distinguishes-not}
 
 -- ---- never more than four requests, also for monitor records that no run reaches
@@ -61,13 +62,11 @@ module _ (m n : Monitor) where
   few-label s o (Present a) b = few-when _ _
 
   few-object : (o : ℕ) → Few (byObject m n o)
-  unfolding byObject byLife byOwner byLabel byCompanies byRight byAccess
+  unfolding byObject byLabel byCompanies byRight byAccess
   few-object o =
-      few-or _ _ (few-when _ _)
+      few-or _ _ (few-label _ o _ _)
       (few-or _ _ (few-when _ _)
-      (few-or _ _ (few-label _ o _ _)
-      (few-or _ _ (few-when _ _)
-      (few-or _ _ (few-search 16 _ (λ s. few-modes (byRight m n o s) (λ x. few-when _ _))) (few-search 16 _ (λ s. few-modes (byAccess m n o s) (λ x. few-when _ _)))))))
+      (few-or _ _ (few-search 16 _ (λ s. few-modes (byRight m n o s) (λ x. few-when _ _))) (few-search 16 _ (λ s. few-modes (byAccess m n o s) (λ x. few-when _ _)))))
 
 few-read : (m : Monitor) (o s : ℕ) (l : Level) → Few (readAt m o s l)
 unfolding readAt
@@ -81,9 +80,9 @@ few-clearance m s (Present a) (Present b) =
     comparison-all Few (compare a b) _ _ (λ e. omega arith) (λ e. few-read m _ s a) (λ e. few-read m _ s b) (λ e. few-read m _ s a)
 
 pub at-most-four : (m n : Monitor) → length (distinguish m n) ≤ 4
-unfolding distinguish byEnrolment byClearance
+unfolding distinguish byClearance
 at-most-four m n =
-    few-or _ _ (few-search 16 _ (λ s. few-when _ _))
+    few-or _ _ (omega (arith, standing-short m n))
     (few-or _ _ (few-search 64 _ (few-object m n)) (few-search 16 _ (λ s. few-clearance m s (clearance m s) (clearance n s))))
 
 -- ---- accepted images

@@ -98,7 +98,13 @@ meets-more (suc n) l o zero e = e
 meets-more (suc n) l o (suc y) e =
     or-cases (eqb y o) _ e (λ w. or-left (eqb y o) _ w) (λ w. or-right (eqb y o) _ (meets-more n l o (parentAt l y) w))
 
-ends-more : (n : ℕ) (l : List Object) (p : ℕ) → ends n l p ≡ true → ends (suc n) l p ≡ true
+-- a chain that ends has a number of objects
+pub ends-found : (l : List Object) (p : ℕ) → Ends l p → (n : ℕ) × (ends n l p ≡ true)
+unfolding ends
+ends-found l p none = (0, refl)
+ends-found l p (onward z h) = let r = ends-found l (parentAt l z) h in (suc (r .0), r .1)
+
+pub ends-more : (n : ℕ) (l : List Object) (p : ℕ) → ends n l p ≡ true → ends (suc n) l p ≡ true
 unfolding ends
 ends-more zero l zero e = refl
 ends-more zero l (suc y) e = clash (sym e)
@@ -206,17 +212,13 @@ module _ (l : List Object) (short : length l ≤ objectCount) where
 
     pub ends-decides : (y : ℕ) → y < objectCount → (ends objectCount l (suc y) ≡ true) ↔ Ends l (suc y)
     unfolding ends EndsAt
-    ends-decides y b = (sound objectCount (suc y), λ h. let e = found (suc y) h in soon (e .0) (e .1))
+    ends-decides y b = (sound objectCount (suc y), λ h. let e = ends-found l (suc y) h in soon (e .0) (e .1))
       where
         sound : (n p : ℕ) → ends n l p ≡ true → Ends l p
         sound zero zero e = none
         sound zero (suc z) e = clash (sym e)
         sound (suc n) zero e = none
         sound (suc n) (suc z) e = onward z (sound n (parentAt l z) e)
-
-        found : (p : ℕ) → Ends l p → (n : ℕ) × (ends n l p ≡ true)
-        found p none = (0, refl)
-        found p (onward z h) = let r = found (parentAt l z) h in (suc (r .0), r .1)
 
         none-first : ends 0 l (suc y) ≡ false
         none-first = refl

@@ -16,6 +16,7 @@ pub mod Lists
 pub mod Equal
 pub mod Records
 pub mod Hierarchy
+pub mod Chains
 pub mod After
 pub mod Children
 pub mod Examples

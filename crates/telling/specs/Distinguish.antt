@@ -17,6 +17,7 @@ use Rattle.model.specs.declared.Request.the-variants.{Get, Release, Create, Del
 use Rattle.model.specs.Levels.{compare, sameLabel}
 use Rattle.model.specs.Modes.{has}
 use Rattle.model.specs.State.{subjectCount, objectCount, clearance, enrolled, object, rightsOf, heldBy}
+use Rattle.model.specs.Hierarchy.{below}
 use Rattle.model.specs.Requests.{creation}
 
 -- ---- the first list that is not empty
@@ -52,13 +53,32 @@ module _ (m n : Monitor) where
   unfoldable pub byEnrolment : ℕ → List Request
   byEnrolment s = when (differ (enrolled m s) (enrolled n s)) (Delete s 0)
 
-  -- live in one only: a release, 4 or not
+  -- live in one only: a delete by its owner, 4 or not
   unfoldable pub byLife : ℕ → List Request
-  byLife o = when (differ (object m o .live) (object n o .live)) (Release (cond (object m o .live) (object m o .owner) (object n o .owner)) o Read)
+  byLife o = when (differ (object m o .live) (object n o .live)) (Delete (cond (object m o .live) (object m o .owner) (object n o .owner)) o)
 
   -- another owner: a delete by one of them, 6 or not
   unfoldable pub byOwner : ℕ → List Request
   byOwner o = when (not (eqb (object m o .owner) (object n o .owner))) (Delete (object m o .owner) o)
+
+  unfoldable pub byLifeAndOwner : ℕ → List Request
+  byLifeAndOwner o = orElse (byLife o) (byOwner o)
+
+  -- object y is below object x in one only (change request §11): the owner of x deletes it and creates y again, 5 or not
+  unfoldable pub byBelow : ℕ → ℕ → List Request
+  byBelow x y =
+      cond (differ (below (m .objects) x y) (below (n .objects) x y))
+      (Delete (object m x .owner) x ∷ Create (object m x .owner) y (creation false 0) ∷ []) []
+
+  -- another parent, "number plus one or 0": one of the two parents is above object o in one only, or the one parent is above the other in one only
+  unfoldable pub toParent : ℕ → ℕ → ℕ → List Request
+  toParent o zero zero = []
+  toParent o zero (suc q) = byBelow q o
+  toParent o (suc p) zero = byBelow p o
+  toParent o (suc p) (suc q) = cond (eqb p q) [] (orElse (byBelow p o) (orElse (byBelow q o) (byBelow q p)))
+
+  unfoldable pub byParent : ℕ → List Request
+  byParent o = toParent o (object m o .parent) (object n o .parent)
 
   -- another label
   unfoldable pub byLabel : ℕ → List Request
@@ -79,8 +99,12 @@ module _ (m n : Monitor) where
 
   unfoldable pub byObject : ℕ → List Request
   byObject o =
-      orElse (byLife o) (orElse (byOwner o) (orElse (byLabel o) (orElse (byCompanies o)
-      (orElse (search subjectCount (λ s. searchModes (byRight o s))) (search subjectCount (λ s. searchModes (byAccess o s)))))))
+      orElse (byLabel o) (orElse (byCompanies o)
+      (orElse (search subjectCount (λ s. searchModes (byRight o s))) (search subjectCount (λ s. searchModes (byAccess o s)))))
+
+  -- who is enrolled, what is live and who owns it, and what is under what: by deletions and creations alone
+  unfoldable pub byStanding : List Request
+  byStanding = orElse (search subjectCount byEnrolment) (orElse (search objectCount byLifeAndOwner) (search objectCount byParent))
 
 -- the last object below k that is neither live nor outside the profile (change request §8), 0 where there is none
 unfoldable pub freeBelow : ℕ → Monitor → ℕ
@@ -90,8 +114,8 @@ freeBelow (suc k) m = cond (object m k .live || leb (m .profile .objects) k) (fr
 -- the owner makes room where none is; then the subject creates an object, labels it and asks to read it
 unfoldable pub readAt : Monitor → ℕ → ℕ → Level → List Request
 readAt m o s l =
-    cond (object m o .live) (Delete (object m o .owner) o ∷ Create s o (creation false) ∷ ChangeLevel s o l ∷ Get s o Read ∷ [])
-    (Create s o (creation false) ∷ ChangeLevel s o l ∷ Get s o Read ∷ [])
+    cond (object m o .live) (Delete (object m o .owner) o ∷ Create s o (creation false 0) ∷ ChangeLevel s o l ∷ Get s o Read ∷ [])
+    (Create s o (creation false 0) ∷ ChangeLevel s o l ∷ Get s o Read ∷ [])
 
 -- of two lists, one for each of two levels: that of a level which the other does not dominate, the first where both are so; none where they are equal
 abbrev pub byComparison : Comparison → List Request → List Request → List Request
@@ -110,6 +134,6 @@ toClearance m s (Present a) (Present b) =
 unfoldable pub byClearance : Monitor → Monitor → ℕ → List Request
 byClearance m n s = toClearance m s (clearance m s) (clearance n s)
 
--- first who is enrolled, then the objects, and where these are equal the clearances
+-- first what deletions and creations tell, then the rest of the objects, and where these are equal the clearances
 unfoldable pub distinguish : Monitor → Monitor → List Request
-distinguish m n = orElse (search subjectCount (byEnrolment m n)) (orElse (search objectCount (byObject m n)) (search subjectCount (byClearance m n)))
+distinguish m n = orElse (byStanding m n) (orElse (search objectCount (byObject m n)) (search subjectCount (byClearance m n)))
