@@ -16,12 +16,11 @@ use Rattle.model.specs.declared.Decision.the-variants.{Granted, NotEnrolled, No
 use Rattle.model.specs.Tests.{firstFailing}
 use Rattle.model.specs.Levels.{present}
 use Rattle.model.specs.Modes.{has}
-use Rattle.model.specs.State.{clearanceAt, enrolled, object, rightsOf}
+use Rattle.model.specs.State.{noObject, clearanceAt, enrolled, object, rightsOf}
 use Rattle.model.specs.Requests.{InRange, Within}
 use Rattle.model.specs.Rules.{target, owns, mayGive, changed, afterwards, checks}
 use Rattle.model.proofs.Tests.{set-all, split, and-left, and-right}
 use Rattle.model.proofs.Modes.{add-same}
-use Rattle.model.proofs.After.{objects-after}
 use Rattle.invariants.specs.Sound.{Sound}
 use Rattle.invariants.proofs.Granted.{granted-give}
 use Rattle.invariants.proofs.Inside.{give-within, release-within}
@@ -30,10 +29,11 @@ use Rattle.request_orders.specs.RightsLists.{GiveOrRelease, give, releas
 use Rattle.request_orders.proofs.Commuting.{Commuting}
 use Rattle.request_orders.proofs.Updates.{gives-comm, releases-comm, give-release-comm}
 
--- an object with the same life, owner, label and company numbers, whose owner has the same rights
+-- an object with the same life, owner, parent, label and company numbers, whose owner has the same rights
 pub record SameOwner (a b : Object) : Type 0 where
   pub live : a .live ≡ b .live
   pub owner : a .owner ≡ b .owner
+  pub parent : a .parent ≡ b .parent
   pub label : a .label ≡ b .label
   pub companies : a .companies ≡ b .companies
   pub rights : rightsOf a (b .owner) ≡ rightsOf b (b .owner)
@@ -83,13 +83,18 @@ module _ (m : Monitor) where
       record {
         live = E .live;
         owner = E .owner;
+        parent = E .parent;
         label = E .label;
         companies = E .companies;
         rights = set-all (λ j k. j ≡ object m o .owner → k ≡ rightsOf (object m o) (object m o .owner)) (object n o .rights) t _ 0
             (λ j e. ap (rightsOf (object n o)) e ∙ E .rights)
             (λ e. add-same x _ (had t e) ∙ ap (rightsOf (object n o)) e ∙ E .rights) (object m o .owner) refl;
       }
-  owner-keeps _ n (release s o x) P g = let E = P .objects o in record { live = E .live; owner = E .owner; label = E .label; companies = E .companies; rights = E .rights }
+  owner-keeps _ n (release s o x) P g = let E = P .objects o in record { live = E .live; owner = E .owner; parent = E .parent; label = E .label; companies = E .companies; rights = E .rights }
+
+  same-owners : (q : Request) (n : Monitor) → GiveOrRelease q → OwnersKept m n → checks q n ≡ Granted → (o : ℕ) → SameOwner (object (afterwards q n) o) (object m o)
+  same-owners _ n (give s t o x) P g = set-all (λ j ob. SameOwner ob (object m j)) (n .objects) o _ noObject (P .objects) (owner-keeps _ n (give s t o x) P g)
+  same-owners _ n (release s o x) P g = set-all (λ j ob. SameOwner ob (object m j)) (n .objects) o _ noObject (P .objects) (owner-keeps _ n (release s o x) P g)
 
   owners-kept : (q : Request) (n : Monitor) → Ranged q → OwnersKept m n → checks q n ≡ Granted → OwnersKept m (afterwards q n)
   owners-kept q n w P g =
@@ -97,7 +102,7 @@ module _ (m : Monitor) where
         sound = sound-afterwards q n (w .0) (within q (w .1) g) (P .sound) g;
         profile = P .profile;
         subjects = P .subjects;
-        objects = objects-after (λ j ob. SameOwner ob (object m j)) q n (P .objects) (owner-keeps q n (w .1) P g);
+        objects = same-owners q n (w .1) P g;
       }
     where
       within : (q : Request) → GiveOrRelease q → checks q n ≡ Granted → Within (n .profile) q
@@ -114,7 +119,7 @@ module _ (m : Monitor) where
   pub rights-commuting : Sound m → Commuting m (OwnersKept m) Ranged
   rights-commuting S =
       record {
-        start = record { sound = S; profile = refl; subjects = refl; objects = λ o. record { live = refl; owner = refl; label = refl; companies = refl; rights = refl } };
+        start = record { sound = S; profile = refl; subjects = refl; objects = λ o. record { live = refl; owner = refl; parent = refl; label = refl; companies = refl; rights = refl } };
         profile = λ n P. P .profile;
         keeps = owners-kept;
         alone = λ q n w P. let e = same-checks q n (w .1) P in (λ g. sym e ∙ g, λ g. e ∙ g);

@@ -45,6 +45,7 @@ module _ (m : Monitor) (r : Reached m) (bs : List (List ℕ)) (p : Each (Nothing
         owners = λ o. refl;
         labels = λ o. refl;
         numbers = λ o. refl;
+        parents = λ o. refl;
       }
 
   -- whatever of a list comes again, in whatever order and however often, changes nothing

@@ -189,6 +189,7 @@ rights-left m r bs p cs c =
       owners = λ o. K .objects o .owner;
       labels = λ o. K .objects o .label;
       numbers = λ o. K .objects o .companies;
+      parents = λ o. K .objects o .parent;
     }
 
 -- and that is all of the state: two well-formed states of which it is so are one
@@ -196,7 +197,7 @@ pub left-one : (bs : List (List ℕ)) (m n k : Monitor) → WellFormed n → Wel
 left-one bs m n k N K L M =
     state-same n k N K (L .profile ∙ sym (M .profile)) (λ s h. ap (λ (l : List Subject). clearanceAt l s) (L .subjects ∙ sym (M .subjects)))
     (λ o h. object-same (object n o) (object k o) (N .objects-formed o) (K .objects-formed o)
-    (L .lives o ∙ sym (M .lives o)) (L .owners o ∙ sym (M .owners o)) (L .labels o ∙ sym (M .labels o)) (L .numbers o ∙ sym (M .numbers o))
+    (L .lives o ∙ sym (M .lives o)) (L .owners o ∙ sym (M .owners o)) (L .parents o ∙ sym (M .parents o)) (L .labels o ∙ sym (M .labels o)) (L .numbers o ∙ sym (M .numbers o))
     (λ t h x. bool-ext _ _ (λ e. M .rights t o x .1 (L .rights t o x .0 e)) (λ e. L .rights t o x .1 (M .rights t o x .0 e)))
     (λ s h x. bool-ext _ _ (λ e. M .accesses s o x .1 (L .accesses s o x .0 e)) (λ e. L .accesses s o x .1 (M .accesses s o x .0 e))))
 

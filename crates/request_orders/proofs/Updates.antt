@@ -8,14 +8,14 @@ use mathlib.Core.List.{List, [], _∷_}
 use lib.ListN.{getD, set}
 use lib.Dec.{eqb}
 use borrow.Author.Tests.{eqb-true}
+use Rattle.model.specs.declared.Object.{Object}
 use Rattle.model.specs.declared.Monitor.{Monitor}
 use Rattle.model.specs.declared.Mode.{Mode}
-use Rattle.model.specs.declared.Request.{Request}
 use Rattle.model.specs.declared.Request.the-variants.{Get, Release, Give}
 use Rattle.model.specs.Tests.{allBelow}
 use Rattle.model.specs.Modes.{has, add, remove}
 use Rattle.model.specs.State.{noObject, object, withRows, WellFormed}
-use Rattle.model.specs.Rules.{target, changed, afterwards}
+use Rattle.model.specs.Rules.{changed, afterwards}
 use Rattle.model.proofs.Tests.{below-out}
 use Rattle.model.proofs.Modes.{allModes, modes-out}
 
@@ -54,19 +54,22 @@ row-comm f g row s t fits c = update-comm f g 0 row s t (λ e. c _ (fits s))
 
 -- ---- states
 
--- two requests are the same in both orders, where they are at the record that both meet
-objects-comm : (q r : Request) (m : Monitor)
-    → (target q ≡ target r → changed q (changed r (object m (target q))) ≡ changed r (changed q (object m (target q))))
-    → afterwards q (afterwards r m) ≡ afterwards r (afterwards q m)
-objects-comm q r m h =
-    let p = update-comm (changed q) (changed r) noObject (m .objects) (target q) (target r) h in
-    λ i. record { profile = m .profile; subjects = m .subjects; objects = p i }
+-- the record of object o becomes what f makes of it; each of these kinds does that
+abbrev remade : (Object → Object) → ℕ → Monitor → Monitor
+remade f o m = record { profile = m .profile; subjects = m .subjects; objects = update f noObject (m .objects) o }
+
+-- two of them are the same in both orders, where they are at the record that both meet
+objects-comm : (f g : Object → Object) (o p : ℕ) (m : Monitor) → (o ≡ p → f (g (object m o)) ≡ g (f (object m o)))
+    → remade f o (remade g p m) ≡ remade g p (remade f o m)
+objects-comm f g o p m h =
+    let same = update-comm f g noObject (m .objects) o p h in
+    λ i. record { profile = m .profile; subjects = m .subjects; objects = same i }
 
 -- a give changes rights and a release accesses
 pub give-release-comm : (m : Monitor) (a s o : ℕ) (x : Mode) (t p : ℕ) (y : Mode)
     → afterwards (Give a s o x) (afterwards (Release t p y) m) ≡ afterwards (Release t p y) (afterwards (Give a s o x) m)
 unfolding changed
-give-release-comm m a s o x t p y = objects-comm (Give a s o x) (Release t p y) m (λ e. refl)
+give-release-comm m a s o x t p y = objects-comm (changed (Give a s o x)) (changed (Release t p y)) o p m (λ e. refl)
 
 module _ (m : Monitor) (W : WellFormed m) where
   pub gets-comm : (s o : ℕ) (x : Mode) (t p : ℕ) (y : Mode)
@@ -75,7 +78,7 @@ module _ (m : Monitor) (W : WellFormed m) where
   gets-comm s o x t p y =
       let ob = object m o in
       let row = row-comm (add x) (add y) (ob .held) s t (W .objects-formed o .shape .held-fit) (add-comm x y) in
-      objects-comm (Get s o x) (Get t p y) m (λ e i. withRows ob (ob .rights) (row i))
+      objects-comm (changed (Get s o x)) (changed (Get t p y)) o p m (λ e i. withRows ob (ob .rights) (row i))
 
   pub releases-comm : (s o : ℕ) (x : Mode) (t p : ℕ) (y : Mode)
       → afterwards (Release s o x) (afterwards (Release t p y) m) ≡ afterwards (Release t p y) (afterwards (Release s o x) m)
@@ -83,7 +86,7 @@ module _ (m : Monitor) (W : WellFormed m) where
   releases-comm s o x t p y =
       let ob = object m o in
       let row = row-comm (remove x) (remove y) (ob .held) s t (W .objects-formed o .shape .held-fit) (remove-comm x y) in
-      objects-comm (Release s o x) (Release t p y) m (λ e i. withRows ob (ob .rights) (row i))
+      objects-comm (changed (Release s o x)) (changed (Release t p y)) o p m (λ e i. withRows ob (ob .rights) (row i))
 
   pub gives-comm : (a s o : ℕ) (x : Mode) (b t p : ℕ) (y : Mode)
       → afterwards (Give a s o x) (afterwards (Give b t p y) m) ≡ afterwards (Give b t p y) (afterwards (Give a s o x) m)
@@ -91,4 +94,4 @@ module _ (m : Monitor) (W : WellFormed m) where
   gives-comm a s o x b t p y =
       let ob = object m o in
       let row = row-comm (add x) (add y) (ob .rights) s t (W .objects-formed o .shape .rights-fit) (add-comm x y) in
-      objects-comm (Give a s o x) (Give b t p y) m (λ e i. withRows ob (row i) (ob .held))
+      objects-comm (changed (Give a s o x)) (changed (Give b t p y)) o p m (λ e i. withRows ob (row i) (ob .held))

@@ -53,3 +53,4 @@ pub record Left (bs : List (List ℕ)) (m n : Monitor) : Type 0 where
   pub owners : (o : ℕ) → object n o .owner ≡ object m o .owner
   pub labels : (o : ℕ) → object n o .label ≡ object m o .label
   pub numbers : (o : ℕ) → object n o .companies ≡ object m o .companies
+  pub parents : (o : ℕ) → object n o .parent ≡ object m o .parent

@@ -21,7 +21,8 @@ use Rattle.model.specs.Levels.{compare, levelDominates, dominates, present, sam
 use Rattle.model.specs.Modes.{has, add, remove}
 use Rattle.model.specs.State.{widest, object, heldBy}
 use Rattle.model.specs.Profiles.{profileFits, labelInside, absentBeyond, levelsInside}
-use Rattle.model.specs.Requests.{fields, modeAllowed, unusedZero, fieldsFormed, within, wellFormed, request, creation, decodeFields, decode, pack, encode}
+use Rattle.model.specs.Hierarchy.{meets, without, parentLive, labelUnder, labelsRise}
+use Rattle.model.specs.Requests.{fields, modeAllowed, unusedZero, parentWithin, fieldsFormed, within, wellFormed, request, creation, decodeFields, decode, pack, encode}
 use Rattle.model.specs.Companies.{company, compatible, confined}
 use Rattle.model.specs.Rules.{simpleAll, starPair, starFrom, starFor, starAll, notLowered, changed, already, checks, answer, step, wallPair, wallFrom, wallFor, wallAll}
 use Rattle.model.specs.Runs.{respond, replies}
@@ -43,7 +44,7 @@ to class needs = ChangeLevel 1 0 (level class needs)
 -- the sixteen requests with their replies
 pub steps : List Step
 steps =
-    (Create 1 0 (creation false), 0)
+    (Create 1 0 (creation false 0), 0)
     -- "a first label is free", "and the same label still replies 1"
     ∷ (to 3 0x0001, 0)
     ∷ (to 3 0x0001, 1)
@@ -62,7 +63,7 @@ steps =
     ∷ (to 4 0x0003, 8)
     -- a delete ends the label, and the next one in the slot is a first one
     ∷ (Delete 1 0, 0)
-    ∷ (Create 1 0 (creation false), 0)
+    ∷ (Create 1 0 (creation false 0), 0)
     ∷ (to 0 0x0000, 0)
     ∷ []
 
@@ -71,13 +72,13 @@ pub bytes : List (List ℕ)
 bytes = map (λ (s : Step). encode (s .0)) steps
 
 pub lowering-run : replies bytes (left (table widest tableW) []) ≡ map (λ (s : Step). s .1) steps
-unfolding steps bytes tableW join bitsToBytes pack tableFrom tableForm labelForm labelFrom tableChecks profileFits absentBeyond levelsInside labelInside begin readTable allZero bytesToBits toBits odd cut fromBits field decode decodeFields fields wellFormed fieldsFormed within modeAllowed unusedZero request respond step replies acted ask checks already changed starAll starFor starFrom starPair wallAll wallFor wallFrom wallPair compatible confined company implies unless answer simpleAll has add remove notLowered sameLabel dominates levelDominates compare
+unfolding steps bytes tableW join bitsToBytes pack tableFrom tableForm labelForm labelFrom tableChecks profileFits absentBeyond levelsInside labelInside begin readTable allZero bytesToBits toBits odd cut fromBits field decode decodeFields fields wellFormed fieldsFormed within modeAllowed unusedZero request respond step replies acted ask checks already changed starAll starFor starFrom starPair wallAll wallFor wallFrom wallPair compatible confined company implies unless answer simpleAll has add remove notLowered sameLabel dominates levelDominates compare parentWithin parentLive labelUnder labelsRise meets without
 lowering-run = refl
 
 -- "the reply in decimal": the first, second and sixth of them as the program prints them
-pub lowering-printed : program (tableW ++ join (map encode (Create 1 0 (creation false) ∷ to 3 0x0001 ∷ to 0 0x0000 ∷ [])))
+pub lowering-printed : program (tableW ++ join (map encode (Create 1 0 (creation false 0) ∷ to 3 0x0001 ∷ to 0 0x0000 ∷ [])))
     ≡ 48 ∷ 10 ∷ 48 ∷ 10 ∷ 49 ∷ 52 ∷ 10 ∷ []
-unfolding program pieces line linesAfter tableW join bitsToBytes pack tableFrom tableForm labelForm labelFrom tableChecks profileFits absentBeyond levelsInside labelInside begin readTable allZero bytesToBits toBits odd cut fromBits field decode decodeFields fields wellFormed fieldsFormed within modeAllowed unusedZero request respond step replies acted ask checks already changed starAll starFor starFrom starPair wallAll wallFor wallFrom wallPair compatible confined company implies unless answer simpleAll has add remove notLowered sameLabel dominates levelDominates compare
+unfolding program pieces line linesAfter tableW join bitsToBytes pack tableFrom tableForm labelForm labelFrom tableChecks profileFits absentBeyond levelsInside labelInside begin readTable allZero bytesToBits toBits odd cut fromBits field decode decodeFields fields wellFormed fieldsFormed within modeAllowed unusedZero request respond step replies acted ask checks already changed starAll starFor starFrom starPair wallAll wallFor wallFrom wallPair compatible confined company implies unless answer simpleAll has add remove notLowered sameLabel dominates levelDominates compare parentWithin parentLive labelUnder labelsRise meets without
 lowering-printed = refl
 
 -- what the theorems over an object that lives on ask for: it is live after 2 to 13 of the requests, labelled after 2, raised after 13, and read
@@ -85,7 +86,7 @@ abbrev pub stateAfter : ℕ → Monitor
 stateAfter k = left (table widest tableW) (map asks (take k bytes))
 
 live-within : allBelow 14 (λ k. implies (leb 2 k) (object (stateAfter k) 0 .live)) ≡ true
-unfolding steps bytes tableW join bitsToBytes pack tableFrom tableForm labelForm labelFrom tableChecks profileFits absentBeyond levelsInside labelInside begin readTable allZero bytesToBits toBits odd cut fromBits field decode decodeFields fields wellFormed fieldsFormed within modeAllowed unusedZero request respond step acted ask checks already changed starAll starFor starFrom starPair wallAll wallFor wallFrom wallPair compatible confined company implies unless answer simpleAll has add remove notLowered sameLabel dominates levelDominates compare
+unfolding steps bytes tableW join bitsToBytes pack tableFrom tableForm labelForm labelFrom tableChecks profileFits absentBeyond levelsInside labelInside begin readTable allZero bytesToBits toBits odd cut fromBits field decode decodeFields fields wellFormed fieldsFormed within modeAllowed unusedZero request respond step acted ask checks already changed starAll starFor starFrom starPair wallAll wallFor wallFrom wallPair compatible confined company implies unless answer simpleAll has add remove notLowered sameLabel dominates levelDominates compare parentWithin parentLive labelUnder labelsRise meets without
 live-within = refl
 
 pub lives-met : (k : ℕ) → 2 ≤ k → k ≤ 13 → object (stateAfter k) 0 .live ≡ true
@@ -93,7 +94,7 @@ lives-met k a b = implies-out _ _ (below-out 14 (λ k. implies (leb 2 k) (object
 
 pub raised-met : (object (stateAfter 2) 0 .label ≡ Present (level 3 0x0001)) × (object (stateAfter 13) 0 .label ≡ Present (level 3 0x0003))
     × (has Read (heldBy (object (stateAfter 13) 0) 1) ≡ true)
-unfolding steps bytes tableW join bitsToBytes pack tableFrom tableForm labelForm labelFrom tableChecks profileFits absentBeyond levelsInside labelInside begin readTable allZero bytesToBits toBits odd cut fromBits field decode decodeFields fields wellFormed fieldsFormed within modeAllowed unusedZero request respond step acted ask checks already changed starAll starFor starFrom starPair wallAll wallFor wallFrom wallPair compatible confined company implies unless answer simpleAll has add remove notLowered sameLabel dominates levelDominates compare
+unfolding steps bytes tableW join bitsToBytes pack tableFrom tableForm labelForm labelFrom tableChecks profileFits absentBeyond levelsInside labelInside begin readTable allZero bytesToBits toBits odd cut fromBits field decode decodeFields fields wellFormed fieldsFormed within modeAllowed unusedZero request respond step acted ask checks already changed starAll starFor starFrom starPair wallAll wallFor wallFrom wallPair compatible confined company implies unless answer simpleAll has add remove notLowered sameLabel dominates levelDominates compare parentWithin parentLive labelUnder labelsRise meets without
 raised-met = (refl, refl, refl)
 
 pub labelled-met : object (stateAfter 2) 0 .label ≢ Absent
@@ -103,5 +104,5 @@ labelled-met e = clash (ap present (sym (raised-met .0) ∙ e))
 pub owner-asks-met : (decode (stateAfter 1 .profile) (getD bytes 1 []) ≡ Says (ChangeLevel (object (stateAfter 1) 0 .owner) 0 (level 3 0x0001)))
     × (decode (stateAfter 2 .profile) (getD bytes 2 []) ≡ Says (ChangeLevel (object (stateAfter 2) 0 .owner) 0 (level 3 0x0001)))
     × (object (stateAfter 1) 0 .live ≡ true) × (object (stateAfter 1) 0 .label ≡ Absent)
-unfolding steps bytes tableW join bitsToBytes pack tableFrom tableForm labelForm labelFrom tableChecks profileFits absentBeyond levelsInside labelInside begin readTable allZero bytesToBits toBits odd cut fromBits field decode decodeFields fields wellFormed fieldsFormed within modeAllowed unusedZero request respond step acted ask checks already changed starAll starFor starFrom starPair wallAll wallFor wallFrom wallPair compatible confined company implies unless answer simpleAll has add remove notLowered sameLabel dominates levelDominates compare
+unfolding steps bytes tableW join bitsToBytes pack tableFrom tableForm labelForm labelFrom tableChecks profileFits absentBeyond levelsInside labelInside begin readTable allZero bytesToBits toBits odd cut fromBits field decode decodeFields fields wellFormed fieldsFormed within modeAllowed unusedZero request respond step acted ask checks already changed starAll starFor starFrom starPair wallAll wallFor wallFrom wallPair compatible confined company implies unless answer simpleAll has add remove notLowered sameLabel dominates levelDominates compare parentWithin parentLive labelUnder labelsRise meets without
 owner-asks-met = (refl, refl, refl, refl)

@@ -19,7 +19,8 @@ use Rattle.model.specs.Modes.{has, add, remove}
 use Rattle.model.specs.State.{widest}
 use Rattle.model.specs.Decisions.{number, refuses}
 use Rattle.model.specs.Profiles.{profileFits, labelInside, absentBeyond, levelsInside}
-use Rattle.model.specs.Requests.{fields, modeAllowed, unusedZero, fieldsFormed, within, wellFormed, request, decodeFields, decode}
+use Rattle.model.specs.Hierarchy.{meets, without, parentLive, labelUnder, labelsRise}
+use Rattle.model.specs.Requests.{fields, modeAllowed, unusedZero, parentWithin, fieldsFormed, within, wellFormed, request, decodeFields, decode}
 use Rattle.model.specs.Companies.{company, compatible, confined}
 use Rattle.model.specs.Rules.{simpleAll, starPair, starFrom, starFor, starAll, notLowered, changed, already, checks, answer, step, wallPair, wallFrom, wallFor, wallAll}
 use Rattle.model.specs.Runs.{respond, after, replies}
@@ -140,7 +141,7 @@ three =
 pub printed-lines : (program three ≡ 48 ∷ 10 ∷ 48 ∷ 10 ∷ 49 ∷ 10 ∷ [])
     × (program (three ++ (0x10 ∷ 0x80 ∷ [])) ≡ 48 ∷ 10 ∷ 48 ∷ 10 ∷ 49 ∷ 10 ∷ 50 ∷ 10 ∷ [])
     × (program tableW ≡ [])
-unfolding program linesAfter line pieces tableW join tableFrom tableForm labelForm labelFrom tableChecks profileFits absentBeyond levelsInside labelInside begin readTable allZero bytesToBits toBits odd cut fromBits field decode decodeFields fields wellFormed fieldsFormed within modeAllowed unusedZero request respond step replies after checks already changed starAll starFor starFrom starPair wallAll wallFor wallFrom wallPair compatible confined company implies unless answer simpleAll has add remove notLowered sameLabel dominates levelDominates compare
+unfolding program linesAfter line pieces tableW join tableFrom tableForm labelForm labelFrom tableChecks profileFits absentBeyond levelsInside labelInside begin readTable allZero bytesToBits toBits odd cut fromBits field decode decodeFields fields wellFormed fieldsFormed within modeAllowed unusedZero request respond step replies after checks already changed starAll starFor starFrom starPair wallAll wallFor wallFrom wallPair compatible confined company implies unless answer simpleAll has add remove notLowered sameLabel dominates levelDominates compare parentWithin parentLive labelUnder labelsRise meets without
 printed-lines = (refl, refl, refl)
 
 -- 41 bytes print 10, and a bit in the record of subject 2, who is absent there, prints 11

@@ -20,7 +20,8 @@ use Rattle.model.specs.Modes.{has, add, remove}
 use Rattle.model.specs.State.{widest}
 use Rattle.model.specs.Profiles.{site, profileFits, labelInside, absentBeyond, levelsInside, Inside}
 use Rattle.model.specs.Decisions.{number}
-use Rattle.model.specs.Requests.{fields, modeAllowed, unusedZero, fieldsFormed, within, wellFormed, request, creation, decodeFields, decode, pack, encode, InRange, Within}
+use Rattle.model.specs.Hierarchy.{meets, ends, without, parentLive, parentsHold, labelUnder, labelsRise}
+use Rattle.model.specs.Requests.{fields, modeAllowed, unusedZero, parentWithin, fieldsFormed, within, wellFormed, request, creation, decodeFields, decode, pack, encode, InRange, Within}
 use Rattle.model.specs.Companies.{company, compatible, confined}
 use Rattle.model.specs.Rules.{simpleAll, starPair, starFrom, starFor, starAll, notLowered, changed, already, checks, answer, step, wallPair, wallFrom, wallFor, wallAll}
 use Rattle.model.specs.Runs.{respond, reply, replies}
@@ -44,7 +45,7 @@ plant = site 3 2 3 0x0003
 
 pub site-run : Accepted (table plant tableW)
     × (replies markedBytes (left (table plant tableW) []) ≡ map (λ (r : Row). r .reply) rows)
-unfolding markedBytes rows tableW tableFrom tableForm labelForm labelFrom tableChecks profileFits absentBeyond levelsInside labelInside begin readTable allZero bytesToBits toBits odd cut fromBits field decode decodeFields fields wellFormed fieldsFormed within modeAllowed unusedZero request respond step replies acted ask checks already changed starAll starFor starFrom starPair wallAll wallFor wallFrom wallPair compatible confined company implies unless answer simpleAll has add remove notLowered sameLabel dominates levelDominates compare
+unfolding markedBytes rows tableW tableFrom tableForm labelForm labelFrom tableChecks profileFits absentBeyond levelsInside labelInside begin readTable allZero bytesToBits toBits odd cut fromBits field decode decodeFields fields wellFormed fieldsFormed within modeAllowed unusedZero request respond step replies acted ask checks already changed starAll starFor starFrom starPair wallAll wallFor wallFrom wallPair compatible confined company implies unless answer simpleAll has add remove notLowered sameLabel dominates levelDominates compare parentWithin parentLive labelUnder labelsRise meets without
 site-run = (refl, refl)
 
 pub site-reached : Reached (left (table plant tableW) (map asks markedBytes))
@@ -83,7 +84,7 @@ asked =
     ∷ (Give 1 3 0 Read, 2, 3)
     -- an object, which is not live: 2 and not 4; a create of it
     ∷ (Get 1 2 Read, 2, 4)
-    ∷ (Create 1 2 (creation false), 2, 0)
+    ∷ (Create 1 2 (creation false 0), 2, 0)
     -- a class, a need, and both at their highest
     ∷ (ChangeLevel 1 0 (level 4 0x0000), 2, 0)
     ∷ (ChangeLevel 1 0 (level 0 0x0004), 2, 0)
@@ -95,7 +96,7 @@ asked =
     -- the last subject in use, whose number is beyond the objects, as actor and as the other subject; the last object in use
     ∷ (Get 2 0 Read, 6, 6)
     ∷ (Give 1 2 0 Read, 0, 0)
-    ∷ (Create 2 1 (creation false), 0, 0)
+    ∷ (Create 2 1 (creation false 0), 0, 0)
     ∷ []
 
 abbrev first : Profile → Monitor
@@ -103,7 +104,7 @@ first p = left (table p tableW) (map asks (take 1 markedBytes))
 
 pub outside-gets-2 : (map (λ (a : Asked). reply (encode (a .0)) (first plant)) asked ≡ map (λ (a : Asked). a .1) asked)
     × (map (λ (a : Asked). reply (encode (a .0)) (first widest)) asked ≡ map (λ (a : Asked). a .2) asked)
-unfolding asked markedBytes rows tableW bitsToBytes pack tableFrom tableForm labelForm labelFrom tableChecks profileFits absentBeyond levelsInside labelInside begin readTable allZero bytesToBits toBits odd cut fromBits field decode decodeFields fields wellFormed fieldsFormed within modeAllowed unusedZero request respond step acted ask checks already changed starAll starFor starFrom starPair wallAll wallFor wallFrom wallPair compatible confined company implies unless answer simpleAll has add remove notLowered sameLabel dominates levelDominates compare
+unfolding asked markedBytes rows tableW bitsToBytes pack tableFrom tableForm labelForm labelFrom tableChecks profileFits absentBeyond levelsInside labelInside begin readTable allZero bytesToBits toBits odd cut fromBits field decode decodeFields fields wellFormed fieldsFormed within modeAllowed unusedZero request respond step acted ask checks already changed starAll starFor starFrom starPair wallAll wallFor wallFrom wallPair compatible confined company implies unless answer simpleAll has add remove notLowered sameLabel dominates levelDominates compare parentWithin parentLive labelUnder labelsRise meets without
 outside-gets-2 = (refl, refl)
 
 -- ---- "16, a profile outside these ranges, before anything else is read, or a table .. with a clearance .. outside its profile, checked directly
@@ -142,7 +143,7 @@ tables-by-profile = refl
 -- ---- images: that of the marked run under other profiles than its own, and one whose label alone is outside
 
 abbrev labelled : Monitor
-labelled = left (table widest tableW) (map (λ (q : Request). asks (encode q)) (Create 1 0 (creation false) ∷ ChangeLevel 1 0 (level 4 0x0003) ∷ []))
+labelled = left (table widest tableW) (map (λ (q : Request). asks (encode q)) (Create 1 0 (creation false 0) ∷ ChangeLevel 1 0 (level 4 0x0003) ∷ []))
 
 abbrev imaged : Monitor
 imaged = left (table plant tableW) (map asks markedBytes)
@@ -153,10 +154,10 @@ pub images-by-profile : (number (readImage plant (imageOf imaged) .decision) ≡
     × (number (readImage (site 3 2 2 0x0003) (imageOf imaged) .decision) ≡ 16)
     × (number (readImage widest (imageOf imaged) .decision) ≡ 0)
     × (number (readImage plant (imageOf labelled) .decision) ≡ 16)
-unfolding readImage begin markedBytes rows tableW bitsToBytes pack tableFrom tableForm labelForm labelFrom tableChecks profileFits absentBeyond levelsInside labelInside readTable onlyEnrolled withinMatrix heldLabelled allZero bytesToBits toBits odd cut fromBits field decode decodeFields fields wellFormed fieldsFormed within modeAllowed unusedZero request respond step acted ask checks already changed starAll starFor starFrom starPair wallAll wallFor wallFrom wallPair compatible confined company implies unless answer simpleAll has add remove notLowered sameLabel dominates levelDominates compare
+unfolding readImage begin markedBytes rows tableW bitsToBytes pack tableFrom tableForm labelForm labelFrom tableChecks profileFits absentBeyond levelsInside labelInside readTable onlyEnrolled withinMatrix heldLabelled allZero bytesToBits toBits odd cut fromBits field decode decodeFields fields wellFormed fieldsFormed within modeAllowed unusedZero request respond step acted ask checks already changed starAll starFor starFrom starPair wallAll wallFor wallFrom wallPair compatible confined company implies unless answer simpleAll has add remove notLowered sameLabel dominates levelDominates compare parentWithin parentLive labelUnder labelsRise meets without parentsHold ends
 images-by-profile =
     let S = sound-left (table plant tableW) (site-run .0) (map asks markedBytes) in
-    let L = sound-left (table widest tableW) refl (map (λ (q : Request). asks (encode q)) (Create 1 0 (creation false) ∷ ChangeLevel 1 0 (level 4 0x0003) ∷ [])) in (
+    let L = sound-left (table widest tableW) refl (map (λ (q : Request). asks (encode q)) (Create 1 0 (creation false 0) ∷ ChangeLevel 1 0 (level 4 0x0003) ∷ [])) in (
       ap number (image-checks-under imaged S plant _ refl),
       ap number (image-checks-under imaged S (site 3 1 3 0x0003) _ refl),
       ap number (image-checks-under imaged S (site 3 2 2 0x0003) _ refl),
@@ -167,10 +168,10 @@ images-by-profile =
 -- subject 0 alone is enrolled and in use; the record of object 0, which it owns, has r for subject 1: 12, and not 11
 -- 1 0000, no label, no company, 1110 0000, 1000 0000, then zeros
 pub rightBeyond : List ℕ
-rightBeyond = 0x80 ∷ (replicate 41 0 ++ (0x80 ∷ 0x00 ∷ 0x00 ∷ 0x00 ∷ 0x00 ∷ 0x38 ∷ 0x20 ∷ replicate 1353 0))
+rightBeyond = 0x80 ∷ (replicate 41 0 ++ (0x80 ∷ 0x00 ∷ 0x00 ∷ 0x00 ∷ 0x00 ∷ 0x38 ∷ 0x20 ∷ replicate 1409 0))
 
 pub right-beyond-gets-12 : number (readImage (site 1 1 0 0x0000) rightBeyond .decision) ≡ 12
-unfolding rightBeyond readImage begin imageChecks monitorFrom imageForm tableFrom tableForm objectsFrom objectsForm objectFrom objectForm labelForm labelFrom profileFits absentBeyond levelsInside labelInside onlyEnrolled allZero bytesToBits toBits odd cut fromBits implies unless
+unfolding rightBeyond readImage begin imageChecks monitorFrom imageForm tableFrom tableForm objectsFrom objectsForm objectFrom objectForm labelForm labelFrom profileFits absentBeyond levelsInside labelInside onlyEnrolled allZero bytesToBits toBits odd cut fromBits implies unless parentsHold ends parentLive labelUnder labelsRise
 right-beyond-gets-12 = refl
 
 -- a profile outside its ranges

@@ -21,7 +21,8 @@ use Rattle.model.specs.Modes.{has, add, remove}
 use Rattle.model.specs.State.{widest, enrolled, object, heldBy}
 use Rattle.model.specs.Decisions.{number, refuses}
 use Rattle.model.specs.Profiles.{profileFits, labelInside, absentBeyond, levelsInside}
-use Rattle.model.specs.Requests.{fields, modeAllowed, unusedZero, fieldsFormed, within, wellFormed, request, creation, decodeFields, decode, pack, encode, InRange}
+use Rattle.model.specs.Hierarchy.{meets, without, parentLive, labelUnder, labelsRise}
+use Rattle.model.specs.Requests.{fields, modeAllowed, unusedZero, parentWithin, fieldsFormed, within, wellFormed, request, creation, decodeFields, decode, pack, encode, InRange}
 use Rattle.model.specs.Companies.{company, compatible, confined}
 use Rattle.model.specs.Rules.{target, simpleAll, starPair, starFrom, starFor, starAll, notLowered, changed, already, checks, answer, step, wallPair, wallFrom, wallFor, wallAll}
 use Rattle.model.specs.Runs.{respond, reply}
@@ -92,7 +93,7 @@ pub record Shown : Type 0 where
   pub live-behind : object (step (Get 1 0 Read) (stateAt 4) .monitor) 0 .live ≡ true
   -- an object that is not live, and a granted create of it: step 1
   pub not-live-there : object (stateAt 0) 0 .live ≡ false
-  pub create-granted : checks (Create 1 0 (creation false)) (stateAt 0) ≡ Granted
+  pub create-granted : checks (Create 1 0 (creation false 0)) (stateAt 0) ≡ Granted
   -- a reply under 2 and one that is not: steps 1 and 2
   pub granted-there : reply (getD markedBytes 0 []) (stateAt 0) ≡ 0
   pub refused-there : reply (getD markedBytes 1 []) (stateAt 1) ≡ 7
@@ -109,7 +110,7 @@ pub record Shown : Type 0 where
   pub not-above : dominates (object (stateAt 12) 0 .label) (object (stateAt 12) 1 .label) ≡ false
 
 pub shown : Shown
-unfolding markedBytes rows tableW tableFrom tableForm labelForm labelFrom tableChecks profileFits absentBeyond levelsInside labelInside begin readTable allZero bytesToBits toBits odd cut fromBits field decode decodeFields fields wellFormed fieldsFormed within modeAllowed unusedZero request respond step acted ask checks already changed starAll starFor starFrom starPair wallAll wallFor wallFrom wallPair compatible confined company implies unless answer simpleAll has add remove notLowered sameLabel dominates levelDominates compare
+unfolding markedBytes rows tableW tableFrom tableForm labelForm labelFrom tableChecks profileFits absentBeyond levelsInside labelInside begin readTable allZero bytesToBits toBits odd cut fromBits field decode decodeFields fields wellFormed fieldsFormed within modeAllowed unusedZero request respond step acted ask checks already changed starAll starFor starFrom starPair wallAll wallFor wallFrom wallPair compatible confined company implies unless answer simpleAll has add remove notLowered sameLabel dominates levelDominates compare parentWithin parentLive labelUnder labelsRise meets without
 shown =
     record {
       says = refl;
@@ -150,7 +151,7 @@ refusing-met = refl
 
 -- two different reached states: before and after the marked run
 pub different-met : stateAt 0 ≢ left (table widest tableW) (map asks markedBytes)
-unfolding markedBytes rows tableW tableFrom tableForm labelForm labelFrom tableChecks profileFits absentBeyond levelsInside labelInside begin readTable allZero bytesToBits toBits odd cut fromBits field decode decodeFields fields wellFormed fieldsFormed within modeAllowed unusedZero request respond step acted ask checks already changed starAll starFor starFrom starPair wallAll wallFor wallFrom wallPair compatible confined company implies unless answer simpleAll has add remove notLowered sameLabel dominates levelDominates compare
+unfolding markedBytes rows tableW tableFrom tableForm labelForm labelFrom tableChecks profileFits absentBeyond levelsInside labelInside begin readTable allZero bytesToBits toBits odd cut fromBits field decode decodeFields fields wellFormed fieldsFormed within modeAllowed unusedZero request respond step acted ask checks already changed starAll starFor starFrom starPair wallAll wallFor wallFrom wallPair compatible confined company implies unless answer simpleAll has add remove notLowered sameLabel dominates levelDominates compare parentWithin parentLive labelUnder labelsRise meets without
 different-met e = clash (sym (ap (λ (m : Monitor). object m 0 .live) e))
 
 -- a table of bytes, whose clearances fit

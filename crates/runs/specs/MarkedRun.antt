@@ -40,7 +40,7 @@ row q a b c d e f n = record { request = q; bytes = a ∷ b ∷ c ∷ d ∷ e �
 unfoldable pub rows : List Row
 rows =
     -- 1 s1 creates o0, mode 0: 0; "Step 1 is 50 80 00 00 00 00"
-    row (Create 1 0 (creation false)) 0x50 0x80 0x00 0x00 0x00 0x00 0
+    row (Create 1 0 (creation false 0)) 0x50 0x80 0x00 0x00 0x00 0x00 0
     -- 2 s1 get r o0: 7
     ∷ row (Get 1 0 Read) 0x10 0x80 0x01 0x00 0x00 0x00 7
     -- 3 s1 changes o0 to (0, 0000): 0; "step 3 is 70 80 00 00 00 00"
@@ -50,7 +50,7 @@ rows =
     -- 5 s1 get r o0: 0
     ∷ row (Get 1 0 Read) 0x10 0x80 0x01 0x00 0x00 0x00 0
     -- 6 s1 creates o1, mode 4: 0
-    ∷ row (Create 1 1 (creation true)) 0x50 0x80 0x0C 0x00 0x00 0x00 0
+    ∷ row (Create 1 1 (creation true 0)) 0x50 0x80 0x0C 0x00 0x00 0x00 0
     -- 7 s1 changes o1 to (2, 0001): 0; "step 7 is 70 80 08 20 00 10"
     ∷ row (ChangeLevel 1 1 (level 2 0x0001)) 0x70 0x80 0x08 0x20 0x00 0x10 0
     -- 8 s1 get a o1: 0
