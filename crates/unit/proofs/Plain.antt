@@ -88,7 +88,7 @@ module _ (u : Rows) (n : length u ≡ rowCount) (F : Plain u) where
   clearance-is : (s : ℕ) → s < 16 → rowAt u (clearanceRow s) ≡ clearanceOf (clearance (stateIn u) s)
   clearance-is s h =
       let r = F .clearances s h in
-      r .1 ∙ ap clearanceOf (sym (label-back 0 0 (r .0) 0) ∙ ap labelIn (sym (r .1)) ∙ read-clearance u s h)
+      r .1 ∙ ap clearanceOf (sym (label-back 0 0 (r .0) 0 0) ∙ ap labelIn (sym (r .1)) ∙ read-clearance u s h)
 
   profile-is : rowAt u profileRow ≡ profileOf (stateIn u .profile)
   profile-is =

@@ -10,7 +10,7 @@ use Rattle.model.specs.Levels.{present}
 use Rattle.model.specs.State.{nobody, noObject, clearance, enrolled, object, rightsOf, heldBy}
 use Rattle.model.specs.Rules.{owns}
 use Rattle.model.proofs.Tests.{split}
-use Rattle.unit.specs.Rows.{Rows, heldRow, restRow, clearanceRow, rowAt, byteAt, labelIn, companiesIn, objectOf, objectIn, subjectIn, stateIn}
+use Rattle.unit.specs.Rows.{Rows, heldRow, restRow, clearanceRow, rowAt, byteAt, labelIn, companiesIn, parentIn, objectOf, objectIn, subjectIn, stateIn}
 use Rattle.unit.proofs.Tabulated.{tabulate-at}
 
 module _ (u : Rows) (o : ℕ) (h : o < 64) where
@@ -36,6 +36,10 @@ module _ (u : Rows) (o : ℕ) (h : o < 64) where
   pub read-companies : companiesIn (rowAt u (restRow o)) ≡ object (stateIn u) o .companies
   unfolding objectOf
   read-companies = ap (λ (x : Object). x .companies) read-object
+
+  pub read-parent : parentIn (rowAt u (restRow o)) ≡ object (stateIn u) o .parent
+  unfolding objectOf
+  read-parent = ap (λ (x : Object). x .parent) read-object
 
   pub read-rights : (s : ℕ) → byteAt (rowAt u o) s ≡ rightsOf (object (stateIn u) o) s
   unfolding objectOf

@@ -24,10 +24,10 @@ use Rattle.unit.proofs.Readings.{read-object}
 
 -- ---- a row that is stored says what was stored
 
-pub label-back : (a b : ℕ) (l : Label) (n : ℕ) → labelIn (rowOf a b l n) ≡ l
+pub label-back : (a b : ℕ) (l : Label) (n p : ℕ) → labelIn (rowOf a b l n p) ≡ l
 unfolding labelIn labelBytes rowOf
-label-back a b Absent n = refl
-label-back a b (Present l) n = ap (λ k. Present (record { class = l .class; needs = k })) (div-add-mod' (l .needs) 256)
+label-back a b Absent n p = refl
+label-back a b (Present l) n p = ap (λ k. Present (record { class = l .class; needs = k })) (div-add-mod' (l .needs) 256)
 
 pub profile-back : (p : Profile) → profileIn (profileOf p) ≡ p
 unfolding profileIn labelBytes rowOf
@@ -42,7 +42,7 @@ live-back false = refl
 pub object-back : (ob : Object) → objectOf (ob .rights) (ob .held) (restOf ob) ≡ ob
 unfolding objectOf rowOf
 object-back ob =
-    object-ext _ ob (live-back (ob .live)) refl (label-back (bit (ob .live)) (ob .owner) (ob .label) (ob .companies)) (div-add-mod' (ob .companies) 256) refl refl
+    object-ext _ ob (live-back (ob .live)) refl (label-back (bit (ob .live)) (ob .owner) (ob .label) (ob .companies) (ob .parent)) (div-add-mod' (ob .companies) 256) refl refl refl
 
 -- ---- rows that differ in those of one object alone
 

@@ -86,7 +86,7 @@ module _ (m : Monitor) where
       rw (unit-at o (omega arith), unit-at (heldRow o) (omega arith), unit-at (restRow o) (omega arith), row-rights m o h, row-held m o h, row-rest m o h) (object-back (object m o))
 
   unit-clearance : (s : ℕ) → s < 16 → labelIn (rowAt (unitOf m) (clearanceRow s)) ≡ clearance m s
-  unit-clearance s h = ap labelIn (unit-at (clearanceRow s) (omega arith) ∙ row-clearance m s h) ∙ label-back 0 0 (clearance m s) 0
+  unit-clearance s h = ap labelIn (unit-at (clearanceRow s) (omega arith) ∙ row-clearance m s h) ∙ label-back 0 0 (clearance m s) 0 0
 
   pub unit-says : length (m .subjects) ≡ 16 → length (m .objects) ≡ 64 → stateIn (unitOf m) ≡ m
   unit-says a b =

@@ -57,6 +57,10 @@ profileIn row = record { subjects = byteAt row 0; objects = byteAt row 1; highes
 abbrev pub companiesIn : List ℕ → ℕ
 companiesIn row = byteAt row 6 * 256 + byteAt row 7
 
+-- byte 8: the parent, number plus one, 0 for none (change request §11)
+abbrev pub parentIn : List ℕ → ℕ
+parentIn row = byteAt row 8
+
 -- byte 0 is 1: live; byte 1: the owner
 unfoldable pub objectOf : List ℕ → List ℕ → List ℕ → Object
 objectOf rights held rest =
@@ -67,6 +71,7 @@ objectOf rights held rest =
       companies = companiesIn rest;
       rights = rights;
       held = held;
+      parent = parentIn rest;
     }
 
 -- object o and subject s, as the rows say them

@@ -21,22 +21,22 @@ unfoldable pub labelBytes : Label → LabelBytes
 labelBytes Absent = record { present = 0; class = 0; high = 0; low = 0 }
 labelBytes (Present l) = record { present = 1; class = l .class; high = l .needs / 256; low = l .needs % 256 }
 
--- two bytes, a label and a number in two bytes behind them, and eight bytes 0
-unfoldable pub rowOf : ℕ → ℕ → Label → ℕ → List ℕ
-rowOf a b l n =
-    a ∷ b ∷ labelBytes l .present ∷ labelBytes l .class ∷ labelBytes l .high ∷ labelBytes l .low ∷ n / 256 ∷ n % 256 ∷ replicate 8 0
+-- two bytes, a label, a number in two bytes and one in one byte behind them, and seven bytes 0
+unfoldable pub rowOf : ℕ → ℕ → Label → ℕ → ℕ → List ℕ
+rowOf a b l n p =
+    a ∷ b ∷ labelBytes l .present ∷ labelBytes l .class ∷ labelBytes l .high ∷ labelBytes l .low ∷ n / 256 ∷ n % 256 ∷ p ∷ replicate 7 0
 
--- live and owner before the label of an object, its company numbers behind it
+-- live and owner before the label of an object, its company numbers and its parent behind it
 abbrev pub restOf : Object → List ℕ
-restOf ob = rowOf (bit (ob .live)) (ob .owner) (ob .label) (ob .companies)
+restOf ob = rowOf (bit (ob .live)) (ob .owner) (ob .label) (ob .companies) (ob .parent)
 
 -- the row of a clearance
 abbrev pub clearanceOf : Label → List ℕ
-clearanceOf l = rowOf 0 0 l 0
+clearanceOf l = rowOf 0 0 l 0 0
 
 -- the row of a profile
 abbrev pub profileOf : Profile → List ℕ
-profileOf p = rowOf (p .subjects) (p .objects) (Present (p .highest)) 0
+profileOf p = rowOf (p .subjects) (p .objects) (Present (p .highest)) 0 0
 
 -- the set of subject s in the row of rights of object o, and in that of the accesses held, becomes n
 abbrev pub setRights : Rows → ℕ → ℕ → ℕ → Rows

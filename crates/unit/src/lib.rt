@@ -12,6 +12,7 @@ pub use parts::is_live;
 pub use parts::is_owner;
 pub use parts::label_of;
 pub use parts::owner_of;
+pub use parts::parent_of;
 pub use parts::profile_of;
 pub use parts::rest_of;
 pub use parts::rights_of;

@@ -91,6 +91,16 @@ pub fn companies_of(unit: &[[u8; 16]], o: u8) -> u16
     companies_in(row)
 }
 
+// The parent of an object, its number plus one, or 0.
+pub fn parent_of(unit: &[[u8; 16]], o: u8) -> u8
+    requires { do ⌜ (← ⟦unit.len()⟧) ≡ rowCount ⌝ }
+    requires { ⌜ o < objectCount ⌝ }
+    ensures { λ r. ⌜ r ≡ object (stateIn (now (unit .entry))) o .parent ⌝ }
+{
+    let i = REST + o as usize;
+    unit[i][8]
+}
+
 pub fn rights_of(unit: &[[u8; 16]], o: u8, s: u8) -> u8
     requires { do ⌜ (← ⟦unit.len()⟧) ≡ rowCount ⌝ }
     requires { ⌜ (o < objectCount) × (s < subjectCount) ⌝ }
@@ -168,7 +178,7 @@ pub fn set_label(unit: &mut [[u8; 16]], o: u8, label: Label)
 {
     let row = rest_of(unit, o);
     let companies = companies_in(row);
-    let new = row_of(flag(row[0] == 1), row[1], label, companies);
+    let new = row_of(flag(row[0] == 1), row[1], label, companies, row[8]);
     set_rest(unit, o, new);
 }
 
@@ -179,7 +189,7 @@ pub fn set_companies(unit: &mut [[u8; 16]], o: u8, companies: u16)
 {
     let row = rest_of(unit, o);
     let kept = label_in(row);
-    let new = row_of(flag(row[0] == 1), row[1], kept, companies);
+    let new = row_of(flag(row[0] == 1), row[1], kept, companies, row[8]);
     set_rest(unit, o, new);
 }
 

@@ -1,4 +1,4 @@
-// Where the rows of a unit stand, and what one row of bytes says: a label in bytes 2 to 5, two numbers before it, one in two bytes behind it.
+// Where the rows of a unit stand, and what one row of bytes says: a label in bytes 2 to 5, two numbers before it, one in two bytes and one in one byte behind it.
 ghost use mathlib.Core.Path.{_≡_};
 ghost use Prim.Native.Nat.{_+_, _*_, _/_, _%_};
 ghost use Rattle.bits.specs.Bits.{bit};
@@ -115,9 +115,9 @@ fn label_bytes(label: Label) -> LabelBytes
     }
 }
 
-// The row of two numbers, a label and the four company numbers in one.
-pub fn row_of(a: u8, b: u8, label: Label, companies: u16) -> [u8; 16]
-    ensures { λ r. ⌜ r ≡ rowOf a b label companies ⌝ }
+// The row of two numbers, a label, the four company numbers in one, and a parent.
+pub fn row_of(a: u8, b: u8, label: Label, companies: u16, parent: u8) -> [u8; 16]
+    ensures { λ r. ⌜ r ≡ rowOf a b label companies parent ⌝ }
 {
     let l = label_bytes(label);
     let high = high_byte(companies);
@@ -131,7 +131,7 @@ pub fn row_of(a: u8, b: u8, label: Label, companies: u16) -> [u8; 16]
         l.low,
         high,
         low,
-        0,
+        parent,
         0,
         0,
         0,
@@ -147,5 +147,5 @@ pub fn profile_row(p: Profile) -> [u8; 16]
     ensures { λ r. ⌜ r ≡ profileOf p ⌝ }
 {
     let highest = p.highest;
-    row_of(p.subjects, p.objects, Label::Present(highest), 0)
+    row_of(p.subjects, p.objects, Label::Present(highest), 0, 0)
 }

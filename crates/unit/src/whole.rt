@@ -30,6 +30,7 @@ pub fn object_of(rights: [u8; 16], held: [u8; 16], rest: [u8; 16]) -> Object
         companies,
         rights,
         held,
+        parent: rest[8],
     }
 }
 
@@ -54,7 +55,7 @@ pub fn set_object(unit: &mut [[u8; 16]], o: u8, ob: Object)
     let rights = ob.rights;
     let held = ob.held;
     let label = ob.label;
-    let rest = row_of(flag(ob.live), ob.owner, label, ob.companies);
+    let rest = row_of(flag(ob.live), ob.owner, label, ob.companies, ob.parent);
     set_rows(unit, o, rights, held, rest);
 }
 
@@ -73,7 +74,7 @@ pub fn fill(unit: &mut [[u8; 16]], m: Monitor)
     while s < Monitor::SUBJECTS {
         let subject = m.subjects[s];
         let clearance = subject.clearance;
-        let row = row_of(0, 0, clearance, 0);
+        let row = row_of(0, 0, clearance, 0, 0);
         unit[CLEARANCES + s] = row;
         s += 1;
     }

@@ -20,6 +20,9 @@ flag-requires c κs = search needs
 array-read-row-of : tie.Need-array-read-row-of
 array-read-row-of c = search needs
 
+array-read-row-of-2 : tie.Need-array-read-row-of-2
+array-read-row-of-2 c = search needs
+
 row-of-requires : tie.Need-row-of-requires
 row-of-requires c κs = search needs
 
@@ -42,6 +45,7 @@ set-companies-spec =
     array-read-flag
     flag-requires
     array-read-row-of
+    array-read-row-of-2
     row-of-requires
     set-rest-requires
     same-length

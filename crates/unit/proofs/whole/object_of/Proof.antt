@@ -17,6 +17,9 @@ array-read-t10 c = search needs
 array-read-t14 : tie.Need-array-read-t14
 array-read-t14 c = search needs
 
+array-read-t17 : tie.Need-array-read-t17
+array-read-t17 c = search needs
+
 returns : tie.Need-returns
 unfolding objectOf
 returns c = rw (c .before .label-in .ensures, c .companies-in .ensures)
@@ -24,4 +27,4 @@ returns c = rw (c .before .label-in .ensures, c .companies-in .ensures)
 pub object-of-spec : {M : Type 1} → statement M
 object-of-spec =
     tie.close
-    (tie.spec label-in-requires companies-in-requires array-read-t10 array-read-t14 returns)
+    (tie.spec label-in-requires companies-in-requires array-read-t10 array-read-t14 array-read-t17 returns)
