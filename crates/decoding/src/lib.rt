@@ -1,8 +1,9 @@
 // What the six bytes of a request say.
 ghost use mathlib.Core.Path.{_≡_};
-ghost use Rattle.model.specs.Requests.{modeAllowed, unusedZero, fieldsFormed, levelOf, within, wellFormed, modeOf, request, decodeFields, decode};
+ghost use Rattle.model.specs.Requests.{modeAllowed, unusedZero, parentWithin, fieldsFormed, levelOf, within, wellFormed, modeOf, request, decodeFields, decode};
 ghost use Rattle.decoding.specs.Word.{fieldsOfWord};
 use labels::at_least;
+use labels::implies;
 use model::Creation;
 use model::Decoded;
 use model::Fields;
@@ -41,14 +42,21 @@ fn mode_allowed(kind: u8, mode: u8) -> bool
     mode == 0
 }
 
-// The other subject stands in kinds 3 and 4, class in kind 7 only, needs in kinds 7 and 8, spare in none.
+// The other subject stands in kinds 3 and 4, class in kind 7 only, needs in kinds 5, 7 and 8, spare in none.
 fn unused_zero(f: Fields) -> bool
     ensures { λ r. ⌜ r ≡ unusedZero f ⌝ }
 {
     let other = (f.kind == 3) | ((f.kind == 4) | (f.other == 0));
     let class = (f.kind == 7) | (f.class == 0);
-    let needs = (f.kind == 7) | ((f.kind == 8) | (f.needs == 0));
+    let needs = (f.kind == 5) | ((f.kind == 7) | ((f.kind == 8) | (f.needs == 0)));
     other & (class & (needs & (f.spare == 0)))
+}
+
+// The parent of a create, number plus one, is that of one of the first n objects, or none.
+fn parent_within(n: u8, f: Fields) -> bool
+    ensures { λ r. ⌜ r ≡ parentWithin n f ⌝ }
+{
+    implies(f.kind == 5, f.needs <= n as u16)
 }
 
 // What must be so of the fields under every profile.
@@ -57,8 +65,9 @@ fn fields_formed(f: Fields) -> bool
 {
     let allowed = mode_allowed(f.kind, f.mode);
     let zero = unused_zero(f);
+    let parent = parent_within(64, f);
     ((1 <= f.kind) & (f.kind <= 8))
-        & ((f.actor < 16) & ((f.other < 16) & ((f.object < 64) & (allowed & zero))))
+        & ((f.actor < 16) & ((f.other < 16) & ((f.object < 64) & (parent & (allowed & zero)))))
 }
 
 // The class and the needs of a request.
@@ -71,12 +80,14 @@ fn level_of(f: Fields) -> Level
     }
 }
 
-// No subject, object, class or need is outside the profile. In kind 8 the needs are company numbers, which no profile bounds.
+// No subject, object, class or need is outside the profile. In kind 5 the needs are a parent, which is an object, and in kind 8 company
+// numbers, which no profile bounds.
 fn within(p: Profile, f: Fields) -> bool
     ensures { λ r. ⌜ r ≡ within p f ⌝ }
 {
-    let inside = (f.kind == 8) | at_least(p.highest, level_of(f));
-    (f.actor < p.subjects) & ((f.other < p.subjects) & ((f.object < p.objects) & inside))
+    let inside = (f.kind == 5) | ((f.kind == 8) | at_least(p.highest, level_of(f)));
+    let parent = parent_within(p.objects, f);
+    (f.actor < p.subjects) & ((f.other < p.subjects) & ((f.object < p.objects) & (parent & inside)))
 }
 
 pub fn well_formed(p: Profile, f: Fields) -> bool
@@ -114,6 +125,7 @@ fn request_of(f: Fields) -> Request
             f.object,
             Creation {
                 execute: f.mode == 4,
+                parent: f.needs,
             },
         ),
         6 => Request::Delete(f.actor, f.object),

@@ -6,6 +6,7 @@ ghost use Rattle.model.specs.Requests.{requestSize, modeNumber, fieldsOf, pack,
 ghost use Rattle.model.specs.Buffers.{put};
 ghost use Rattle.encoding.specs.Word.{withoutLevel, wordOf, wordBytes};
 use buffers::put_bytes;
+use model::Creation;
 use model::Fields;
 use model::Mode;
 use model::Request;
@@ -37,6 +38,23 @@ pub fn without_level(kind: u8, actor: u8, other: u8, object: u8, mode: u8) -> Fi
     }
 }
 
+// The parent of a create stands in its needs.
+fn fields_of_create(s: u8, o: u8, how: Creation) -> Fields
+    ensures { λ r. ⌜ r ≡ fieldsOf (Request.Create s o how) ⌝ }
+{
+    let mode = if how.execute { 4 } else { 0 };
+    Fields {
+        kind: 5,
+        actor: s,
+        other: 0,
+        object: o,
+        mode,
+        class: 0,
+        needs: how.parent,
+        spare: 0,
+    }
+}
+
 // A field that the kind does not use is 0.
 fn fields_of(q: Request) -> Fields
     ensures { λ r. ⌜ r ≡ fieldsOf q ⌝ }
@@ -46,10 +64,7 @@ fn fields_of(q: Request) -> Fields
         Request::Release(s, o, x) => without_level(2, s, 0, o, mode_number(x)),
         Request::Give(s, t, o, x) => without_level(3, s, t, o, mode_number(x)),
         Request::Rescind(s, t, o, x) => without_level(4, s, t, o, mode_number(x)),
-        Request::Create(s, o, how) => {
-            let mode = if how.execute { 4 } else { 0 };
-            without_level(5, s, 0, o, mode)
-        }
+        Request::Create(s, o, how) => fields_of_create(s, o, how),
         Request::Delete(s, o) => without_level(6, s, 0, o, 0),
         Request::ChangeLevel(s, o, l) => Fields {
             kind: 7,

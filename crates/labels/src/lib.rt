@@ -145,6 +145,8 @@ pub fn number(d: Decision) -> u8
         Decision::OutsideProfile => 16,
         Decision::EmptyJournal => 17,
         Decision::WallBroken => 18,
+        Decision::ParentNotLive => 19,
+        Decision::HierarchyBroken => 20,
     }
 }
 

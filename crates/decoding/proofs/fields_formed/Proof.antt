@@ -10,9 +10,12 @@ mode-allowed-requires c κs = tt
 unused-zero-requires : tie.Need-unused-zero-requires
 unused-zero-requires c κs = tt
 
+parent-within-requires : tie.Need-parent-within-requires
+parent-within-requires c κs = tt
+
 returns : tie.Need-returns
 unfolding fieldsFormed
-returns c = rw (c .before .before .before .before .before .before .mode-allowed .ensures, c .before .before .before .before .before .unused-zero .ensures)
+returns c = rw (c .before .before .before .before .before .before .before .mode-allowed .ensures, c .before .before .before .before .before .before .unused-zero .ensures, c .before .before .before .before .before .parent-within .ensures)
 
 pub fields-formed-spec : {M : Type 1} → statement M
-fields-formed-spec = tie.close (tie.spec mode-allowed-requires unused-zero-requires returns)
+fields-formed-spec = tie.close (tie.spec mode-allowed-requires unused-zero-requires parent-within-requires returns)

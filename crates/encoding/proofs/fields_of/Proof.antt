@@ -1,8 +1,5 @@
 -- The eight kinds.
 -- Assumes nothing.
-use mathlib.Core.Path.{_≡_, _∙_}
-use mathlib.Core.Logic.{⊎-elim}
-use mathlib.Core.Bool.{cond}
 use borrow.Author.Needs.{needs}
 use Rattle.encoding.proofs.fields_of.Statement.{statement}
 use Rattle.encoding.proofs.fields_of.Tie as tie
@@ -46,14 +43,14 @@ without-level-requires-4 c κs = search needs
 enum-known-q-5 : tie.Need-enum-known-q-5
 enum-known-q-5 c = search needs
 
-without-level-requires-5 : tie.Need-without-level-requires-5
-without-level-requires-5 c κs = search needs
+fields-of-create-requires : tie.Need-fields-of-create-requires
+fields-of-create-requires c κs = search needs
 
 enum-known-q-6 : tie.Need-enum-known-q-6
 enum-known-q-6 c = search needs
 
-without-level-requires-6 : tie.Need-without-level-requires-6
-without-level-requires-6 c κs = search needs
+without-level-requires-5 : tie.Need-without-level-requires-5
+without-level-requires-5 c κs = search needs
 
 enum-known-q-7 : tie.Need-enum-known-q-7
 enum-known-q-7 c = search needs
@@ -74,14 +71,10 @@ returns-4 : tie.Need-returns-4
 returns-4 c = rw (c .before .before .before .q4 .given .1, c .without-level4 .ensures, c .before .mode-number4 .ensures)
 
 returns-5 : tie.Need-returns-5
-returns-5 c =
-    let q = c .before .before .before .q5 .given in
-    let e : c .before .if1 .mode ≡ cond (q .0 .1 .1 .0 .execute) 4 0 =
-    ⊎-elim (λ w. w .1 ∙ rw (w .0 .taken)) (λ w. w .1 ∙ rw (w .0 .left)) (c .before .if1 .came) in
-    rw (q .1, c .without-level5 .ensures, e)
+returns-5 c = rw (c .before .before .q5 .given .1, c .fields-of-create .ensures)
 
 returns-6 : tie.Need-returns-6
-returns-6 c = rw (c .before .before .q6 .given .1, c .without-level6 .ensures)
+returns-6 c = rw (c .before .before .q6 .given .1, c .without-level5 .ensures)
 
 returns-7 : tie.Need-returns-7
 returns-7 c = rw (c .before .q7 .given .1)
@@ -106,9 +99,9 @@ fields-of-spec =
     mode-number-requires-4
     without-level-requires-4
     enum-known-q-5
-    without-level-requires-5
+    fields-of-create-requires
     enum-known-q-6
-    without-level-requires-6
+    without-level-requires-5
     enum-known-q-7
     enum-known-q-8
     returns
