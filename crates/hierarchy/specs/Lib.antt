@@ -1,0 +1,2 @@
+-- What a deletion leaves of the rows of a unit.
+pub mod Removed
