@@ -8,7 +8,7 @@ use Rattle.model.specs.declared.Request.{Request}
 use Rattle.model.specs.declared.Request.the-variants.{Get, Release, Give, Rescind, Create, Delete, ChangeLevel, SetCompanies}
 use Rattle.model.specs.Rules.{target}
 use Rattle.differences.specs.declared.sequence.Sequence.{Sequence}
-use Rattle.differences.specs.declared.sequence.Sequence.the-variants.{Nothing, One, Reading, Replacing}
+use Rattle.differences.specs.declared.sequence.Sequence.the-variants.{Nothing, One, Remaking, Reading, Replacing}
 use Rattle.differences.specs.Sequences.{requestsOf}
 
 -- the subject that asks, and the level that a change of level has
@@ -39,7 +39,7 @@ levelOf (SetCompanies s o n) = none
 sequenceOf : List Request → Sequence
 sequenceOf [] = Nothing
 sequenceOf (a ∷ []) = One a
-sequenceOf (a ∷ b ∷ []) = Nothing
+sequenceOf (a ∷ b ∷ []) = Remaking (actor a) (target a) (target b)
 sequenceOf (a ∷ b ∷ c ∷ []) = Reading (target a) (actor a) (levelOf b)
 sequenceOf (a ∷ b ∷ c ∷ d ∷ l) = Replacing (actor a) (target a) (actor b) (levelOf c)
 
@@ -47,6 +47,7 @@ sequence-back : (q : Sequence) → sequenceOf (requestsOf q) ≡ q
 unfolding sequenceOf actor levelOf
 sequence-back Nothing = refl
 sequence-back (One q) = refl
+sequence-back (Remaking w x y) = refl
 sequence-back (Reading o s l) = refl
 sequence-back (Replacing w o s l) = refl
 

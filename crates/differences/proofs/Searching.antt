@@ -11,7 +11,7 @@ use Rattle.model.specs.declared.Request.{Request}
 use Rattle.model.proofs.Tests.{clash}
 use Rattle.telling.specs.Distinguish.{orElse, search}
 use Rattle.differences.specs.declared.sequence.Sequence.{Sequence}
-use Rattle.differences.specs.declared.sequence.Sequence.the-variants.{Nothing, One, Reading, Replacing}
+use Rattle.differences.specs.declared.sequence.Sequence.the-variants.{Nothing, One, Remaking, Reading, Replacing}
 use Rattle.differences.specs.Sequences.{found, requestsOf}
 
 -- ---- one of two
@@ -20,12 +20,14 @@ pub or-found : (q : Sequence) (later : List Request) → found q ≡ true → or
 unfolding orElse
 or-found Nothing later e = clash (sym e)
 or-found (One q) later e = refl
+or-found (Remaking w x y) later e = refl
 or-found (Reading o s l) later e = refl
 or-found (Replacing w o s l) later e = refl
 
 pub not-found : (q : Sequence) → found q ≡ false → requestsOf q ≡ []
 not-found Nothing e = refl
 not-found (One q) e = clash e
+not-found (Remaking w x y) e = clash e
 not-found (Reading o s l) e = clash e
 not-found (Replacing w o s l) e = clash e
 

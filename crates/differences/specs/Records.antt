@@ -12,13 +12,12 @@ use Rattle.model.specs.declared.Subject.{Subject}
 use Rattle.model.specs.declared.Object.{Object}
 use Rattle.model.specs.declared.Monitor.{Monitor}
 use Rattle.model.specs.declared.Mode.{Mode}
-use Rattle.model.specs.declared.Mode.the-variants.{Read}
 use Rattle.model.specs.declared.Request.{Request}
 use Rattle.model.specs.declared.Request.the-variants.{Get, Release, Delete, SetCompanies}
 use Rattle.model.specs.Levels.{compare, present}
 use Rattle.model.specs.Modes.{has}
 use Rattle.model.specs.State.{subjectCount, objectCount, clearanceAt, objectAt, object}
-use Rattle.telling.specs.Distinguish.{byComparison, orElse, search, searchModes, when, differ, toLabel, freeBelow}
+use Rattle.telling.specs.Distinguish.{byComparison, orElse, search, searchModes, when, differ, byParent, toLabel, freeBelow}
 use Rattle.differences.specs.declared.sequence.Place.{Place}
 use Rattle.differences.specs.Sequences.{readingAt, requestsOf}
 
@@ -26,7 +25,7 @@ use Rattle.differences.specs.Sequences.{readingAt, requestsOf}
 
 -- object o is live in one record only
 unfoldable pub lifeApart : ℕ → Object → Object → List Request
-lifeApart o a b = when (differ (a .live) (b .live)) (Release (cond (a .live) (a .owner) (b .owner)) o Read)
+lifeApart o a b = when (differ (a .live) (b .live)) (Delete (cond (a .live) (a .owner) (b .owner)) o)
 
 -- it has another owner
 unfoldable pub ownerApart : ℕ → Object → Object → List Request
@@ -53,15 +52,27 @@ setApart held o s a b = searchModes (modeApart held o s a b)
 unfoldable pub rowApart : Bool → ℕ → List ℕ → List ℕ → List Request
 rowApart held o a b = search subjectCount (λ s. setApart held o s (getD a s 0) (getD b s 0))
 
--- the first difference of two records
+-- its life or its owner
+unfoldable pub standingApart : ℕ → Object → Object → List Request
+standingApart o a b = orElse (lifeApart o a b) (ownerApart o a b)
+
+-- the first object of which that differs
+unfoldable pub standingsApart : List Object → List Object → List Request
+standingsApart a b = search objectCount (λ o. standingApart o (objectAt a o) (objectAt b o))
+
+-- the first difference of the rest of two records
 unfoldable pub objectApart : ℕ → Object → Object → List Request
 objectApart o a b =
-    orElse (lifeApart o a b) (orElse (ownerApart o a b) (orElse (toLabel (a .owner) o (a .label) (b .label))
-    (orElse (companiesApart o a b) (orElse (rowApart false o (a .rights) (b .rights)) (rowApart true o (a .held) (b .held))))))
+    orElse (toLabel (a .owner) o (a .label) (b .label))
+    (orElse (companiesApart o a b) (orElse (rowApart false o (a .rights) (b .rights)) (rowApart true o (a .held) (b .held))))
 
 -- the first object whose records differ
 unfoldable pub objectsApart : List Object → List Object → List Request
 objectsApart a b = search objectCount (λ o. objectApart o (objectAt a o) (objectAt b o))
+
+-- the first object that has another parent
+unfoldable pub parentsApart : Monitor → Monitor → List Request
+parentsApart m n = search objectCount (byParent m n)
 
 -- ---- subjects
 

@@ -3,7 +3,7 @@ ghost use mathlib.Core.Path.{_≡_};
 ghost use Rattle.unit.specs.Rows.{rowCount, objectsIn};
 ghost use Rattle.telling.specs.Distinguish.{toLabel};
 ghost use Rattle.differences.specs.Sequences.{requestsOf};
-ghost use Rattle.differences.specs.Records.{lifeApart, ownerApart, companiesApart, askOf, modeApart, setApart, rowApart, objectApart, objectsApart};
+ghost use Rattle.differences.specs.Records.{lifeApart, ownerApart, standingApart, standingsApart, companiesApart, askOf, modeApart, setApart, rowApart, objectApart, objectsApart};
 use crate::sequence::Sequence;
 use crate::sequence::differ;
 use crate::sequence::is_found;
@@ -20,15 +20,12 @@ use unit::object_in;
 
 // ---- what a record says of the object itself
 
-// Live in one only: a release by the owner there, 4 or not.
+// Live in one only: a delete by the owner there, 4 or not.
 fn life_apart(o: u8, a: Object, b: Object) -> Sequence
     ensures { λ r. ⌜ requestsOf r ≡ lifeApart o a b ⌝ }
 {
     let owner = if a.live { a.owner } else { b.owner };
-    when(
-        differ(a.live, b.live),
-        Request::Release(owner, o, Mode::Read),
-    )
+    when(differ(a.live, b.live), Request::Delete(owner, o))
 }
 
 // Another owner: a delete by one of them, 6 or not.
@@ -36,6 +33,12 @@ fn owner_apart(o: u8, a: Object, b: Object) -> Sequence
     ensures { λ r. ⌜ requestsOf r ≡ ownerApart o a b ⌝ }
 {
     when(a.owner != b.owner, Request::Delete(a.owner, o))
+}
+
+fn standing_apart(o: u8, a: Object, b: Object) -> Sequence
+    ensures { λ r. ⌜ requestsOf r ≡ standingApart o a b ⌝ }
+{
+    or_else(life_apart(o, a, b), owner_apart(o, a, b))
 }
 
 // Another label: the owner changes the level to one of them, 1 or not.
@@ -107,8 +110,28 @@ fn row_apart(held: bool, o: u8, a: [u8; 16], b: [u8; 16]) -> Sequence
     Sequence::Nothing
 }
 
-// ---- the whole record, and all objects
+// ---- all objects
 
+// The first object of which life or owner differ, in two units.
+pub fn standings_apart(a: &[[u8; 16]], b: &[[u8; 16]]) -> Sequence
+    requires { do ⌜ (← ⟦a.len()⟧) ≡ rowCount ⌝ }
+    requires { do ⌜ (← ⟦b.len()⟧) ≡ rowCount ⌝ }
+    ensures { λ r. ⌜ requestsOf r ≡ standingsApart (objectsIn (now (a .entry))) (objectsIn (now (b .entry))) ⌝ }
+{
+    let mut o: usize = 0;
+    while o < Monitor::OBJECTS {
+        let one = object_in(a, o as u8);
+        let two = object_in(b, o as u8);
+        let q = standing_apart(o as u8, one, two);
+        if is_found(q) {
+            return q;
+        }
+        o += 1;
+    }
+    Sequence::Nothing
+}
+
+// The rest of a record.
 fn object_apart(o: u8, a: Object, b: Object) -> Sequence
     ensures { λ r. ⌜ requestsOf r ≡ objectApart o a b ⌝ }
 {
@@ -118,18 +141,15 @@ fn object_apart(o: u8, a: Object, b: Object) -> Sequence
     let other_rights = b.rights;
     let held = a.held;
     let other_held = b.held;
-    let by_life = life_apart(o, a, b);
-    let by_owner = owner_apart(o, a, b);
     let by_label = label_apart(a.owner, o, label, other_label);
     let by_companies = companies_apart(o, a, b);
     let by_right = row_apart(false, o, rights, other_rights);
     let by_access = row_apart(true, o, held, other_held);
     let by_sets = or_else(by_right, by_access);
-    let by_rest = or_else(by_label, or_else(by_companies, by_sets));
-    or_else(by_life, or_else(by_owner, by_rest))
+    or_else(by_label, or_else(by_companies, by_sets))
 }
 
-// The first object whose records differ, in two units.
+// The first object of which the rest of the records differs, in two units.
 pub fn objects_apart(a: &[[u8; 16]], b: &[[u8; 16]]) -> Sequence
     requires { do ⌜ (← ⟦a.len()⟧) ≡ rowCount ⌝ }
     requires { do ⌜ (← ⟦b.len()⟧) ≡ rowCount ⌝ }

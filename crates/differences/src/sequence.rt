@@ -1,4 +1,4 @@
-// A sequence of requests that two states answer differently, as a value: no request, one, or those that end in a reading.
+// A sequence of requests that two states answer differently, as a value: no request, one, two that make an object anew, or those that end in a reading.
 ghost use mathlib.Core.Path.{_≡_};
 ghost use Rattle.telling.specs.Distinguish.{orElse, when, differ};
 ghost use Rattle.differences.specs.Sequences.{found, readingAt, requestsOf};
@@ -12,11 +12,12 @@ pub struct Place {
     pub object: u8,
 }
 
-// Reading: the subject creates the object, gives it the level and asks to read it. Replacing: the owner of a live object deletes it,
-// and then the subject does this. The numbers are the owner, the object, the subject.
+// Remaking: the owner of an object deletes it and creates another; the numbers are the owner, the one, the other. Reading: the subject creates the object, gives it the level and asks to read it. Replacing: the owner of a live object deletes it,
+// and then the subject does this; the numbers are the owner, the object, the subject.
 pub enum Sequence {
     Nothing,
     One(Request),
+    Remaking(u8, u8, u8),
     Reading(u8, u8, Level),
     Replacing(u8, u8, u8, Level),
 }
@@ -28,6 +29,7 @@ pub fn is_found(q: Sequence) -> bool
     match q {
         Sequence::Nothing => false,
         Sequence::One(_) => true,
+        Sequence::Remaking(_, _, _) => true,
         Sequence::Reading(_, _, _) => true,
         Sequence::Replacing(_, _, _, _) => true,
     }

@@ -10,10 +10,10 @@ use Rattle.model.specs.declared.Label.the-variants.{Absent, Present}
 use Rattle.model.specs.declared.Monitor.{Monitor}
 use Rattle.model.specs.declared.Request.{Request}
 use Rattle.model.specs.State.{clearance, object}
-use Rattle.telling.specs.Distinguish.{orElse, search, searchModes, byEnrolment, byLife, byOwner, byLabel, byCompanies, byRight, byAccess, byObject, freeBelow, readAt, toClearance, byClearance, distinguish}
+use Rattle.telling.specs.Distinguish.{orElse, search, searchModes, byEnrolment, byLife, byOwner, byLifeAndOwner, byParent, byStanding, byLabel, byCompanies, byRight, byAccess, byObject, freeBelow, readAt, toClearance, byClearance, distinguish}
 use Rattle.differences.specs.declared.sequence.Sequence.{Sequence}
 use Rattle.differences.specs.Sequences.{found, readingAt, requestsOf}
-use Rattle.differences.specs.Records.{lifeApart, ownerApart, companiesApart, modeApart, setApart, rowApart, objectApart, objectsApart, enrolmentApart, enrolmentsApart, freePlace, levelApart, clearanceApart, clearancesApart}
+use Rattle.differences.specs.Records.{lifeApart, ownerApart, standingApart, standingsApart, parentsApart, companiesApart, modeApart, setApart, rowApart, objectApart, objectsApart, enrolmentApart, enrolmentsApart, freePlace, levelApart, clearanceApart, clearancesApart}
 use Rattle.differences.proofs.Searching.{or-found, or-nothing, search-same}
 
 module _ (m n : Monitor) where
@@ -26,7 +26,7 @@ module _ (m n : Monitor) where
   held-part o = refl
 
   object-part : (o : ℕ) → byObject m n o ≡ objectApart o (object m o) (object n o)
-  unfolding byObject objectApart byLife byOwner byLabel byCompanies lifeApart ownerApart companiesApart
+  unfolding byObject objectApart byLabel byCompanies companiesApart
   object-part o = rw (rights-part o, held-part o)
 
 requests-either : (b : Bool) (x y : Sequence) → requestsOf (cond b x y) ≡ cond b (requestsOf x) (requestsOf y)
@@ -44,31 +44,32 @@ clearance-part m s Absent b = refl
 clearance-part m s (Present a) Absent = refl
 clearance-part m s (Present a) (Present b) = rw (reading-part m s a, reading-part m s b)
 
--- what is looked at after the objects, and after the enrolments
-abbrev pub afterObjects : Monitor → Monitor → List Request
-afterObjects m n = clearancesApart (freePlace m) (m .subjects) (n .subjects)
+-- who is enrolled, then life and owner, then parents
+pub standing-parts : (m n : Monitor)
+    → byStanding m n ≡ orElse (enrolmentsApart (m .subjects) (n .subjects)) (orElse (standingsApart (m .objects) (n .objects)) (parentsApart m n))
+unfolding byStanding byEnrolment byLifeAndOwner byLife byOwner enrolmentsApart enrolmentApart standingsApart standingApart lifeApart ownerApart parentsApart
+standing-parts m n = refl
 
-abbrev pub afterEnrolment : Monitor → Monitor → List Request
-afterEnrolment m n = orElse (objectsApart (m .objects) (n .objects)) (afterObjects m n)
-
-distinguish-parts : (m n : Monitor) → distinguish m n ≡ orElse (enrolmentsApart (m .subjects) (n .subjects)) (afterEnrolment m n)
-unfolding distinguish enrolmentsApart enrolmentApart byEnrolment objectsApart clearancesApart byClearance
+-- then the rest of the objects, then the clearances
+pub distinguish-parts : (m n : Monitor)
+    → distinguish m n ≡ orElse (byStanding m n) (orElse (objectsApart (m .objects) (n .objects)) (clearancesApart (freePlace m) (m .subjects) (n .subjects)))
+unfolding distinguish objectsApart clearancesApart byClearance
 distinguish-parts m n =
-    ap₂ (λ (a b : List Request). orElse (search 16 (byEnrolment m n)) (orElse a b))
+    ap₂ (λ (a b : List Request). orElse (byStanding m n) (orElse a b))
     (search-same 64 (byObject m n) (λ o. objectApart o (object m o) (object n o)) (object-part m n))
     (search-same 16 (byClearance m n) (λ s. clearanceApart (freePlace m) s (clearance m s) (clearance n s)) (λ s. clearance-part m s (clearance m s) (clearance n s)))
 
--- the first part that has a request is the whole list
-module _ (m n : Monitor) (q : Sequence) (e : requestsOf q ≡ enrolmentsApart (m .subjects) (n .subjects)) where
-  pub told-by-enrolment : found q ≡ true → requestsOf q ≡ distinguish m n
-  told-by-enrolment w = sym (or-found q _ w) ∙ ap (λ (l : List Request). orElse l (afterEnrolment m n)) e ∙ sym (distinguish-parts m n)
+-- the first of three parts that has a request is the whole list
+module _ (a b c whole : List Request) (is : whole ≡ orElse a (orElse b c)) (q : Sequence) (e : requestsOf q ≡ a) where
+  pub told-first : found q ≡ true → requestsOf q ≡ whole
+  told-first w = sym (or-found q _ w) ∙ ap (λ (l : List Request). orElse l (orElse b c)) e ∙ sym is
 
-  told-later : (r : Sequence) → found q ≡ false → requestsOf r ≡ afterEnrolment m n → requestsOf r ≡ distinguish m n
-  told-later r w f = f ∙ sym (or-nothing q _ w) ∙ ap (λ (l : List Request). orElse l (afterEnrolment m n)) e ∙ sym (distinguish-parts m n)
+  told-later : (r : Sequence) → found q ≡ false → requestsOf r ≡ orElse b c → requestsOf r ≡ whole
+  told-later r w f = f ∙ sym (or-nothing q _ w) ∙ ap (λ (l : List Request). orElse l (orElse b c)) e ∙ sym is
 
-  module _ (r : Sequence) (f : requestsOf r ≡ objectsApart (m .objects) (n .objects)) (none : found q ≡ false) where
-    pub told-by-object : found r ≡ true → requestsOf r ≡ distinguish m n
-    told-by-object w = told-later r none (sym (or-found r _ w) ∙ ap (λ (l : List Request). orElse l (afterObjects m n)) f)
+  module _ (r : Sequence) (f : requestsOf r ≡ b) (none : found q ≡ false) where
+    pub told-second : found r ≡ true → requestsOf r ≡ whole
+    told-second w = told-later r none (sym (or-found r _ w) ∙ ap (λ (l : List Request). orElse l c) f)
 
-    pub told-by-clearance : (t : Sequence) → found r ≡ false → requestsOf t ≡ afterObjects m n → requestsOf t ≡ distinguish m n
-    told-by-clearance t w g = told-later t none (g ∙ sym (or-nothing r _ w) ∙ ap (λ (l : List Request). orElse l (afterObjects m n)) f)
+    pub told-third : (t : Sequence) → found r ≡ false → requestsOf t ≡ c → requestsOf t ≡ whole
+    told-third t w g = told-later t none (g ∙ sym (or-nothing r _ w) ∙ ap (λ (l : List Request). orElse l c) f)

@@ -4,7 +4,7 @@ ghost use Prim.Native.Nat.{_+_, _*_, _≤_};
 ghost use lib.ListN.{length};
 ghost use Rattle.model.specs.Requests.{requestSize};
 ghost use Rattle.model.specs.Buffers.{put};
-ghost use Rattle.telling.specs.Distinguish.{distinguish};
+ghost use Rattle.telling.specs.Distinguish.{byStanding, distinguish};
 ghost use Rattle.unit.specs.Rows.{rowCount, stateIn};
 ghost use Rattle.differences.specs.Sequences.{readingOf, requestsOf};
 ghost use Rattle.distinguish.specs.Telling.{bytesOf, roomOfFour, toldNumber, toldBytes};
@@ -14,6 +14,8 @@ use differences::enrolments_apart;
 use differences::free_place;
 use differences::is_found;
 use differences::objects_apart;
+use differences::parents_apart;
+use differences::standings_apart;
 use encoding::put_request;
 use labels::number;
 use model::Creation;
@@ -25,15 +27,32 @@ use model::Request;
 // The room for four requests.
 const ROOM: usize = 24;
 
-// First who is enrolled, then the objects, and where these are equal the clearances.
+// Who is enrolled, then what is live and who owns it, and where these are equal what is under what.
+fn standing_of(a: &[[u8; 16]], b: &[[u8; 16]]) -> Sequence
+    requires { do ⌜ (← ⟦a.len()⟧) ≡ rowCount ⌝ }
+    requires { do ⌜ (← ⟦b.len()⟧) ≡ rowCount ⌝ }
+    ensures { λ r. ⌜ requestsOf r ≡ byStanding (stateIn (now (a .entry))) (stateIn (now (b .entry))) ⌝ }
+{
+    let by_enrolment = enrolments_apart(a, b);
+    if is_found(by_enrolment) {
+        return by_enrolment;
+    }
+    let by_life = standings_apart(a, b);
+    if is_found(by_life) {
+        return by_life;
+    }
+    parents_apart(a, b)
+}
+
+// First what deletions and creations tell, then the rest of the objects, and where these are equal the clearances.
 fn sequence_of(a: &[[u8; 16]], b: &[[u8; 16]]) -> Sequence
     requires { do ⌜ (← ⟦a.len()⟧) ≡ rowCount ⌝ }
     requires { do ⌜ (← ⟦b.len()⟧) ≡ rowCount ⌝ }
     ensures { λ r. ⌜ requestsOf r ≡ distinguish (stateIn (now (a .entry))) (stateIn (now (b .entry))) ⌝ }
 {
-    let by_enrolment = enrolments_apart(a, b);
-    if is_found(by_enrolment) {
-        return by_enrolment;
+    let by_standing = standing_of(a, b);
+    if is_found(by_standing) {
+        return by_standing;
     }
     let by_object = objects_apart(a, b);
     if is_found(by_object) {
@@ -50,7 +69,11 @@ fn write_reading(out: &mut [u8], at: usize, s: u8, o: u8, l: Level)
     requires { ⌜ at + 3 * requestSize ≤ length (now out) ⌝ }
     ensures { λ _. ⌜ now (out .exit) ≡ put (now (out .entry)) at (bytesOf (readingOf s o l)) ⌝ }
 {
-    put_request(out, at, Request::Create(s, o, Creation { execute: false }));
+    let plain = Creation {
+        execute: false,
+        parent: 0,
+    };
+    put_request(out, at, Request::Create(s, o, plain));
     put_request(out, at + 6, Request::ChangeLevel(s, o, l));
     put_request(out, at + 12, Request::Get(s, o, Mode::Read));
 }
@@ -65,6 +88,15 @@ fn write_sequence(out: &mut [u8], q: Sequence) -> u8
         Sequence::One(only) => {
             put_request(out, 0, only);
             1
+        }
+        Sequence::Remaking(owner, o, child) => {
+            put_request(out, 0, Request::Delete(owner, o));
+            let plain = Creation {
+                execute: false,
+                parent: 0,
+            };
+            put_request(out, 6, Request::Create(owner, child, plain));
+            2
         }
         Sequence::Reading(o, s, l) => {
             write_reading(out, 0, s, o, l);

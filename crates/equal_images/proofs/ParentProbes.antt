@@ -5,7 +5,7 @@ use Prim.Native.Nat.{ℕ, zero, suc, _<_, _≤_}
 use native.Mathlib.Omega.{arith}
 use mathlib.Core.Path.{_≡_, refl, sym, ap, _∙_, subst}
 use mathlib.Core.Logic.{_≢_, _↔_, inl, inr, ⊎-elim}
-use mathlib.Core.Bool.{Bool, true, false, cond, not}
+use mathlib.Core.Bool.{Bool, true, false, cond, not, _&&_}
 use mathlib.Core.List.{List, [], _∷_}
 use lib.ListN.{length}
 use lib.Dec.{eqb}
@@ -139,7 +139,9 @@ module _ (p : Profile) (m n : Monitor) (S : Under p m) (N : Under p n) (same : (
   -- the list for x and y, where both are live
   probe-below : (x y : ℕ) → object m x .live ≡ true → object m y .live ≡ true → Probe p m n (byBelow m n x y) (below (m .objects) x y ≡ below (n .objects) x y)
   unfolding byBelow deletes creates owner
-  probe-below x y u v = go (below (m .objects) x y) (below (n .objects) x y) refl refl
+  probe-below x y u v =
+      subst (λ (l : Bool). Probe p m n (cond (l && differ (below (m .objects) x y) (below (n .objects) x y)) tellers []) (below (m .objects) x y ≡ below (n .objects) x y)) (sym u)
+      (go (below (m .objects) x y) (below (n .objects) x y) refl refl)
     where
       x-in : x < 64
       x-in = live-below p m S x u

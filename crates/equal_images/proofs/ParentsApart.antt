@@ -5,7 +5,7 @@ use Prim.Native.Nat.{ℕ, zero, suc, _<_, _≤_}
 use native.Mathlib.Omega.{arith}
 use mathlib.Core.Path.{_≡_, refl, sym, ap, _∙_, subst}
 use mathlib.Core.Logic.{_≢_}
-use mathlib.Core.Bool.{Bool, true, false, cond}
+use mathlib.Core.Bool.{Bool, true, false, cond, _&&_}
 use mathlib.Core.List.{List, [], _∷_, map}
 use lib.ListN.{length}
 use lib.Dec.{eqb}
@@ -53,7 +53,7 @@ module _ (m n : Monitor) where
   small-below : (x y : ℕ) → Small (byBelow m n x y)
   unfolding byBelow
   small-below x y =
-      cond-all Small (differ (below (m .objects) x y) (below (n .objects) x y)) (Delete (object m x .owner) x ∷ Create (object m x .owner) y (creation false 0) ∷ []) [] (λ e. record { short = omega arith; only = (tt, (tt, tt)) }) (λ e. none-small)
+      cond-all Small (object m x .live && differ (below (m .objects) x y) (below (n .objects) x y)) (Delete (object m x .owner) x ∷ Create (object m x .owner) y (creation false 0) ∷ []) [] (λ e. record { short = omega arith; only = (tt, (tt, tt)) }) (λ e. none-small)
 
   small-parent : (o a b : ℕ) → Small (toParent m n o a b)
   unfolding toParent

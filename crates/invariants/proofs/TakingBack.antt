@@ -281,7 +281,7 @@ unfolding ask takingBack
 counted-from-there b bs j took none n z h =
     let e = children-empty b j took .0 in
     let left = takings-restore bs (ask b j) (omega (arith, ap length e)) none n z h .0
-        ∙ ap (λ (l : List Entry). record { monitor = respond b (j .monitor) .monitor; journal = l }) (ap (take (journalSize - n)) e ∙ take-none (journalSize - n)) in
+    ∙ ap (λ (l : List Entry). record { monitor = respond b (j .monitor) .monitor; journal = l }) (ap (take (journalSize - n)) e ∙ take-none (journalSize - n)) in
     (left, ap (λ (x : Journaled). number (takingBack (x .journal))) left)
   where
     take-none : (k : ℕ) → take {A = Entry} k [] ≡ []

@@ -117,10 +117,10 @@ module _ (m : Monitor) (S : Sound m) (s o : ℕ) (l : Level) where
       elim (ℕ-discrete y o) [
         | yes v ↦ inl (p, subst (λ (k : ℕ). LabelBelow after k p) v (b .2))
         | no v ↦ elim (ℕ-discrete p o) [
-            | yes u ↦ inr (y, subst (λ (k : ℕ). LabelBelow after y k) u (b .2))
-            | no u ↦ absurd (b .2 .2 (subst (λ (ob : Object). Dominates (ob .label) (object after p .label)) (sym (elsewhere y v))
-                (subst (λ (ob : Object). Dominates (object m y .label) (ob .label)) (sym (elsewhere p u))
-                (S .hierarchy .labels-rise y p (sym (ap (λ (ob : Object). ob .parent) (elsewhere y v)) ∙ b .2 .0)
-                (not-absent _ (λ n. b .2 .1 (ap (λ (ob : Object). ob .label) (elsewhere y v) ∙ n)))))))
-          ]
+          | yes u ↦ inr (y, subst (λ (k : ℕ). LabelBelow after y k) u (b .2))
+          | no u ↦ absurd (b .2 .2 (subst (λ (ob : Object). Dominates (ob .label) (object after p .label)) (sym (elsewhere y v))
+              (subst (λ (ob : Object). Dominates (object m y .label) (ob .label)) (sym (elsewhere p u))
+              (S .hierarchy .labels-rise y p (sym (ap (λ (ob : Object). ob .parent) (elsewhere y v)) ∙ b .2 .0)
+              (not-absent _ (λ n. b .2 .1 (ap (λ (ob : Object). ob .label) (elsewhere y v) ∙ n)))))))
+        ]
       ]

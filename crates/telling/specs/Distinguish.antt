@@ -1,7 +1,7 @@
 -- A list of at most four requests on which two states reply differently, empty where they are the same state.
 -- Assumes nothing.
 use Prim.Native.Nat.{ℕ, zero, suc}
-use mathlib.Core.Bool.{Bool, true, false, cond, not, _||_, Bool·beq}
+use mathlib.Core.Bool.{Bool, true, false, cond, not, _&&_, _||_, Bool·beq}
 use mathlib.Core.List.{List, [], _∷_}
 use lib.Dec.{eqb, leb}
 use Rattle.model.specs.declared.Level.{Level}
@@ -64,10 +64,10 @@ module _ (m n : Monitor) where
   unfoldable pub byLifeAndOwner : ℕ → List Request
   byLifeAndOwner o = orElse (byLife o) (byOwner o)
 
-  -- object y is below object x in one only (change request §11): the owner of x deletes it and creates y again, 5 or not
+  -- object y is below a live object x in one only (change request §11): the owner of x deletes it and creates y again, 5 or not
   unfoldable pub byBelow : ℕ → ℕ → List Request
   byBelow x y =
-      cond (differ (below (m .objects) x y) (below (n .objects) x y))
+      cond (object m x .live && differ (below (m .objects) x y) (below (n .objects) x y))
       (Delete (object m x .owner) x ∷ Create (object m x .owner) y (creation false 0) ∷ []) []
 
   -- another parent, "number plus one or 0": one of the two parents is above object o in one only, or the one parent is above the other in one only

@@ -4,13 +4,13 @@ use mathlib.Core.Path.{sym, ap, _∙_}
 use Rattle.unit.specs.Rows.{stateIn, subjectsIn}
 use Rattle.differences.specs.declared.sequence.Place.{Place}
 use Rattle.differences.specs.Records.{clearancesApart}
-use Rattle.distinguish.proofs.Parts.{told-by-enrolment, told-by-object, told-by-clearance}
+use Rattle.distinguish.proofs.Parts.{distinguish-parts, told-first, told-second, told-third}
 use borrow.Author.Needs.{needs}
 use Rattle.distinguish.proofs.sequence_of.Statement.{statement}
 use Rattle.distinguish.proofs.sequence_of.Tie as tie
 
-enrolments-apart-requires : tie.Need-enrolments-apart-requires
-enrolments-apart-requires c κs = search needs
+standing-of-requires : tie.Need-standing-of-requires
+standing-of-requires c κs = search needs
 
 is-found-requires : tie.Need-is-found-requires
 is-found-requires c κs = search needs
@@ -18,8 +18,8 @@ is-found-requires c κs = search needs
 returns : tie.Need-returns
 returns c =
     let args = c .before .before .before .args in
-    let first = c .before .before .enrolments-apart in
-    told-by-enrolment (stateIn (args .a .now)) (stateIn (args .b .now)) (first .result) (first .ensures) (sym (c .before .is-found .ensures) ∙ c .if1 .taken)
+    let first = c .before .before .standing-of in
+    told-first _ _ _ _ (distinguish-parts (stateIn (args .a .now)) (stateIn (args .b .now))) (first .result) (first .ensures) (sym (c .before .is-found .ensures) ∙ c .if1 .taken)
 
 objects-apart-requires : tie.Need-objects-apart-requires
 objects-apart-requires c κs = search needs
@@ -31,9 +31,9 @@ returns-2 : tie.Need-returns-2
 returns-2 c =
     let start = c .before .before .before .before .before in
     let args = start .before .args in
-    let first = start .enrolments-apart in
+    let first = start .standing-of in
     let second = c .before .before .objects-apart in
-    told-by-object (stateIn (args .a .now)) (stateIn (args .b .now)) (first .result) (first .ensures) (second .result) (second .ensures)
+    told-second _ _ _ _ (distinguish-parts (stateIn (args .a .now)) (stateIn (args .b .now))) (first .result) (first .ensures) (second .result) (second .ensures)
     (sym (c .before .before .before .before .is-found .ensures) ∙ c .before .before .before .if1 .left)
     (sym (c .before .is-found2 .ensures) ∙ c .if2 .taken)
 
@@ -48,9 +48,9 @@ returns-3 c =
     let here = c .before .before in
     let start = here .before .before .before .before .before in
     let args = start .before .args in
-    let first = start .enrolments-apart in
+    let first = start .standing-of in
     let second = here .before .before .objects-apart in
-    told-by-clearance (stateIn (args .a .now)) (stateIn (args .b .now)) (first .result) (first .ensures) (second .result) (second .ensures)
+    told-third _ _ _ _ (distinguish-parts (stateIn (args .a .now)) (stateIn (args .b .now))) (first .result) (first .ensures) (second .result) (second .ensures)
     (sym (here .before .before .before .before .is-found .ensures) ∙ here .before .before .before .if1 .left)
     (c .clearances-apart .result)
     (sym (here .before .is-found2 .ensures) ∙ here .if2 .left)
@@ -60,7 +60,7 @@ pub sequence-of-spec : {M : Type 1} → statement M
 sequence-of-spec =
     tie.close
     (tie.spec
-    enrolments-apart-requires
+    standing-of-requires
     is-found-requires
     returns
     objects-apart-requires

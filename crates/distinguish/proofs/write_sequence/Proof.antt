@@ -22,14 +22,23 @@ put-request-requires c κs = search needs
 enum-known-q-2 : tie.Need-enum-known-q-2
 enum-known-q-2 c = search needs
 
-write-reading-requires : tie.Need-write-reading-requires
-write-reading-requires c κs = search needs
+put-request-requires-2 : tie.Need-put-request-requires-2
+put-request-requires-2 c κs = search needs
+
+put-request-requires-3 : tie.Need-put-request-requires-3
+put-request-requires-3 c κs = search needs
 
 enum-known-q-3 : tie.Need-enum-known-q-3
 enum-known-q-3 c = search needs
 
-put-request-requires-2 : tie.Need-put-request-requires-2
-put-request-requires-2 c κs = search needs
+write-reading-requires : tie.Need-write-reading-requires
+write-reading-requires c κs = search needs
+
+enum-known-q-4 : tie.Need-enum-known-q-4
+enum-known-q-4 c = search needs
+
+put-request-requires-4 : tie.Need-put-request-requires-4
+put-request-requires-4 c κs = search needs
 
 write-reading-requires-2 : tie.Need-write-reading-requires-2
 write-reading-requires-2 c κs = search needs
@@ -48,15 +57,23 @@ same-length-2 : tie.Need-same-length-2
 same-length-2 c = search needs
 
 returns-3 : tie.Need-returns-3
-returns-3 c = rw (c .before .before .before .before .before .q2 .given .1) (refl, c .before .before .write-reading .ensures)
+returns-3 c =
+    let first = c .before .before .before .before .before .before .put-request2 in
+    rw (c .before .before .before .before .before .before .before .before .before .q2 .given .1) (refl, stored-next _ _ _ _ _ _ _ (omega arith) (first .ensures) refl (stored-last _ _ _ _ (c .before .before .put-request3 .ensures)))
 
 same-length-3 : tie.Need-same-length-3
 same-length-3 c = search needs
 
 returns-4 : tie.Need-returns-4
-returns-4 c =
-    let first = c .before .before .before .before .before .before .put-request2 in
-    rw (c .before .before .before .before .before .before .before .before .before .q3 .given .1) (refl, stored-next _ _ _ _ _ _ _ (omega arith) (first .ensures) refl (c .before .before .write-reading2 .ensures))
+returns-4 c = rw (c .before .before .before .before .before .q3 .given .1) (refl, c .before .before .write-reading .ensures)
+
+same-length-4 : tie.Need-same-length-4
+same-length-4 c = search needs
+
+returns-5 : tie.Need-returns-5
+returns-5 c =
+    let first = c .before .before .before .before .before .before .put-request4 in
+    rw (c .before .before .before .before .before .before .before .before .before .q4 .given .1) (refl, stored-next _ _ _ _ _ _ _ (omega arith) (first .ensures) refl (c .before .before .write-reading2 .ensures))
 
 pub write-sequence-spec : {M : Type 1} → statement M
 write-sequence-spec =
@@ -66,9 +83,12 @@ write-sequence-spec =
     enum-known-q
     put-request-requires
     enum-known-q-2
-    write-reading-requires
-    enum-known-q-3
     put-request-requires-2
+    put-request-requires-3
+    enum-known-q-3
+    write-reading-requires
+    enum-known-q-4
+    put-request-requires-4
     write-reading-requires-2
     returns
     same-length
@@ -76,4 +96,6 @@ write-sequence-spec =
     same-length-2
     returns-3
     same-length-3
-    returns-4)
+    returns-4
+    same-length-4
+    returns-5)

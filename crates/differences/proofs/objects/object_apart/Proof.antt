@@ -7,12 +7,6 @@ use borrow.Author.Needs.{needs}
 use Rattle.differences.proofs.objects.object_apart.Statement.{statement}
 use Rattle.differences.proofs.objects.object_apart.Tie as tie
 
-life-apart-requires : tie.Need-life-apart-requires
-life-apart-requires c κs = search needs
-
-owner-apart-requires : tie.Need-owner-apart-requires
-owner-apart-requires c κs = search needs
-
 label-apart-requires : tie.Need-label-apart-requires
 label-apart-requires c κs = search needs
 
@@ -34,28 +28,18 @@ or-else-requires-2 c κs = search needs
 or-else-requires-3 : tie.Need-or-else-requires-3
 or-else-requires-3 c κs = search needs
 
-or-else-requires-4 : tie.Need-or-else-requires-4
-or-else-requires-4 c κs = search needs
-
-or-else-requires-5 : tie.Need-or-else-requires-5
-or-else-requires-5 c κs = search needs
-
 returns : tie.Need-returns
 unfolding objectApart
 returns c =
-    let parts = c .before .before .before .before .before in
-    let sets = c .before .before .before .before .or-else .ensures ∙ ap₂ orElse (parts .before .row-apart .ensures) (parts .row-apart2 .ensures) in
-    let companies = c .before .before .before .or-else2 .ensures ∙ ap₂ orElse (parts .before .before .companies-apart .ensures) sets in
-    let label = c .before .before .or-else3 .ensures ∙ ap₂ orElse (parts .before .before .before .label-apart .ensures) companies in
-    let owner = c .before .or-else4 .ensures ∙ ap₂ orElse (parts .before .before .before .before .owner-apart .ensures) label in
-    c .or-else5 .ensures ∙ ap₂ orElse (parts .before .before .before .before .before .life-apart .ensures) owner
+    let parts = c .before .before .before in
+    let sets = c .before .before .or-else .ensures ∙ ap₂ orElse (parts .before .row-apart .ensures) (parts .row-apart2 .ensures) in
+    let companies = c .before .or-else2 .ensures ∙ ap₂ orElse (parts .before .before .companies-apart .ensures) sets in
+    c .or-else3 .ensures ∙ ap₂ orElse (parts .before .before .before .label-apart .ensures) companies
 
 pub object-apart-spec : {M : Type 1} → statement M
 object-apart-spec =
     tie.close
     (tie.spec
-    life-apart-requires
-    owner-apart-requires
     label-apart-requires
     companies-apart-requires
     row-apart-requires
@@ -63,6 +47,4 @@ object-apart-spec =
     or-else-requires
     or-else-requires-2
     or-else-requires-3
-    or-else-requires-4
-    or-else-requires-5
     returns)
