@@ -140,12 +140,12 @@ module _ (u : Rows) (o : ℕ) (v : Rows) (c : ℕ) (F : Leaves u o v c) (h : o <
   pub leaves-more : Leaves u o (removed v c) (c + 1)
   leaves-more =
       record {
-        whole = removed-length v c;
-        behind = λ i p q. removed-behind v c i p q ∙ F .behind i p q;
+        whole = removed-length v c ∙ F .whole;
+        behind = λ i p q. removed-behind v c (F .whole) i p q ∙ F .behind i p q;
         each = λ y p.
-            split (gone (objectsIn v) c y) (λ g. inr (removed-gone v c y p g, goes-too y (out y g)))
-            (λ g. let k = removed-kept v c y p g in ⊎-elim (λ e. inl (k ∙ e)) (λ e. inr (k ∙ e .0, e .1)) (F .each y p));
-        self = split (gone (objectsIn v) c o) (λ g. removed-gone v c o h g) (λ g. removed-kept v c o h g ∙ F .self);
+            split (gone (objectsIn v) c y) (λ g. inr (removed-gone v c (F .whole) y p g, goes-too y (out y g)))
+            (λ g. let k = removed-kept v c (F .whole) y p g in ⊎-elim (λ e. inl (k ∙ e)) (λ e. inr (k ∙ e .0, e .1)) (F .each y p));
+        self = split (gone (objectsIn v) c o) (λ g. removed-gone v c (F .whole) o h g) (λ g. removed-kept v c (F .whole) o h g ∙ F .self);
         closed = still;
       }
     where
@@ -159,10 +159,10 @@ module _ (u : Rows) (o : ℕ) (v : Rows) (c : ℕ) (F : Leaves u o v c) (h : o <
       stays : (y : ℕ) → liveIn (removed v c) y ≡ true → gone (objectsIn v) c y ≡ false
       stays y t =
           let p = live-below (removed v c) y t in
-          split (gone (objectsIn v) c y) (λ g. not-live (removed v c) y (cleared-object (removed v c) y p (removed-gone v c y p g)) t) (λ g. g)
+          split (gone (objectsIn v) c y) (λ g. not-live (removed v c) y (cleared-object (removed v c) y p (removed-gone v c (F .whole) y p g)) t) (λ g. g)
 
       same : (y : ℕ) → y < 64 → gone (objectsIn v) c y ≡ false → objectAt (objectsIn (removed v c)) y ≡ objectAt (objectsIn v) y
-      same y p g = same-object v (removed v c) y p (removed-kept v c y p g)
+      same y p g = same-object v (removed v c) y p (removed-kept v c (F .whole) y p g)
 
       still : (y x : ℕ) → parentOf (removed v c) y ≡ suc x → liveIn u x ≡ true → (liveIn (removed v c) x ≡ true) ⊎ ((x ≡ o) × (c + 1 ≤ y))
       still y x e t =
@@ -212,14 +212,14 @@ module _ (u : Rows) (o : ℕ) (n : length u ≡ rowCount) (h : o < 64) (t : live
 
   pub leaves-end : v ≡ removed u o
   unfolding Gone
-  leaves-end = is-removed u o v (F .whole) (λ y b. ⊎-elim (λ e. kept y b e) (λ e. e .0 ∙ sym (removed-gone u o y b (gone-in (objectsIn u) (objects-length u) o h y (e .1)))) (F .each y b)) (F .behind)
+  leaves-end = is-removed u o n v (F .whole) (λ y b. ⊎-elim (λ e. kept y b e) (λ e. e .0 ∙ sym (removed-gone u o n y b (gone-in (objectsIn u) (objects-length u) o h y (e .1)))) (F .each y b)) (F .behind)
     where
       kept : (y : ℕ) → y < 64 → trio v y ≡ trio u y → trio v y ≡ trio (removed u o) y
       kept y b e =
           split (gone (objectsIn u) o y)
-          (λ g. ⊎-elim (λ (z : y ≡ o). ap (trio v) z ∙ F .self ∙ sym (removed-gone u o y b g))
+          (λ g. ⊎-elim (λ (z : y ≡ o). ap (trio v) z ∙ F .self ∙ sym (removed-gone u o n y b g))
           (λ (k : Below (objectsIn u) o y).
           let above = gone-above (suc y) (further y k) y refl in
           apart (ap (λ (ob : Object). ob .live) (same-object u v y b e) ∙ above .0) (above .1))
           (gone-out (objectsIn u) (objects-length u) o h y g))
-          (λ g. e ∙ sym (removed-kept u o y b g))
+          (λ g. e ∙ sym (removed-kept u o n y b g))

@@ -3,3 +3,4 @@ pub mod Upward
 pub mod Meeting
 pub mod Rowed
 pub mod Leaving
+pub mod Deleted

@@ -50,7 +50,7 @@ pub rows-cleared : (u : Rows) (o : ℕ) (w : Rows) → w ≡ setRows u o noModes
 unfolding setObject rowOf labelBytes
 rows-cleared u o w e = e
 
-no-rest : restOf noObject ≡ noModes
+pub no-rest : restOf noObject ≡ noModes
 unfolding rowOf labelBytes
 no-rest = refl
 
@@ -75,14 +75,14 @@ module _ (u : Rows) (o : ℕ) (n : length u ≡ rowCount) (h : o < 64) where
 
 -- ---- the rows after a deletion
 
-module _ (u : Rows) (o : ℕ) where
-  pub removed-length : length (removed u o) ≡ rowCount
-  unfolding removed
-  removed-length = tabulate-length rowCount (rowLeft u o)
+pub removed-length : (u : Rows) (o : ℕ) → length (removed u o) ≡ length u
+unfolding removed
+removed-length u o = tabulate-length (length u) (rowLeft u o)
 
+module _ (u : Rows) (o : ℕ) (n : length u ≡ rowCount) where
   removed-row : (i : ℕ) → i < rowCount → rowAt (removed u o) i ≡ rowLeft u o i
   unfolding removed
-  removed-row i h = tabulate-at rowCount (rowLeft u o) i [] h
+  removed-row i h = tabulate-at (length u) (rowLeft u o) i [] (omega (arith, n, h))
 
   pub removed-behind : (i : ℕ) → 192 ≤ i → i < rowCount → rowAt (removed u o) i ≡ rowAt u i
   removed-behind i a b =
@@ -115,14 +115,14 @@ module _ (u : Rows) (o : ℕ) where
   -- rows that have what it leaves, object by object and behind them
   pub is-removed : (w : Rows) → length w ≡ rowCount → ((y : ℕ) → y < 64 → trio w y ≡ trio (removed u o) y)
       → ((i : ℕ) → 192 ≤ i → i < rowCount → rowAt w i ≡ rowAt u i) → w ≡ removed u o
-  is-removed w n each behind =
-      ext-getD [] w (removed u o) (n ∙ sym removed-length)
+  is-removed w whole each behind =
+      ext-getD [] w (removed u o) (whole ∙ sym (removed-length u o ∙ n))
       (λ i b. in-parts (λ k. rowAt w k ≡ rowAt (removed u o) k)
       (λ y l. ap (λ (t : Rows). rowAt t 0) (each y l))
       (λ y l. ap (λ (t : Rows). rowAt t 1) (each y l))
       (λ y l. ap (λ (t : Rows). rowAt t 2) (each y l))
       (λ s l. same (clearanceRow s) (omega arith) (omega arith))
-      (same profileRow (omega arith) (omega arith)) i (omega (arith, n, b)))
+      (same profileRow (omega arith) (omega arith)) i (omega (arith, whole, b)))
     where
       same : (i : ℕ) → 192 ≤ i → i < rowCount → rowAt w i ≡ rowAt (removed u o) i
       same i a b = behind i a b ∙ sym (removed-behind i a b)

@@ -3,11 +3,12 @@
 use Prim.Native.Nat.{ℕ, suc, _*_, _%_}
 use mathlib.Core.Bool.{Bool, cond, _&&_, _||_}
 use mathlib.Core.List.{List}
+use lib.ListN.{length}
 use lib.Dec.{eqb, ltb}
 use Rattle.model.specs.declared.Object.{Object}
 use Rattle.model.specs.State.{objectCount, noModes}
 use Rattle.model.specs.Hierarchy.{below}
-use Rattle.unit.specs.Rows.{Rows, rowCount, rowAt, tabulate, objectsIn}
+use Rattle.unit.specs.Rows.{Rows, rowAt, tabulate, objectsIn}
 
 -- the object is live and has o as its parent
 abbrev pub childOf : Object → ℕ → Bool
@@ -21,5 +22,6 @@ gone l o y = eqb y o || below l o y
 abbrev pub rowLeft : Rows → ℕ → ℕ → List ℕ
 rowLeft u o i = cond (ltb i (3 * objectCount) && gone (objectsIn u) o (i % objectCount)) noModes (rowAt u i)
 
+-- as many rows as there were
 unfoldable pub removed : Rows → ℕ → Rows
-removed u o = tabulate rowCount (rowLeft u o)
+removed u o = tabulate (length u) (rowLeft u o)

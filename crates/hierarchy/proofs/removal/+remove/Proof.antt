@@ -149,7 +149,7 @@ remove-loop-again t c =
     let turn = c .before .before .before .loop-test .taken in
     let child = sym (c .before .is-child .ensures) in (
       omega (arith, turn),
-      ⊎-elim (λ w. ap length (w .4 ∙ w .2 .ensures) ∙ removed-length (loop .unit) (loop .i)) (λ w. ap length (w .1) ∙ loop .inv .1) (c .if1 .came),
+      ⊎-elim (λ w. ap length (w .4 ∙ w .2 .ensures) ∙ removed-length (loop .unit) (loop .i) ∙ loop .inv .1) (λ w. ap length (w .1) ∙ loop .inv .1) (c .if1 .came),
       λ u n e.
           let left = loop .inv .2 u n e in
           ⊎-elim
