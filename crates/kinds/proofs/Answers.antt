@@ -15,10 +15,11 @@ use Rattle.model.specs.declared.Monitor.{Monitor}
 use Rattle.model.specs.declared.Request.{Request}
 use Rattle.model.specs.declared.Request.the-variants.{Get, Delete, ChangeLevel, SetCompanies}
 use Rattle.model.specs.declared.Decision.{Decision}
-use Rattle.model.specs.declared.Decision.the-variants.{Granted, Already, NotEnrolled, NotLive, NoRight, NoLabel, SimpleBroken, StarBroken, LabelLowered, WallBroken}
+use Rattle.model.specs.declared.Decision.the-variants.{Granted, Already, NotEnrolled, NotLive, NoRight, NoLabel, SimpleBroken, StarBroken, LabelLowered, WallBroken, HierarchyBroken}
 use Rattle.model.specs.declared.Response.{Response}
 use Rattle.model.specs.Tests.{unless}
 use Rattle.model.specs.State.{noObject, object}
+use Rattle.model.specs.Hierarchy.{labelsRise}
 use Rattle.model.specs.Decisions.{number, refuses}
 use Rattle.model.specs.Requests.{InRange}
 use Rattle.model.specs.Rules.{notLowered, target, already, changed, checks, afterwards, simpleAll, starAll, wallAll}
@@ -69,7 +70,11 @@ get-stages s o x m =
 
 -- change of level: the checks of delete, then 14, then those of the state after it
 levelLast : ℕ → Level → Monitor → Object → Decision
-levelLast o l m ob = unless (simpleAll (m .subjects) ob) SimpleBroken (unless (starAll (afterwards (ChangeLevel 0 o l) m .objects)) StarBroken Granted)
+levelLast o l m ob =
+    unless (simpleAll (m .subjects) ob) SimpleBroken
+    (unless (starAll (afterwards (ChangeLevel 0 o l) m .objects)) StarBroken
+    (unless (labelsRise (afterwards (ChangeLevel 0 o l) m .objects)) HierarchyBroken
+    Granted))
 
 -- what stands behind the checks of delete, where this is what comes after 14
 fromLowering : ℕ → Level → Monitor → Decision → Decision

@@ -10,7 +10,7 @@ use Rattle.model.specs.declared.Request.the-variants.{Get, Release, Give, Resci
 use Rattle.model.specs.declared.Decision.the-variants.{Granted, Already}
 use Rattle.model.specs.declared.Monitor.{Monitor}
 use Rattle.model.specs.declared.Response.{Response}
-use Rattle.model.specs.State.{noObject, object, heldBy}
+use Rattle.model.specs.State.{object, heldBy}
 use Rattle.model.specs.Decisions.{refuses}
 use Rattle.model.specs.Requests.{InRange}
 use Rattle.model.specs.Rules.{target, created, already, changed, afterwards, checks, answer, step}
@@ -19,6 +19,8 @@ use Rattle.unit.specs.Rows.{Rows, rowCount, stateIn}
 use Rattle.unit.specs.Stored.{setHeld, setObject}
 use Rattle.unit.proofs.Readings.{read-held}
 use Rattle.unit.proofs.Stores.{rights-stored, held-stored, sets-stored, label-stored, companies-stored, object-stored, held-put-back}
+use Rattle.hierarchy.proofs.Rowed.{removed-length}
+use Rattle.hierarchy.proofs.Deleted.{removed-state}
 use Rattle.kinds.specs.Carried.{stores, carried}
 
 pub stored-state : (q : Request) (u : Rows) → length u ≡ rowCount → InRange q → stateIn (stores q u) ≡ afterwards q (stateIn u)
@@ -28,7 +30,7 @@ stored-state (Release s o x) u n r = held-stored u n o (r .1) s _
 stored-state (Give s t o x) u n r = rights-stored u n o (r .2) t _
 stored-state (Rescind s t o x) u n r = sets-stored u n o (r .2) t _ _
 stored-state (Create s o c) u n r = object-stored u o (created s c) n (r .1)
-stored-state (Delete s o) u n r = object-stored u o noObject n (r .1)
+stored-state (Delete s o) u n r = removed-state u n o (r .1) s
 stored-state (ChangeLevel s o l) u n r = label-stored u n o (r .1) (Present l)
 stored-state (SetCompanies s o k) u n r = companies-stored u n o (r .1) k
 
@@ -40,7 +42,7 @@ stores-length (Release s o x) u = simp length-set
 stores-length (Give s t o x) u = simp length-set
 stores-length (Rescind s t o x) u = simp length-set
 stores-length (Create s o c) u = simp length-set
-stores-length (Delete s o) u = simp length-set
+stores-length (Delete s o) u = removed-length u o
 stores-length (ChangeLevel s o l) u = simp length-set
 stores-length (SetCompanies s o k) u = simp length-set
 

@@ -7,10 +7,11 @@ use Rattle.model.specs.declared.Monitor.{Monitor}
 use Rattle.model.specs.declared.Mode.{Mode}
 use Rattle.model.specs.declared.Request.the-variants.{Get}
 use Rattle.model.specs.declared.Decision.{Decision}
-use Rattle.model.specs.declared.Decision.the-variants.{Granted, SimpleBroken, StarBroken, WallBroken}
+use Rattle.model.specs.declared.Decision.the-variants.{Granted, SimpleBroken, StarBroken, WallBroken, HierarchyBroken}
 use Rattle.model.specs.Tests.{implies, unless, firstFailing}
 use Rattle.model.specs.Modes.{needsLabel}
 use Rattle.model.specs.State.{object}
+use Rattle.model.specs.Hierarchy.{labelsRise}
 use Rattle.model.specs.Decisions.{refuses}
 use Rattle.model.specs.Rules.{simpleAll, starFor, starAll, wallFor, checkList}
 
@@ -25,12 +26,13 @@ afterGet s x m =
     (unless (wallFor s (m .objects)) WallBroken
     Granted)
 
--- change of level: "8, 9 over all subjects in the state after the change"
+-- change of level: "8, 9 over all subjects in the state after the change", and 20 "after 9" (change request §11)
 unfoldable pub afterChange : ℕ → Monitor → Decision
 afterChange o m =
     unless (simpleAll (m .subjects) (object m o)) SimpleBroken
     (unless (starAll (m .objects)) StarBroken
-    Granted)
+    (unless (labelsRise (m .objects)) HierarchyBroken
+    Granted))
 
 -- the first refusal of two stages
 unfoldable pub first : Decision → Decision → Decision
