@@ -1,11 +1,12 @@
 // Change of level, on a unit: the checks in the scope's order, then what it stores. It returns the number of its answer; a refusal leaves every
-// byte. It stores before it asks for simple and star, and puts the old row back where one of them refuses.
+// byte. It stores before it asks for simple, star and the rule of labels, and puts the old row back where one of them refuses.
 ghost use mathlib.Core.Path.{_≡_};
 ghost use Prim.Native.Nat.{_<_};
 ghost use Rattle.model.specs.State.{subjectCount, objectCount};
 ghost use Rattle.unit.specs.Rows.{rowCount, stateIn};
 ghost use Rattle.kinds.specs.Stages.{afterChange};
 ghost use Rattle.kinds.specs.Carried.{Does};
+use hierarchy::labels_rise;
 use labels::check;
 use labels::is_level;
 use labels::not_lowered;
@@ -26,7 +27,7 @@ use unit::set_label;
 use unit::set_rest;
 
 // 7: the label becomes class and needs. A label that is there is only raised; simple and star are asked of all subjects in the state after
-// the change.
+// the change, and the rule of labels of all objects.
 pub fn change_level(unit: &mut [[u8; 16]], s: u8, o: u8, level: Level) -> u8
     requires { do ⌜ (← ⟦unit.len()⟧) ≡ rowCount ⌝ }
     requires { ⌜ (s < subjectCount) × (o < objectCount) ⌝ }
@@ -50,7 +51,8 @@ pub fn change_level(unit: &mut [[u8; 16]], s: u8, o: u8, level: Level) -> u8
     flag(is_level(label, level))
 }
 
-// Checks 8 and 9 over all subjects, after the label of object o was changed. Star, which costs more, is asked only where simple holds.
+// Checks 8 and 9 over all subjects, after the label of object o was changed, then 20 over all objects. Each is asked only where those before
+// it hold.
 fn label_fits(unit: &[[u8; 16]], o: u8) -> Decision
     requires { do ⌜ (← ⟦unit.len()⟧) ≡ rowCount ⌝ }
     requires { ⌜ o < objectCount ⌝ }
@@ -60,5 +62,9 @@ fn label_fits(unit: &[[u8; 16]], o: u8) -> Decision
         return Decision::SimpleBroken;
     }
     let broken = breaks_star(unit, 0, Monitor::SUBJECTS);
-    check(!broken, Decision::StarBroken, Decision::Granted)
+    if broken {
+        return Decision::StarBroken;
+    }
+    let rises = labels_rise(unit);
+    check(rises, Decision::HierarchyBroken, Decision::Granted)
 }

@@ -2,11 +2,13 @@
 // answer; a refusal leaves every byte.
 ghost use mathlib.Core.Path.{_≡_};
 ghost use mathlib.Core.Bool.{cond};
-ghost use Prim.Native.Nat.{_<_};
+ghost use Prim.Native.Nat.{_<_, _≤_};
 ghost use Rattle.model.specs.State.{subjectCount, objectCount};
 ghost use Rattle.model.specs.Rules.{checks};
 ghost use Rattle.unit.specs.Rows.{rowCount, stateIn};
 ghost use Rattle.kinds.specs.Carried.{Does};
+use hierarchy::parent_live;
+use hierarchy::remove;
 use labels::check;
 use labels::number;
 use labels::refuses;
@@ -21,13 +23,18 @@ use unit::is_owner;
 use unit::row_of;
 use unit::set_rows;
 
-// 5: live, unlabelled and without a company, owned by the actor, who gains r, w, a, and e if how says so.
+// 5: live, unlabelled and without a company, under the parent that how says, owned by the actor, who gains r, w, a, and e if how says so.
 pub fn create(unit: &mut [[u8; 16]], s: u8, o: u8, how: Creation) -> u8
     requires { do ⌜ (← ⟦unit.len()⟧) ≡ rowCount ⌝ }
-    requires { ⌜ (s < subjectCount) × (o < objectCount) ⌝ }
+    requires { ⌜ (s < subjectCount) × (o < objectCount) × (how .parent ≤ objectCount) ⌝ }
     ensures { λ r. ⌜ Does (Request.Create s o how) (now (unit .entry)) (now (unit .exit)) r ⌝ }
 {
-    let free = check(!is_live(unit, o), Decision::AlreadyLive, Decision::Granted);
+    let under = check(
+        parent_live(unit, how.parent),
+        Decision::ParentNotLive,
+        Decision::Granted,
+    );
+    let free = check(!is_live(unit, o), Decision::AlreadyLive, under);
     let d = check(is_enrolled(unit, s), Decision::NotEnrolled, free);
     if refuses(d) {
         return number(d);
@@ -35,7 +42,8 @@ pub fn create(unit: &mut [[u8; 16]], s: u8, o: u8, how: Creation) -> u8
     let none = [0u8; Monitor::SUBJECTS];
     let mut rights = none;
     rights[s as usize] = owner_rights(how.execute);
-    let rest = row_of(1, s, Label::Absent, 0);
+    let parent = how.parent as u8;
+    let rest = row_of(1, s, Label::Absent, 0, parent);
     set_rows(unit, o, rights, none, rest);
     0
 }
@@ -46,7 +54,7 @@ fn owner_rights(execute: bool) -> u8
     if execute { 15 } else { 14 }
 }
 
-// 6: no longer live, its rights and accesses gone.
+// 6: no longer live, its rights and accesses gone, and everything below it.
 pub fn delete(unit: &mut [[u8; 16]], s: u8, o: u8) -> u8
     requires { do ⌜ (← ⟦unit.len()⟧) ≡ rowCount ⌝ }
     requires { ⌜ (s < subjectCount) × (o < objectCount) ⌝ }
@@ -56,9 +64,7 @@ pub fn delete(unit: &mut [[u8; 16]], s: u8, o: u8) -> u8
     if refuses(d) {
         return number(d);
     }
-    let none = [0u8; Monitor::SUBJECTS];
-    let rest = row_of(0, 0, Label::Absent, 0);
-    set_rows(unit, o, none, none, rest);
+    remove(unit, o);
     0
 }
 
