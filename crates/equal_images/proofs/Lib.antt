@@ -11,3 +11,4 @@ pub mod ParentsApart
 pub mod ToldApart
 pub mod OneProfile
 pub mod CompaniesApart
+pub mod ParentExamples

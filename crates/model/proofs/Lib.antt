@@ -26,5 +26,6 @@ pub mod ByteExamples
 pub mod StateExamples
 pub mod JournalExamples
 pub mod WallExamples
+pub mod HierarchyExamples
 pub mod Arrays
 pub mod Buffers

@@ -7,3 +7,4 @@ pub mod ModePairs
 pub mod Sites
 pub mod TakingBack
 pub mod Walls
+pub mod Risers
