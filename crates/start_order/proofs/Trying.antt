@@ -74,7 +74,7 @@ fields-other k f e =
     others : wantedOf (cond (eqb (f .kind) 2) (Release (f .actor) (f .object) (modeOf (f .mode)))
         (cond (eqb (f .kind) 3) (Give (f .actor) (f .other) (f .object) (modeOf (f .mode)))
         (cond (eqb (f .kind) 4) (Rescind (f .actor) (f .other) (f .object) (modeOf (f .mode)))
-        (cond (eqb (f .kind) 5) (Create (f .actor) (f .object) (creation (eqb (f .mode) 4)))
+        (cond (eqb (f .kind) 5) (Create (f .actor) (f .object) (creation (eqb (f .mode) 4) (f .needs)))
         (cond (eqb (f .kind) 6) (Delete (f .actor) (f .object))
         (cond (eqb (f .kind) 7) (ChangeLevel (f .actor) (f .object) (levelOf f))
         (SetCompanies (f .actor) (f .object) (f .needs)))))))) ≡ Nothing

@@ -6,12 +6,12 @@ use mathlib.Core.List.{List, [], _∷_, map}
 use lib.ListN.{replicate}
 use Rattle.bits.specs.Bits.{odd, toBits, fromBits, bytesToBits, bitsToBytes, field, cut, join}
 use Rattle.model.specs.declared.Decision.the-variants.{Granted, ZeroSeed}
-use Rattle.model.specs.Tests.{unless}
+use Rattle.model.specs.Tests.{implies, unless}
 use Rattle.model.specs.declared.Profile.{Profile}
 use Rattle.model.specs.declared.Monitor.{Monitor}
 use Rattle.model.specs.State.{subjectCount, nobody, fresh}
 use Rattle.model.specs.Profiles.{site}
-use Rattle.model.specs.Requests.{requestSize, fields, modeAllowed, unusedZero, fieldsFormed, within, wellFormed, request, decodeFields, decode, pack}
+use Rattle.model.specs.Requests.{requestSize, fields, modeAllowed, unusedZero, parentWithin, fieldsFormed, within, wellFormed, request, decodeFields, decode, pack}
 use Rattle.model.specs.Rules.{changed, already, checks, answer, step}
 use Rattle.model.specs.Runs.{respond, replies}
 use Rattle.test_load.specs.Generator.{xorshift, draw}
@@ -83,5 +83,5 @@ pub profiles-of-nine : (nine (begun (site 16 64 15 65535)) ≡ 3 ∷ 3 ∷ 3 ∷
     × (nine (begun (site 16 62 15 65535)) ≡ 3 ∷ 3 ∷ 3 ∷ 2 ∷ 3 ∷ 3 ∷ 3 ∷ 3 ∷ 3 ∷ [])
     × (nine (begun (site 16 64 10 65535)) ≡ 3 ∷ 3 ∷ 3 ∷ 3 ∷ 3 ∷ 3 ∷ 2 ∷ 3 ∷ 3 ∷ [])
     × (nine (begun (site 16 64 15 65534)) ≡ 3 ∷ 3 ∷ 3 ∷ 3 ∷ 2 ∷ 3 ∷ 3 ∷ 3 ∷ 3 ∷ [])
-unfolding replies respond decode decodeFields fields field bytesToBits wellFormed fieldsFormed within modeAllowed unusedZero request cut step checks answer already changed unless bytesFrom requestsFrom made draw xorshift pack join bitsToBytes fromBits toBits odd
+unfolding replies respond decode decodeFields fields field bytesToBits wellFormed fieldsFormed within modeAllowed unusedZero parentWithin implies request cut step checks answer already changed unless bytesFrom requestsFrom made draw xorshift pack join bitsToBytes fromBits toBits odd
 profiles-of-nine = (refl, refl, refl, refl, refl)

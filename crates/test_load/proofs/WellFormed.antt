@@ -10,7 +10,7 @@ use mathlib.Core.Bool.{Bool, true, false, _&&_, _||_}
 use mathlib.Core.List.{map}
 use lib.Dec.{eqb, leb}
 use lib.ListN.{getD}
-use borrow.Author.Tests.{le-leb}
+use borrow.Author.Tests.{le-leb, eqb-true}
 use Rattle.model.specs.declared.Profile.{Profile}
 use Rattle.model.specs.declared.Monitor.{Monitor}
 use Rattle.model.specs.declared.Decoded.the-variants.{Says}
@@ -57,10 +57,11 @@ class-unused : (change : Bool) (c : ℕ) → (change || eqb (whereUsed change c)
 class-unused true c = refl
 class-unused false c = refl
 
-needs-unused : (change companies : Bool) (n : ℕ) → (change || (companies || eqb (whereUsed change n) 0)) ≡ true
-needs-unused true companies n = refl
-needs-unused false true n = refl
-needs-unused false false n = refl
+needs-unused : (create change companies : Bool) (n : ℕ) → (create || (change || (companies || eqb (whereUsed change n) 0))) ≡ true
+needs-unused true change companies n = refl
+needs-unused false true companies n = refl
+needs-unused false false true n = refl
+needs-unused false false false n = refl
 
 -- and what is used stays below a bound
 used-below : (used : Bool) (x n : ℕ) → x < n → 0 < n → whereUsed used x < n
@@ -83,16 +84,24 @@ module _ (x : ℕ) where
       split (leb kind 4) (λ e. rw e (omega arith))
       (λ e. split (eqb kind 5) (λ f. rw (e, f) (omega arith)) (λ f. rw (e, f) (omega arith)))
 
+  -- "The test load writes 0 there" (change request §11): no create has a parent
+  pub no-parent : made x .kind ≡ 5 → made x .needs ≡ 0
+  unfolding made
+  no-parent e = ap (λ (k : ℕ). whereUsed (usesLevel k) (draw 7 x % 65536)) e
+
+  short-parent : eqb (made x .kind) 5 ≡ true → made x .needs ≤ 64
+  short-parent e = omega (arith, no-parent (eqb-true _ _ e))
+
   -- under every profile but for what the profile asks
   made-formed : fieldsFormed (made x) ≡ true
   unfolding made unusedZero
   made-formed =
       in-range (made x)
       (and-both (le-leb 1 kind (omega arith)) (le-leb kind 8 (omega arith)))
-      (omega arith) other-below (omega arith)
+      (omega arith) other-below (omega arith) short-parent
       (mode-drawn-allowed kind (draw 5 x))
       (and-both (other-unused (eqb kind 3) (eqb kind 4) (draw 3 x % 16))
-      (and-both (class-unused (usesLevel kind) (draw 6 x % 16)) (and-both (needs-unused (usesLevel kind) (eqb kind 8) (draw 7 x % 65536)) refl)))
+      (and-both (class-unused (usesLevel kind) (draw 6 x % 16)) (and-both (needs-unused (eqb kind 5) (usesLevel kind) (eqb kind 8) (draw 7 x % 65536)) refl)))
 
   -- "The test load keeps to kinds 1 to 7" (change request §10)
   pub keeps-to-seven-kinds : (1 ≤ made x .kind) × (made x .kind ≤ 7)
@@ -122,7 +131,8 @@ module _ (x : ℕ) where
         actor = omega arith;
         other = other-below;
         object = omega arith;
-        level = λ k. at-least-decides (widest .highest) (levelOf (made x)) .0 (widest-level (levelOf (made x)) (made-fits .class));
+        parent = short-parent;
+        level = λ j k. at-least-decides (widest .highest) (levelOf (made x)) .0 (widest-level (levelOf (made x)) (made-fits .class));
       })
 
   -- its six bytes have the fields that were drawn

@@ -31,7 +31,7 @@ whereUsed used x = cond used x 0
 abbrev pub usesOther : ℕ → Bool
 usesOther kind = eqb kind 3 || eqb kind 4
 
--- "class and needs in kind 7 only"
+-- "class and needs in kind 7 only"; a create has its parent there, and "The test load writes 0 there" (change request §11)
 abbrev pub usesLevel : ℕ → Bool
 usesLevel kind = eqb kind 7
 
