@@ -31,7 +31,8 @@ pub fn is_none(object: Object) -> bool
     let no_sets = is_empty(rights) & is_empty(held);
     let no_label = !is_present(label);
     let no_company = object.companies == 0;
-    !object.live & ((object.owner == 0) & (no_label & (no_company & no_sets)))
+    let no_parent = object.parent == 0;
+    !object.live & ((object.owner == 0) & (no_label & (no_company & (no_parent & no_sets))))
 }
 
 // Bits that are 0, eight or more: those that fill no byte, eight more, and then whole bytes.

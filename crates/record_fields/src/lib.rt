@@ -1,4 +1,5 @@
-// The fields of an image's records, written one behind the other across byte borders: a label, the company numbers, the sets of the subjects.
+// The fields of an image's records, written one behind the other across byte borders: a label, the company numbers, the sets of the subjects,
+// the parent.
 // The bits of a byte that is not full yet wait in a register, which each function is given and hands back.
 ghost use mathlib.Core.Path.{_≡_};
 ghost use Prim.Native.Nat.{_+_, _*_, _%_, _≤_, _<_};
@@ -6,7 +7,7 @@ ghost use lib.ListN.{length};
 ghost use Rattle.bits.specs.Bits.{toBits};
 ghost use Rattle.bits.specs.Stream.{Appends};
 ghost use Rattle.model.specs.Companies.{companiesWidth};
-ghost use Rattle.model.specs.Layout.{labelWidth, setsWidth, imageSize, labelBits, setsBits};
+ghost use Rattle.model.specs.Layout.{labelWidth, setsWidth, parentWidth, imageSize, labelBits, setsBits};
 use model::Label;
 use model::Monitor;
 
@@ -50,6 +51,14 @@ pub fn write_companies(out: &mut [u8], at: usize, acc: u32, companies: u16) -> u
     let word = companies as u32;
     let first = bits::append(out, at, acc, 8, word >> 8);
     bits::append(out, at + 8, first, 8, word)
+}
+
+// The parent, as seven bits.
+pub fn write_parent(out: &mut [u8], at: usize, acc: u32, parent: u8) -> u32
+    requires { ⌜ (at + parentWidth ≤ 8 * imageSize) × (imageSize ≤ length (now out)) ⌝ }
+    ensures { λ r. ⌜ Appends (now (out .entry)) at acc (toBits parentWidth parent) (now (out .exit)) (at + parentWidth) r ⌝ }
+{
+    bits::append(out, at, acc, 7, parent as u32)
 }
 
 // The right bits and the access bits of the sixteen subjects: eight bits for each.

@@ -15,11 +15,12 @@ use model::Object;
 use record_fields::side_by_side;
 use record_fields::write_companies;
 use record_fields::write_label;
+use record_fields::write_parent;
 use record_fields::write_sets;
 use unit::clearance_of;
 use unit::object_in;
 
-// An object's record: live, owner, the label, the company numbers, the sets.
+// An object's record: live, owner, the label, the company numbers, the sets, the parent.
 fn write_object(out: &mut [u8], at: usize, acc: u32, object: Object) -> u32
     requires { ⌜ (at + objectWidth ≤ 8 * imageSize) × (imageSize ≤ length (now out)) ⌝ }
     ensures { λ r. ⌜ Appends (now (out .entry)) at acc (objectBits object) (now (out .exit)) (at + objectWidth) r ⌝ }
@@ -33,10 +34,12 @@ fn write_object(out: &mut [u8], at: usize, acc: u32, object: Object) -> u32
     let companies = object.companies;
     let rights = object.rights;
     let held = object.held;
+    let parent = object.parent;
     let head = bits::append(out, at, acc, 5, side_by_side(live as u8, owner));
     let labelled = write_label(out, at + Monitor::LABEL_AT, head, label);
     let marked = write_companies(out, at + Monitor::COMPANIES_AT, labelled, companies);
-    write_sets(out, at + Monitor::SETS_AT, marked, rights, held)
+    let granted = write_sets(out, at + Monitor::SETS_AT, marked, rights, held);
+    write_parent(out, at + Monitor::PARENT_AT, granted, parent)
 }
 
 // The table at the start of the image.

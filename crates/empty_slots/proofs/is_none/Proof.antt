@@ -24,19 +24,21 @@ is-present-requires c κs = search needs
 
 returns : tie.Need-returns
 returns c e =
-    let ob = c .before .before .before .before .before .before .before .before .args .object in
+    let ob = c .before .before .before .before .before .before .before .before .before .args .object in
     let no-owner = and-right (not (ob .live)) _ e in
     let no-label = and-right (eqb (ob .owner) 0) _ no-owner in
-    let no-company = and-right (not (c .before .before .before .is-present .result)) _ no-label in
-    let no-sets = and-right (eqb (ob .companies) 0) _ no-company in
+    let no-company = and-right (not (c .before .before .before .before .is-present .result)) _ no-label in
+    let no-parent = and-right (eqb (ob .companies) 0) _ no-company in
+    let no-sets = and-right (eqb (ob .parent) 0) _ no-parent in
     let live : ob .live ≡ false = not-on (ob .live) (and-left (not (ob .live)) _ e) in
     let owner : ob .owner ≡ 0 = eqb-true (ob .owner) 0 (and-left (eqb (ob .owner) 0) _ no-owner) in
     let label : ob .label ≡ Absent =
-    absent (ob .label) (sym (c .before .before .before .is-present .ensures) ∙ not-on _ (and-left (not (c .before .before .before .is-present .result)) _ no-label)) in
+    absent (ob .label) (sym (c .before .before .before .before .is-present .ensures) ∙ not-on _ (and-left (not (c .before .before .before .before .is-present .result)) _ no-label)) in
     let companies : ob .companies ≡ 0 = eqb-true (ob .companies) 0 (and-left (eqb (ob .companies) 0) _ no-company) in
-    let rights : ob .rights ≡ noModes = c .before .before .before .before .before .is-empty .ensures (and-left (c .before .before .before .before .before .is-empty .result) _ no-sets) in
-    let held : ob .held ≡ noModes = c .before .before .before .before .is-empty2 .ensures (and-right (c .before .before .before .before .before .is-empty .result) _ no-sets) in
-    object-ext ob noObject live owner label companies rights held
+    let parent : ob .parent ≡ 0 = eqb-true (ob .parent) 0 (and-left (eqb (ob .parent) 0) _ no-parent) in
+    let rights : ob .rights ≡ noModes = c .before .before .before .before .before .before .is-empty .ensures (and-left (c .before .before .before .before .before .before .is-empty .result) _ no-sets) in
+    let held : ob .held ≡ noModes = c .before .before .before .before .before .is-empty2 .ensures (and-right (c .before .before .before .before .before .before .is-empty .result) _ no-sets) in
+    object-ext ob noObject live owner label companies rights held parent
 
 pub is-none-spec : {M : Type 1} → statement M
 is-none-spec =

@@ -1,6 +1,6 @@
 -- `writing::write_object` meets its contract.
 -- Assumes nothing.
--- Five bits, the label, the company numbers and the sets, one behind the other, are the object's record; where there is no object, its bits are all 0.
+-- Five bits, the label, the company numbers, the sets and the parent, one behind the other, are the object's record; where there is no object, its bits are all 0.
 -- Assumes nothing.
 use mathlib.Core.Path.{refl, sym, ap, _∙_}
 use mathlib.Core.Bool.{Bool}
@@ -58,13 +58,20 @@ add-write-sets c = search needs
 write-sets-requires : tie.Need-write-sets-requires
 write-sets-requires c κs = search needs
 
+add-write-parent : tie.Need-add-write-parent
+add-write-parent c = search needs
+
+write-parent-requires : tie.Need-write-parent-requires
+write-parent-requires c κs = search needs
+
 same-length-2 : tie.Need-same-length-2
 same-length-2 c = search needs
 
 returns-2 : tie.Need-returns-2
 unfolding objectBits
 returns-2 c =
-    let fourth = c .before .before in
+    let fifth = c .before .before in
+    let fourth = fifth .before .before .before .before in
     let third = fourth .before .before .before .before in
     let second = third .before .before .before .before in
     let first = second .before .before .before .before in
@@ -75,12 +82,14 @@ returns-2 c =
     let A = appended (a .out .now) (first .append .last .0) (a .at) (a .acc) 5 (head .result) (first .append .result) (lit≤ tt) (omega (arith, word .before .before .before .before .before .before .before .pre)) (first .append .ensures) in
     let numbers = toBits 16 (ob .companies) in
     let sets = setsBits (ob .rights) (ob .held) in
+    let parent = toBits 7 (ob .parent) in
     let record-bits =
-    ap (λ (l : List Bool). ((l ++ labelBits (ob .label)) ++ numbers) ++ sets) (ap (toBits 5) (head .ensures) ∙ flag-bits (ob .live) (ob .owner))
-    ∙ append-assoc ((ob .live ∷ toBits 4 (ob .owner)) ++ labelBits (ob .label)) numbers sets
-    ∙ append-assoc (ob .live ∷ toBits 4 (ob .owner)) (labelBits (ob .label)) (numbers ++ sets) in
+    ap (λ (l : List Bool). (((l ++ labelBits (ob .label)) ++ numbers) ++ sets) ++ parent) (ap (toBits 5) (head .ensures) ∙ flag-bits (ob .live) (ob .owner))
+    ∙ append-assoc (((ob .live ∷ toBits 4 (ob .owner)) ++ labelBits (ob .label)) ++ numbers) sets parent
+    ∙ append-assoc ((ob .live ∷ toBits 4 (ob .owner)) ++ labelBits (ob .label)) numbers (sets ++ parent)
+    ∙ append-assoc (ob .live ∷ toBits 4 (ob .owner)) (labelBits (ob .label)) (numbers ++ (sets ++ parent)) in
     ends _ _ record-bits (omega arith)
-    (next _ _ (omega arith) (next _ _ (omega arith) (next _ _ (omega arith) A (second .write-label .ensures)) (third .write-companies .ensures)) (fourth .write-sets .ensures))
+    (next _ _ (omega arith) (next _ _ (omega arith) (next _ _ (omega arith) (next _ _ (omega arith) A (second .write-label .ensures)) (third .write-companies .ensures)) (fourth .write-sets .ensures)) (fifth .write-parent .ensures))
 
 pub write-object-spec : {M : Type 1} → statement M
 write-object-spec =
@@ -99,5 +108,7 @@ write-object-spec =
     write-companies-requires
     add-write-sets
     write-sets-requires
+    add-write-parent
+    write-parent-requires
     same-length-2
     returns-2)
