@@ -17,9 +17,9 @@ use Rattle.model.specs.declared.Level.{Level}
 use Rattle.model.specs.declared.Label.the-variants.{Absent, Present}
 use Rattle.model.specs.declared.Object.{Object}
 use Rattle.model.specs.Levels.{present}
-use Rattle.model.specs.State.{needsWidth, noObject, withOwner, withLabel, withCompanies, withRows}
+use Rattle.model.specs.State.{needsWidth, noObject, withOwner, withLabel, withCompanies, withParent, withRows}
 use Rattle.model.specs.Companies.{companiesWidth}
-use Rattle.model.specs.Layout.{labelWidth, ownerWidth, labelOffset, setWidth, pairWidth, companiesOffset, setsOffset, setsWidth, objectWidth}
+use Rattle.model.specs.Layout.{labelWidth, ownerWidth, labelOffset, setWidth, pairWidth, companiesOffset, setsOffset, setsWidth, parentWidth, parentOffset, objectWidth}
 use Rattle.model.specs.Reading.{fieldOf, labelFrom, labelForm, rightsFrom, heldFrom, objectFrom, objectForm}
 use Rattle.image_records.specs.declared.FlagRead.{FlagRead}
 use Rattle.image_records.specs.declared.LabelRead.{LabelRead}
@@ -118,38 +118,52 @@ halves b l = (
 
 -- ---- an object
 
--- behind its sets a record has no bit
-sets-last : (b : List Bool) → length b ≡ objectWidth → take setsWidth (drop setsOffset b) ≡ drop setsOffset b
-sets-last b l = take-all setsWidth (drop setsOffset b) (rw (length-drop setsOffset b) (omega arith))
+-- behind its parent a record has no bit
+parent-last : (b : List Bool) → length b ≡ objectWidth → take parentWidth (drop parentOffset b) ≡ drop parentOffset b
+parent-last b l = take-all parentWidth (drop parentOffset b) (rw (length-drop parentOffset b) (omega arith))
+
+-- a number that is 0 where its field has no bit set
+field-blank : (b : List Bool) (i w n : ℕ) → n ≡ fieldOf b i w → eqb n 0 ≡ allZero (take w (drop i b))
+field-blank b i w n e = ap (λ (k : ℕ). eqb k 0) e ∙ sym (allZero-fromBits (take w (drop i b)))
 
 module _ (b : List Bool) (l : length b ≡ objectWidth) (f : FlagRead) (pf : f ≡ flagOf (take flagWidth b))
     (a : LabelRead) (pa : a ≡ labelOf (take labelWidth (drop labelOffset b))) (n : ℕ) (pn : n ≡ fieldOf b companiesOffset companiesWidth)
-    (u : SetsRead) (pu : u ≡ setsOf (take setsWidth (drop setsOffset b))) where
-  -- the company numbers and the sets, which stand last
-  last-blank : (eqb n 0 && u .blank) ≡ allZero (drop companiesOffset b)
+    (u : SetsRead) (pu : u ≡ setsOf (take setsWidth (drop setsOffset b))) (p : ℕ) (pp : p ≡ fieldOf b parentOffset parentWidth) where
+  -- the sets, and the parent behind them
+  sets-blank : (u .blank && eqb p 0) ≡ allZero (drop setsOffset b)
+  sets-blank =
+      let d : take parentWidth (drop parentOffset b) ≡ drop setsWidth (drop setsOffset b) = parent-last b l ∙ sym (drop-drop setsWidth setsOffset b) in
+      ap₂ (λ (x y : Bool). x && y) (ap (λ (k : SetsRead). k .blank) pu) (field-blank b parentOffset parentWidth p pp ∙ ap allZero d)
+      ∙ zero-parts setsWidth (drop setsOffset b)
+
+  -- the company numbers, and these behind them
+  last-blank : (eqb n 0 && (u .blank && eqb p 0)) ≡ allZero (drop companiesOffset b)
   last-blank =
-      let d : take setsWidth (drop setsOffset b) ≡ drop companiesWidth (drop companiesOffset b) = sets-last b l ∙ sym (drop-drop companiesWidth companiesOffset b) in
-      ap₂ (λ (x y : Bool). x && y)
-      (ap (λ (k : ℕ). eqb k 0) pn ∙ sym (allZero-fromBits (take companiesWidth (drop companiesOffset b))))
-      (ap (λ (k : SetsRead). k .blank) pu ∙ ap allZero d)
+      ap₂ (λ (x y : Bool). x && y) (field-blank b companiesOffset companiesWidth n pn)
+      (sets-blank ∙ ap allZero (sym (drop-drop companiesWidth companiesOffset b)))
       ∙ zero-parts companiesWidth (drop companiesOffset b)
 
-  pub object-off : (ob : Object) → ob ≡ noObject → f .flag ≡ false → record { object = ob; formed = f .blank && (a .blank && (eqb n 0 && u .blank)) } ≡ objectOf b
+  pub object-off : (ob : Object) → ob ≡ noObject → f .flag ≡ false
+      → record { object = ob; formed = f .blank && (a .blank && (eqb n 0 && (u .blank && eqb p 0))) } ≡ objectOf b
   unfolding objectFrom objectForm
   object-off ob e h =
       let tail = drop labelOffset b in
-      let blank : (f .blank && (a .blank && (eqb n 0 && u .blank))) ≡ allZero b =
-      ap (λ (x : FlagRead). x .blank && (a .blank && (eqb n 0 && u .blank))) pf
+      let last = eqb n 0 && (u .blank && eqb p 0) in
+      let blank : (f .blank && (a .blank && last)) ≡ allZero b =
+      ap (λ (x : FlagRead). x .blank && (a .blank && last)) pf
       ∙ ap₂ (λ (x : LabelRead) (y : Bool). allZero (take flagWidth b) && (x .blank && y)) pa last-blank
       ∙ ap (λ (x : List Bool). allZero (take flagWidth b) && (allZero (take labelWidth tail) && allZero x)) (sym (drop-drop labelWidth labelOffset b))
       ∙ ap (λ (x : Bool). allZero (take flagWidth b) && x) (zero-parts labelWidth tail) ∙ zero-parts flagWidth b in
       rw (sym (flag-first b f pf) ∙ h) (λ i. record { object = e i; formed = blank i })
 
-  pub object-on : (v : Bool) → v ≡ present (a .label) → f .flag ≡ true
-      → record { object = withRows (withCompanies (withLabel (withOwner noObject (f .number)) (a .label)) n) (u .rights) (u .held); formed = v || a .blank } ≡ objectOf b
+  -- what was read of a live one
+  abbrev read-record : Object
+  read-record = withRows (withParent (withCompanies (withLabel (withOwner noObject (f .number)) (a .label)) n) p) (u .rights) (u .held)
+
+  pub object-on : (v : Bool) → v ≡ present (a .label) → f .flag ≡ true → record { object = read-record; formed = v || a .blank } ≡ objectOf b
   unfolding objectFrom objectForm
   object-on v e h =
       let c = flag-number b f pf in
       let formed-eq = ap (λ (x : Bool). x || a .blank) e ∙ label-formed (take labelWidth (drop labelOffset b)) a pa in
       rw (sym (flag-first b f pf) ∙ h)
-      (λ i. record { object = withRows (withCompanies (withLabel (withOwner noObject (c i)) (pa i .label)) (pn i)) (pu i .rights) (pu i .held); formed = formed-eq i })
+      (λ i. record { object = withRows (withParent (withCompanies (withLabel (withOwner noObject (c i)) (pa i .label)) (pn i)) (pp i)) (pu i .rights) (pu i .held); formed = formed-eq i })

@@ -116,10 +116,11 @@ fn read_object(bytes: &[u8], at: usize) -> ObjectRead
     let read = read_label(bytes, at + Monitor::LABEL_AT);
     let companies = bits::read_field(bytes, at + Monitor::COMPANIES_AT, 16);
     let sets = read_sets(bytes, at + Monitor::SETS_AT);
+    let parent = bits::read_field(bytes, at + Monitor::PARENT_AT, 7);
     if !head.flag {
         return ObjectRead {
             object: no_object(),
-            formed: head.blank & (read.blank & ((companies == 0) & sets.blank)),
+            formed: head.blank & (read.blank & ((companies == 0) & (sets.blank & (parent == 0)))),
         };
     }
     let label = read.label;
@@ -133,6 +134,7 @@ fn read_object(bytes: &[u8], at: usize) -> ObjectRead
             companies: companies as u16,
             rights,
             held,
+            parent: parent as u8,
         },
         formed: labels::is_present(label) | read.blank,
     }

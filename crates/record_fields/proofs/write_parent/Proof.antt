@@ -14,7 +14,7 @@ same-length : tie.Need-same-length
 same-length c = search needs
 
 returns : tie.Need-returns
-returns c = 
+returns c =
     let put = c .before .before in
     let a = c .before .before .before .before .before .args in
     appended (a .out .now) (put .append .last .0) (a .at) (a .acc) 7 (a .parent) (put .append .result) (lit≤ tt) (omega arith) (put .append .ensures)
