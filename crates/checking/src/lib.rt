@@ -1,4 +1,4 @@
-// The checks of a whole state that an image must pass, each over all objects before the next: 12, 6, 7, 8, 9, 18.
+// The checks of a whole state that an image must pass, each over all objects before the next: 12, 6, 7, 8, 9, 18, 19, 20.
 // Checks 12, 6, 7 and 8 look at one object and one subject at a time, so one pass over them finds what all four need.
 ghost use mathlib.Core.Path.{_≡_};
 ghost use Rattle.model.specs.Levels.{present};
@@ -7,6 +7,8 @@ ghost use Rattle.model.specs.State.{objectCount, clearanceAt, object};
 ghost use Rattle.unit.specs.Rows.{rowCount, subjectsIn, objectsIn, stateIn};
 ghost use Rattle.model.specs.Reading.{stateChecks};
 ghost use Rattle.checking.specs.Checks.{both, at, ofObject, ofObjects};
+use hierarchy::labels_rise;
+use hierarchy::parents_hold;
 use labels::check;
 use labels::dominates;
 use labels::implies;
@@ -128,7 +130,11 @@ pub fn state_checks(unit: &[[u8; 16]]) -> Decision
     let found = findings_over(unit);
     let wall_kept = !breaks_wall(unit, 0, Monitor::SUBJECTS);
     let star_kept = !breaks_star(unit, 0, Monitor::SUBJECTS);
-    let wall = check(wall_kept, Decision::WallBroken, Decision::Granted);
+    let live = parents_hold(unit);
+    let rises = labels_rise(unit);
+    let rule = check(rises, Decision::HierarchyBroken, Decision::Granted);
+    let under = check(live, Decision::ParentNotLive, rule);
+    let wall = check(wall_kept, Decision::WallBroken, under);
     let star = check(star_kept, Decision::StarBroken, wall);
     let simple = check(found.simple, Decision::SimpleBroken, star);
     let labelled = check(found.labelled, Decision::NoLabel, simple);
