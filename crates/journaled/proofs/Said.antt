@@ -6,6 +6,7 @@ use native.Mathlib.Omega.{arith}
 use mathlib.Core.Path.{_≡_, refl, sym, ap, ap₂, _∙_, subst}
 use mathlib.Core.Logic.{_≢_}
 use mathlib.Core.List.{List, [], _∷_, _++_}
+use mathlib.Core.Bool.{cond}
 use lib.ListN.{length, length-append}
 use lib.Dec.{eqb}
 use borrow.Author.Tests.{eq-eqb, ne-eqb}
@@ -20,7 +21,7 @@ use Rattle.model.specs.Decisions.{number}
 use Rattle.model.specs.Requests.{decode, InRange}
 use Rattle.model.specs.Rules.{target, step}
 use Rattle.model.specs.Runs.{respond}
-use Rattle.model.specs.Journal.{Entry, entered, withoutEntries, entryOf, journalAfter, ask, restored, takeBack, takingBack, Act, asks, takesBack, acted, answers}
+use Rattle.model.specs.Journal.{Entry, entered, withoutEntries, entryOf, takesChildren, journalAfter, ask, restored, takeBack, takingBack, Act, asks, takesBack, acted, answers}
 use Rattle.model.proofs.Tests.{split, cond-true, cond-false, cond-all}
 use Rattle.model.proofs.Requests.{decode-range}
 use Rattle.model.proofs.After.{target-below}
@@ -100,15 +101,21 @@ module _ (u : Rows) (U : WholeUnit u) where
   journal-said Malformed r = refl
   journal-said (Says q) r =
       let zero? = eqb (number (step q (stateIn u) .decision)) 0 in
-      split zero?
-      (λ e. ap journalIn (cond-true zero? _ _ e) ∙ entered-said q (r q refl) ∙ sym (cond-true zero? _ _ e))
-      (λ e. ap journalIn (cond-false zero? (enteredAt u (target q)) _ e) ∙ sym (cond-false zero? _ _ e))
+      let took? = takesChildren q (stateIn u) in
+      let rows = cond took? noEntries (enteredAt u (target q)) in
+      let entries = cond took? [] (entered (entryOf q (stateIn u)) (journalIn (journalPart u))) in
+      let kept : journalIn rows ≡ entries =
+      split took? (λ t. ap journalIn (cond-true took? _ _ t) ∙ none-says ∙ sym (cond-true took? _ _ t))
+      (λ t. ap journalIn (cond-false took? _ _ t) ∙ entered-said q (r q refl) ∙ sym (cond-false took? _ _ t)) in
+      split zero? (λ e. ap journalIn (cond-true zero? rows (journalPart u) e) ∙ kept ∙ sym (cond-true zero? entries _ e))
+      (λ e. ap journalIn (cond-false zero? rows (journalPart u) e) ∙ sym (cond-false zero? entries _ e))
 
   journal-whole : (d : Decoded) → Whole (journalSaid d u)
   journal-whole Malformed = U .journal
   journal-whole (Says q) =
       cond-all Whole (eqb (number (step q (stateIn u) .decision)) 0) _ _
-      (λ e. entered-whole (journalPart u) (U .journal) (target q) (rowAt u (target q)) (rowAt u (heldRow (target q))) (rowAt u (restRow (target q)))) (λ e. U .journal)
+      (λ e. cond-all Whole (takesChildren q (stateIn u)) _ _ (λ t. none-whole)
+      (λ t. entered-whole (journalPart u) (U .journal) (target q) (rowAt u (target q)) (rowAt u (heldRow (target q))) (rowAt u (restRow (target q))))) (λ e. U .journal)
 
   module _ (b : List ℕ) where
     asked-rows : length (asked b (monitorPart u)) ≡ rowCount

@@ -4,6 +4,7 @@ use Prim.Native.Nat.{ℕ, _<_}
 use native.Mathlib.Omega.{arith}
 use mathlib.Core.Path.{_≡_, refl, sym, ap, ap₂, _∙_, subst}
 use mathlib.Core.Logic.{_≢_}
+use mathlib.Core.Bool.{Bool, cond, _&&_}
 use mathlib.Core.List.{List, _++_}
 use lib.ListN.{length, take, drop}
 use lib.Dec.{eqb}
@@ -15,9 +16,11 @@ use Rattle.model.specs.declared.Decoded.the-variants.{Malformed, Says}
 use Rattle.model.specs.Decisions.{number}
 use Rattle.model.specs.Requests.{decode}
 use Rattle.model.specs.Rules.{target, step}
+use Rattle.model.specs.Hierarchy.{hasChild}
+use Rattle.model.specs.Journal.{takesChildren}
 use Rattle.model.specs.Runs.{carryOut, respond, reply}
 use Rattle.model.proofs.Tests.{cond-true, cond-false}
-use Rattle.unit.specs.Rows.{Rows, rowCount, heldRow, restRow, rowAt, stateIn}
+use Rattle.unit.specs.Rows.{Rows, rowCount, heldRow, restRow, rowAt, objectsIn, stateIn}
 use Rattle.unit.specs.Stored.{setObject, unitOf}
 use Rattle.unit.proofs.Stores.{object-length}
 use Rattle.unit.proofs.Units.{unit-length}
@@ -25,22 +28,27 @@ use Rattle.asking.specs.Asked.{asked}
 use Rattle.asking.proofs.Lists.{asked-length}
 use Rattle.journal.specs.Ring.{journalRows, entryCount, entryIn, slotOf}
 use Rattle.journal.specs.Stored.{enteredRows, leftRows, noEntries}
-use Rattle.journaled.specs.Units.{unitRows, monitorPart, journalPart, begunRows, named, enteredAt, journalSaid, askedUnit, latestIn, restoredUnit}
+use Rattle.journaled.specs.Units.{unitRows, monitorPart, journalPart, begunRows, named, deletes, enteredAt, journalSaid, askedUnit, latestIn, restoredUnit}
 use Rattle.journaled.proofs.Parts.{monitor-length, journal-length, part-behind, behind-kept, both-stored, monitor-says}
-use Rattle.journaled.proofs.Places.{named-target}
+use Rattle.journaled.proofs.Places.{named-target, takes-said}
 
 -- ---- what a reply does to the journal's rows
 
+-- the object that the bytes name is entered, or all entries go
+abbrev enteredBy : Rows → List ℕ → Rows
+enteredBy u b = cond (deletes b && hasChild (objectsIn u) (named b)) noEntries (enteredAt u (named b))
+
 module _ (b : List ℕ) (u : Rows) where
   by-reply : (d : Decoded) → decode (stateIn u .profile) b ≡ d
-      → (number (carryOut d (stateIn u) .decision) ≡ 0 → journalSaid d u ≡ enteredAt u (named b)) × (number (carryOut d (stateIn u) .decision) ≢ 0 → journalSaid d u ≡ journalPart u)
+      → (number (carryOut d (stateIn u) .decision) ≡ 0 → journalSaid d u ≡ enteredBy u b) × (number (carryOut d (stateIn u) .decision) ≢ 0 → journalSaid d u ≡ journalPart u)
   by-reply Malformed e = (λ z. absurd (omega (arith, z)), λ n. refl)
   by-reply (Says q) e = (
-    λ z. cond-true (eqb (number (step q (stateIn u) .decision)) 0) (enteredAt u (target q)) (journalPart u) (eq-eqb _ 0 z) ∙ ap (enteredAt u) (sym (named-target (stateIn u .profile) b q e)),
-    λ n. cond-false (eqb (number (step q (stateIn u) .decision)) 0) (enteredAt u (target q)) (journalPart u) (ne-eqb _ 0 n),
+    λ z. cond-true (eqb (number (step q (stateIn u) .decision)) 0) (cond (takesChildren q (stateIn u)) noEntries (enteredAt u (target q))) (journalPart u) (eq-eqb _ 0 z)
+        ∙ ap₂ (λ (t : Bool) (o : ℕ). cond t noEntries (enteredAt u o)) (sym (takes-said (stateIn u .profile) b q (stateIn u) e)) (sym (named-target (stateIn u .profile) b q e)),
+    λ n. cond-false (eqb (number (step q (stateIn u) .decision)) 0) (cond (takesChildren q (stateIn u)) noEntries (enteredAt u (target q))) (journalPart u) (ne-eqb _ 0 n),
   )
 
-  entered-0 : reply b (stateIn u) ≡ 0 → journalSaid (decode (stateIn u .profile) b) u ≡ enteredAt u (named b)
+  entered-0 : reply b (stateIn u) ≡ 0 → journalSaid (decode (stateIn u .profile) b) u ≡ enteredBy u b
   unfolding respond
   entered-0 = by-reply (decode (stateIn u .profile) b) refl .0
 
@@ -58,14 +66,17 @@ module _ (u : Rows) (n : length u ≡ unitRows) where
     rows : length w ≡ rowCount
     rows = ap length leaves ∙ asked-length b (monitorPart u) ∙ monitor-length u n
 
-    pub asked-0 : (o : ℕ) (y : Rows) → o ≡ named b → r ≡ 0
-        → y ≡ enteredRows (take journalRows (drop rowCount (w ++ drop rowCount u))) o (rowAt u o) (rowAt u (heldRow o)) (rowAt u (restRow o))
+    pub asked-0 : (o : ℕ) (t : Bool) (y : Rows) → o ≡ named b → t ≡ (deletes b && hasChild (objectsIn (monitorPart u)) o) → r ≡ 0
+        → y ≡ cond t noEntries (enteredRows (take journalRows (drop rowCount (w ++ drop rowCount u))) o (rowAt u o) (rowAt u (heldRow o)) (rowAt u (restRow o)))
         → (r ≡ reply b (stateIn u)) × (take rowCount (w ++ drop rowCount u) ++ (y ++ drop journalRows (drop rowCount (w ++ drop rowCount u))) ≡ askedUnit b u)
     unfolding askedUnit
-    asked-0 o y place zero stored = (
+    asked-0 o t y place took zero stored = (
       said,
-      both-stored u n w rows y (enteredAt u o) (stored ∙ ap (λ (j : Rows). enteredRows j o (rowAt u o) (rowAt u (heldRow o)) (rowAt u (restRow o))) (behind-kept u n w rows))
-          ∙ ap₂ (λ (x z : Rows). x ++ z) leaves (ap (enteredAt u) place ∙ sym (entered-0 b u (sym said ∙ zero))),
+      both-stored u n w rows y (cond t noEntries (enteredAt u o))
+          (stored ∙ ap (λ (j : Rows). cond t noEntries (enteredRows j o (rowAt u o) (rowAt u (heldRow o)) (rowAt u (restRow o)))) (behind-kept u n w rows))
+          ∙ ap₂ (λ (x z : Rows). x ++ z) leaves
+          (ap₂ (λ (k : Bool) (i : ℕ). cond k noEntries (enteredAt u i)) (took ∙ ap₂ (λ (m : Monitor) (i : ℕ). deletes b && hasChild (m .objects) i) (monitor-says u) place) place
+          ∙ sym (entered-0 b u (sym said ∙ zero))),
     )
 
     pub asked-else : r ≢ 0 → (r ≡ reply b (stateIn u)) × (w ++ drop rowCount u ≡ askedUnit b u)

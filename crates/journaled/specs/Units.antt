@@ -1,7 +1,7 @@
 -- A unit is 308 rows: those of a monitor, and behind them those of its journal (change request §9). What it says, and what is left of it.
 -- Assumes nothing.
 use Prim.Native.Nat.{ℕ, _+_, _%_}
-use mathlib.Core.Bool.{cond}
+use mathlib.Core.Bool.{Bool, cond, _&&_}
 use mathlib.Core.List.{List, [], _∷_, _++_}
 use lib.ListN.{length, take, drop}
 use lib.Dec.{eqb}
@@ -12,7 +12,7 @@ use Rattle.model.specs.State.{objectCount}
 use Rattle.model.specs.Decisions.{number}
 use Rattle.model.specs.Requests.{requestSize, fields, decode}
 use Rattle.model.specs.Rules.{target, step}
-use Rattle.model.specs.Journal.{Entry, Journaled, Act, asks, takesBack, takingBack}
+use Rattle.model.specs.Journal.{Entry, Journaled, takesChildren, Act, asks, takesBack, takingBack}
 use Rattle.model.specs.Runs.{reply}
 use Rattle.unit.specs.Rows.{Rows, rowCount, heldRow, restRow, rowAt, stateIn}
 use Rattle.unit.specs.Stored.{setObject, unitOf}
@@ -47,10 +47,15 @@ named b = cond (eqb (length b) requestSize) (fields b .object % objectCount) 0
 abbrev pub enteredAt : Rows → ℕ → Rows
 enteredAt u o = enteredRows (journalPart u) o (rowAt u o) (rowAt u (heldRow o)) (rowAt u (restRow o))
 
--- "for each reply 0"
+-- six bytes of the kind that deletes
+unfoldable pub deletes : List ℕ → Bool
+deletes b = eqb (length b) requestSize && eqb (fields b .kind) 6
+
+-- "for each reply 0"; "A deletion that took children empties the journal" (change request §11)
 abbrev pub journalSaid : Decoded → Rows → Rows
 journalSaid Malformed u = journalPart u
-journalSaid (Says q) u = cond (eqb (number (step q (stateIn u) .decision)) 0) (enteredAt u (target q)) (journalPart u)
+journalSaid (Says q) u =
+    cond (eqb (number (step q (stateIn u) .decision)) 0) (cond (takesChildren q (stateIn u)) noEntries (enteredAt u (target q))) (journalPart u)
 
 unfoldable pub askedUnit : List ℕ → Rows → Rows
 askedUnit b u = asked b (monitorPart u) ++ journalSaid (decode (stateIn u .profile) b) u

@@ -2,16 +2,22 @@
 mod beginning;
 
 ghost use mathlib.Core.Path.{_≡_};
+ghost use mathlib.Core.Bool.{cond, _&&_};
 ghost use Prim.Native.Nat.{_<_};
 ghost use Rattle.model.specs.Runs.{reply};
 ghost use Rattle.model.specs.Journal.{takingBack};
-ghost use Rattle.unit.specs.Rows.{stateIn};
-ghost use Rattle.journal.specs.Ring.{entryCount};
-ghost use Rattle.journaled.specs.Units.{unitRows, journalPart, saidBy, named, askedUnit, restoredUnit, takenUnit};
+ghost use Rattle.model.specs.State.{objectCount};
+ghost use Rattle.model.specs.Hierarchy.{hasChild};
+ghost use Rattle.unit.specs.Rows.{rowCount, objectsIn, stateIn};
+ghost use Rattle.journal.specs.Ring.{journalRows, entryCount};
+ghost use Rattle.journal.specs.Stored.{enteredRows, noEntries};
+ghost use Rattle.journaled.specs.Units.{unitRows, journalPart, saidBy, named, deletes, askedUnit, restoredUnit, takenUnit};
 pub use beginning::open;
 pub use beginning::start;
 use bits::read_word;
 use decoding::fields_of;
+use hierarchy::has_child;
+use journal::clear;
 use journal::enter;
 use journal::entry_count;
 use journal::latest_slot;
@@ -37,7 +43,49 @@ fn named(bytes: &[u8]) -> u8
     f.object % 64
 }
 
-// The reply to a byte string of any length and content; the unit is the state after it. A reply 0 enters the record as it was.
+// Whether the bytes have the kind that deletes.
+fn deletes(bytes: &[u8]) -> bool
+    ensures { λ r. ⌜ r ≡ deletes (now (bytes .entry)) ⌝ }
+{
+    if bytes.len() != 6 {
+        return false;
+    }
+    let f = fields_of(read_word(bytes));
+    f.kind == 6
+}
+
+// Whether the bytes ask for a deletion, of object o, that takes children: no other request looks for these.
+fn takes_children(unit: &[[u8; 16]], bytes: &[u8], o: u8) -> bool
+    requires { do ⌜ (← ⟦unit.len()⟧) ≡ rowCount ⌝ }
+    requires { ⌜ o < objectCount ⌝ }
+    ensures { λ r. ⌜ r ≡ (deletes (now (bytes .entry)) && hasChild (objectsIn (now (unit .entry))) o) ⌝ }
+{
+    if !deletes(bytes) {
+        return false;
+    }
+    has_child(unit, o)
+}
+
+// A reply 0 enters the record of object o as it was; where the request took children, the journal becomes empty.
+fn enter_request(
+    journal: &mut [[u8; 16]],
+    took: bool,
+    o: u8,
+    rights: [u8; 16],
+    held: [u8; 16],
+    rest: [u8; 16],
+)
+    requires { do ⌜ (← ⟦journal.len()⟧) ≡ journalRows ⌝ }
+    ensures { λ r. ⌜ now (journal .exit) ≡ cond took noEntries (enteredRows (now (journal .entry)) o rights held rest) ⌝ }
+{
+    if took {
+        clear(journal);
+    } else {
+        enter(journal, o, rights, held, rest);
+    }
+}
+
+// The reply to a byte string of any length and content; the unit is the state after it.
 pub fn ask(unit: &mut [[u8; 16]], bytes: &[u8]) -> u8
     requires { do ⌜ (← ⟦unit.len()⟧) ≡ unitRows ⌝ }
     ensures { λ r. ⌜ (r ≡ reply (now (bytes .entry)) (stateIn (now (unit .entry)))) × (now (unit .exit) ≡ askedUnit (now (bytes .entry)) (now (unit .entry))) ⌝ }
@@ -47,9 +95,10 @@ pub fn ask(unit: &mut [[u8; 16]], bytes: &[u8]) -> u8
     let rights = unit[i];
     let held = unit[HELD + i];
     let rest = unit[REST + i];
+    let took = takes_children(&unit[0..unit::ROWS], bytes, o);
     let reply = asking::ask(&mut unit[0..unit::ROWS], bytes);
     if reply == 0 {
-        enter(&mut unit[unit::ROWS..ROWS], o, rights, held, rest);
+        enter_request(&mut unit[unit::ROWS..ROWS], took, o, rights, held, rest);
     }
     reply
 }

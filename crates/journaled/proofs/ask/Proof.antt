@@ -37,6 +37,18 @@ mul-rest c = search needs
 slice-copy-out-rest : tie.Need-slice-copy-out-rest
 slice-copy-out-rest c = omega (arith, c .before .before .named .ensures, named-below (c .before .before .before .before .args .bytes .now))
 
+sub-takes-children : tie.Need-sub-takes-children
+sub-takes-children c = search needs
+
+part-takes-children-start : tie.Need-part-takes-children-start
+part-takes-children-start c = search needs
+
+part-takes-children-end : tie.Need-part-takes-children-end
+part-takes-children-end c = search needs
+
+takes-children-requires : tie.Need-takes-children-requires
+takes-children-requires c κs = (search needs, omega (arith, c .before .before .before .before .before .named .ensures, named-below (c .before .before .before .before .before .before .before .args .bytes .now)))
+
 sub-ask : tie.Need-sub-ask
 sub-ask c = search needs
 
@@ -49,17 +61,17 @@ part-ask-end c = search needs
 ask-requires : tie.Need-ask-requires
 ask-requires c κs = search needs
 
-sub-enter : tie.Need-sub-enter
-sub-enter c = search needs
+sub-enter-request : tie.Need-sub-enter-request
+sub-enter-request c = search needs
 
-part-enter-start : tie.Need-part-enter-start
-part-enter-start c = search needs
+part-enter-request-start : tie.Need-part-enter-request-start
+part-enter-request-start c = search needs
 
-part-enter-end : tie.Need-part-enter-end
-part-enter-end c = search needs
+part-enter-request-end : tie.Need-part-enter-request-end
+part-enter-request-end c = search needs
 
-enter-requires : tie.Need-enter-requires
-enter-requires c κs = search needs
+enter-request-requires : tie.Need-enter-request-requires
+enter-request-requires c κs = search needs
 
 same-length : tie.Need-same-length
 same-length c = search needs
@@ -67,9 +79,9 @@ same-length c = search needs
 returns : tie.Need-returns
 returns c =
     let asked = c .before .before .before .before .before in
-    let start = asked .before .before .before .before .before .before .before in
-    asked-0 (start .args .unit .now) (start .pre) (start .args .bytes .now) _ _ (asked .ask .ensures .0) (asked .ask .ensures .1) _ _
-    (asked .before .before .before .before .before .named .ensures) (c .before .before .before .if1 .taken) (c .before .enter .ensures)
+    let start = c .before .before .before .before .before .before .before .before .before .before .before .before .before .before .before in
+    asked-0 (start .args .unit .now) (start .pre) (start .args .bytes .now) _ _ (asked .ask .ensures .0) (asked .ask .ensures .1) _ _ _
+    (c .before .before .before .before .before .before .before .before .before .before .before .before .before .named .ensures) (c .before .before .before .before .before .before .before .takes-children .ensures) (c .before .before .before .if1 .taken) (c .before .enter-request .ensures)
 
 same-length-2 : tie.Need-same-length-2
 same-length-2 c = search needs
@@ -77,7 +89,7 @@ same-length-2 c = search needs
 returns-2 : tie.Need-returns-2
 returns-2 c =
     let asked = c .before .before in
-    let start = asked .before .before .before .before .before .before .before in
+    let start = c .before .before .before .before .before .before .before .before .before .before .before .before in
     asked-else (start .args .unit .now) (start .pre) (start .args .bytes .now) _ _ (asked .ask .ensures .0) (asked .ask .ensures .1) (c .if1 .left)
 
 pub ask-spec : {M : Type 1} → statement M
@@ -94,14 +106,18 @@ ask-spec =
     add-rest
     mul-rest
     slice-copy-out-rest
+    sub-takes-children
+    part-takes-children-start
+    part-takes-children-end
+    takes-children-requires
     sub-ask
     part-ask-start
     part-ask-end
     ask-requires
-    sub-enter
-    part-enter-start
-    part-enter-end
-    enter-requires
+    sub-enter-request
+    part-enter-request-start
+    part-enter-request-end
+    enter-request-requires
     same-length
     returns
     same-length-2
