@@ -1,6 +1,7 @@
 // Executes the edges of requests with the proved functions, and prints a line for each: what was tried, and the number that came.
 // The numbers in the file stdout were worked out from the scope by hand; the comment at each request says why.
 mod companies;
+mod parents;
 mod requests;
 mod trial;
 
@@ -19,4 +20,6 @@ fn main() {
     requests::levels(labelled);
     companies::setting(one);
     companies::wall(one);
+    parents::creating(one);
+    parents::labelling(one);
 }

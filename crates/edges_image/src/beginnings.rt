@@ -9,10 +9,10 @@ use unit::ROWS;
 use writing::save;
 
 // The bytes with one bit turned over, where it is not bit 0. Bits are counted from the start, most significant first.
-fn turned(before: [u8; 1403], bit: usize) -> [u8; 1403] {
+fn turned(before: [u8; 1459], bit: usize) -> [u8; 1459] {
     let mut bytes = before;
     let at = bit / 8;
-    if bit != 0 && at < 1403 {
+    if bit != 0 && at < 1459 {
         bytes[at] = bytes[at] ^ (128 >> (bit % 8));
     }
     bytes
@@ -26,7 +26,7 @@ fn describe(words: &[u8], length: usize, bit: usize) {
 
 // Reads so many bytes from the start of the table.
 fn table(length: usize, bit: usize)
-    requires { ⌜ length ≤ 1403 ⌝ }
+    requires { ⌜ length ≤ 1459 ⌝ }
 {
     let bytes = turned(enrolment(), bit);
     describe(b"table of ", length, bit);
@@ -44,9 +44,9 @@ pub fn tables() {
 
 // Reads so many bytes from the start of the unit's image, which has a zero byte behind it.
 fn image(unit: &[[u8; 16]; ROWS], length: usize, bit: usize)
-    requires { ⌜ length ≤ 1403 ⌝ }
+    requires { ⌜ length ≤ 1459 ⌝ }
 {
-    let mut written = [0u8; 1403];
+    let mut written = [0u8; 1459];
     save(unit, &mut written);
     let bytes = turned(written, bit);
     describe(b"image of ", length, bit);
@@ -56,12 +56,15 @@ fn image(unit: &[[u8; 16]; ROWS], length: usize, bit: usize)
 
 // Object 0 is live and owned by subject 0, and no other object is live.
 pub fn images(unit: &[[u8; 16]; ROWS]) {
-    image(unit, 1401, 0); // 10: another length
-    image(unit, 1402, 0); // 0: written and read back
-    image(unit, 1403, 0); // 10: another length
-    image(unit, 1402, 8 * 1402 - 1); // 11: the last bit of all is in the record of object 63, which is not live
+    image(unit, 1457, 0); // 10: another length
+    image(unit, 1458, 0); // 0: written and read back
+    image(unit, 1459, 0); // 10: another length
+    image(unit, 1458, 8 * 1458 - 1); // 11: the last bit of all is in the record of object 63, which is not live
     image(unit, 1274, 0); // 10: the length of an image without company numbers
-    image(unit, 1402, 336 + 26); // 0: the first bit of the company numbers of object 0, which nobody else holds: company 8 of the first class
-    image(unit, 1402, 336 + 170 + 26); // 11: the same of object 1, which is not live
-    image(unit, 1402, 336 + 1); // 12: the first owner bit, behind the live bit, of object 0: the owner becomes 8, who is absent
+    image(unit, 1402, 0); // 10: the length of an image without parents
+    image(unit, 1458, 336 + 26); // 0: the first bit of the company numbers of object 0, which nobody else holds: company 8 of the first class
+    image(unit, 1458, 336 + 177 + 26); // 11: the same of object 1, which is not live
+    image(unit, 1458, 336 + 1); // 12: the first owner bit, behind the live bit, of object 0: the owner becomes 8, who is absent
+    image(unit, 1458, 336 + 170); // 19: the first parent bit of object 0: its parent becomes object 63, which is not live
+    image(unit, 1458, 336 + 176); // 19: the last parent bit: its parent becomes object 0, which is itself
 }

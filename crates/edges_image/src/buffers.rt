@@ -47,10 +47,10 @@ fn buffer(unit: &[[u8; 16]; ROWS], bytes: &mut [u8]) {
 // E0, 1F, FF, FF in the table, and 84 and 3E in the record of object 0: live, owner 0, a label of class 0 without needs, no company
 // (1 0000 1 and 36 zeros), then subject 0's rights r, w, a, e and its access r (1111 1000).
 pub fn buffers(unit: &[[u8; 16]; ROWS]) {
-    let mut short = [170u8; 1401];
-    buffer(unit, &mut short); // 13; last byte 170, and 1401 bytes are 170: all are left
-    let mut exact = [170u8; 1402];
+    let mut short = [170u8; 1457];
+    buffer(unit, &mut short); // 13; last byte 170, and 1457 bytes are 170: all are left
+    let mut exact = [170u8; 1458];
     buffer(unit, &mut exact); // 0; last byte 0, and no byte is 170
-    let mut long = [170u8; 1403];
+    let mut long = [170u8; 1459];
     buffer(unit, &mut long); // 0; last byte 170, and 1 byte is 170: the one behind the image is left
 }

@@ -1,5 +1,5 @@
 // Executes the edges of a site profile with the proved functions, and prints a line for each: what was tried, and the number that came.
-// The numbers in the file stdout were worked out from change requests §8 and §10 and the scope by hand; the comments say why.
+// The numbers in the file stdout were worked out from change requests §8, §10 and §11 and the scope by hand; the comments say why.
 mod ranges;
 mod requests;
 mod tables;
@@ -20,6 +20,7 @@ fn main() {
     requests::others(fresh);
     requests::levels(fresh);
     requests::companies(fresh);
+    requests::parents(fresh);
     io::write_all(1, b"after a table that was refused there\n");
     let mut empty = [[0u8; 16]; ROWS];
     image::start(&mut empty, site(4, 10, 3, 3), &[0u8; 41]);

@@ -69,6 +69,17 @@ pub fn companies(one: [[u8; 16]; ROWS]) {
     ask(one, f); // 2: an object outside the profile
 }
 
+// The parent of object 1, number plus one, which the needs in use, 0 and 1, do not bound; object 0 is live.
+pub fn parents(one: [[u8; 16]; ROWS]) {
+    let mut f = without_level(5, 0, 0, 1, 0);
+    f.needs = 1;
+    ask(one, f); // 0: object 0
+    f.needs = 10;
+    ask(one, f); // 19: object 9, the last in use, is not live
+    f.needs = 11;
+    ask(one, f); // 2: object 10 is beyond the profile
+}
+
 // After a refusal nobody is enrolled, and the profile is the widest.
 pub fn refused(empty: [[u8; 16]; ROWS]) {
     create(empty, 4, 0); // 3: inside the widest profile, but not enrolled

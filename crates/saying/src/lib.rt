@@ -42,6 +42,7 @@ fn name(kind: u8) {
         2 => say(b"release, kind ", number),
         3 => say(b"give, kind ", number),
         5 => say(b"create, kind ", number),
+        6 => say(b"delete, kind ", number),
         7 => say(b"change level, kind ", number),
         8 => say(b"set companies, kind ", number),
         _ => say(b"kind ", number),
@@ -62,10 +63,10 @@ pub fn describe(f: Fields) {
 
 // A table in which subject 0 has (1, 0001), subject 1 (3, 0003), subject 2 (0, 0000), as in table W, and subject 15 (15, FFFF); zeros
 // behind it. Subject 15's record is bits 315 to 335: enrolled weighs 16 in byte 39, the class is the rest of that byte, then the needs.
-pub fn enrolment() -> [u8; 1403]
+pub fn enrolment() -> [u8; 1459]
     ensures { λ r. ⌜ r ≡ enrolled ⌝ }
 {
-    let mut bytes = [0u8; 1403];
+    let mut bytes = [0u8; 1459];
     bytes[0] = 0x88;
     bytes[2] = 0x0c;
     bytes[3] = 0xc0;
