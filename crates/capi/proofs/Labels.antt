@@ -82,7 +82,7 @@ read-there =
 pub first-there : reply (getD bytes 1 []) (stateAfter 1) ≡ 0
 first-there =
     first-label-replies-0 (stateAfter 1) (reached-left (table widest tableW) table-met (map asks (take 1 bytes))) (getD bytes 1 []) 0 (level 3 0x0001)
-    (owner-asks-met .0) (owner-asks-met .2) (owner-asks-met .3)
+    (owner-asks-met .0) (owner-asks-met .2) (owner-asks-met .3) (λ p e. absurd (omega (arith, sym (owner-asks-met .4) ∙ e)))
 
 pub same-there : reply (getD bytes 2 []) (stateAfter 2) ≡ 1
 same-there =

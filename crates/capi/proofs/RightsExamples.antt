@@ -12,13 +12,14 @@ use Rattle.model.specs.declared.Mode.{Mode}
 use Rattle.model.specs.declared.Mode.the-variants.{Read, Write, Execute}
 use Rattle.model.specs.declared.Request.the-variants.{Get, Release, Give, Rescind}
 use Rattle.model.specs.declared.Decoded.the-variants.{Says}
-use Rattle.model.specs.Tests.{implies, unless}
+use Rattle.model.specs.Tests.{implies, implies, unless}
 use Rattle.model.specs.Levels.{compare, levelDominates, dominates, sameLabel}
 use Rattle.model.specs.Modes.{has, add, remove}
 use Rattle.model.specs.State.{widest, object, rightsOf}
 use Rattle.model.specs.Properties.{Holds}
 use Rattle.model.specs.Profiles.{profileFits, labelInside, absentBeyond, levelsInside}
-use Rattle.model.specs.Requests.{fields, modeAllowed, unusedZero, fieldsFormed, within, wellFormed, request, decodeFields, decode}
+use Rattle.model.specs.Hierarchy.{meets, without, parentLive, labelUnder, labelsRise}
+use Rattle.model.specs.Requests.{fields, modeAllowed, unusedZero, parentWithin, fieldsFormed, within, wellFormed, request, decodeFields, decode}
 use Rattle.model.specs.Companies.{company, compatible, confined}
 use Rattle.model.specs.Rules.{simpleAll, starPair, starFrom, starFor, starAll, notLowered, changed, already, checks, answer, step, wallPair, wallFrom, wallFor, wallAll}
 use Rattle.model.specs.Runs.{respond, after, replies}
@@ -78,13 +79,13 @@ pub computed : (replies listed there ≡ 0 ∷ 6 ∷ 1 ∷ [])
     × (right Write (after (give-w ∷ rescind-w ∷ []) there) ≡ false)
     × (right Write (after (rescind-w ∷ give-w ∷ []) there) ≡ true)
     × Holds (after (read-1 ∷ []) there) 1 1 Read
-unfolding there give-w rescind-w give-e give-e-itself give-a-on release-r replies tableW tableFrom tableForm labelForm labelFrom tableChecks profileFits absentBeyond levelsInside labelInside begin readTable allZero cut made read-1 bytesToBits toBits odd fromBits field decode decodeFields fields wellFormed fieldsFormed within modeAllowed unusedZero request respond step after acted ask checks already changed starAll starFor starFrom starPair wallAll wallFor wallFrom wallPair compatible confined company implies unless answer simpleAll notLowered has add remove sameLabel dominates levelDominates compare
+unfolding there give-w rescind-w give-e give-e-itself give-a-on release-r replies tableW tableFrom tableForm labelForm labelFrom tableChecks profileFits absentBeyond levelsInside labelInside begin readTable allZero cut made read-1 bytesToBits toBits odd fromBits field decode decodeFields fields wellFormed fieldsFormed within modeAllowed unusedZero request respond step after acted ask checks already changed starAll starFor starFrom starPair wallAll wallFor wallFrom wallPair compatible confined company implies unless answer simpleAll notLowered has add remove sameLabel dominates levelDominates compare parentWithin parentLive labelUnder labelsRise meets without
 computed = (refl, refl, refl, refl, refl, refl, refl, refl, refl)
 
 -- what the bytes say
 says : (decode widest give-w ≡ Says (Give 1 2 0 Write)) × (decode widest give-e ≡ Says (Give 1 2 0 Execute)) × (decode widest rescind-w ≡ Says (Rescind 1 2 0 Write))
     × (decode widest release-r ≡ Says (Release 1 1 Read)) × (decode widest read-1 ≡ Says (Get 1 1 Read))
-unfolding give-w give-e rescind-w release-r read-1 bytesToBits toBits odd fromBits field decode decodeFields fields wellFormed fieldsFormed within modeAllowed unusedZero request
+unfolding give-w give-e rescind-w release-r read-1 bytesToBits toBits odd fromBits field decode decodeFields fields wellFormed fieldsFormed within modeAllowed unusedZero request parentWithin implies
 says = (refl, refl, refl, refl, refl)
 
 -- on a state that a run reaches

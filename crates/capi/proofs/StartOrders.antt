@@ -14,7 +14,8 @@ use Rattle.model.specs.Levels.{compare, levelDominates, dominates, sameLabel}
 use Rattle.model.specs.Modes.{has, add, remove}
 use Rattle.model.specs.ModePairs.{kept}
 use Rattle.model.specs.Profiles.{profileFits, labelInside, absentBeyond, levelsInside}
-use Rattle.model.specs.Requests.{fields, modeAllowed, unusedZero, fieldsFormed, within, wellFormed, request, decodeFields, decode}
+use Rattle.model.specs.Hierarchy.{meets, without, parentLive, labelUnder, labelsRise}
+use Rattle.model.specs.Requests.{fields, modeAllowed, unusedZero, parentWithin, fieldsFormed, within, wellFormed, request, decodeFields, decode}
 use Rattle.model.specs.Companies.{company, compatible, confined, wallKept}
 use Rattle.model.specs.Rules.{simpleAll, starPair, starFrom, starFor, starAll, notLowered, changed, already, checks, answer, step, wallPair, wallFrom, wallFor, wallAll}
 use Rattle.model.specs.Runs.{respond}
@@ -107,7 +108,7 @@ unfolding there
 reached-there = reached-left (table widest tableW) table-met (map asks made)
 
 answers-there : (startOrder (read-1 ∷ read-1 ∷ append-0 ∷ []) there ≡ Clash 0 2) × (startOrder (read-1 ∷ read-1 ∷ []) there ≡ Agree)
-unfolding there tableW tableFrom tableForm labelForm labelFrom tableChecks profileFits absentBeyond levelsInside labelInside begin readTable allZero cut made read-1 append-0 firstBelow wanted isAccess alone breaks clashes firstClash startOrder kept wallKept bytesToBits toBits odd fromBits field decode decodeFields fields wellFormed fieldsFormed within modeAllowed unusedZero request respond step acted ask checks already changed starAll starFor starFrom starPair wallAll wallFor wallFrom wallPair compatible confined company implies unless answer simpleAll notLowered has add remove sameLabel dominates levelDominates compare
+unfolding there tableW tableFrom tableForm labelForm labelFrom tableChecks profileFits absentBeyond levelsInside labelInside begin readTable allZero cut made read-1 append-0 firstBelow wanted isAccess alone breaks clashes firstClash startOrder kept wallKept bytesToBits toBits odd fromBits field decode decodeFields fields wellFormed fieldsFormed within modeAllowed unusedZero request respond step acted ask checks already changed starAll starFor starFrom starPair wallAll wallFor wallFrom wallPair compatible confined company implies unless answer simpleAll notLowered has add remove sameLabel dominates levelDominates compare parentWithin parentLive labelUnder labelsRise meets without
 answers-there = (refl, refl)
 
 -- the order of these three gets matters: those at 0 and 2 clash, and not all orders leave equal states

@@ -3,6 +3,7 @@
 use Prim.Native.Nat.{ℕ, _≤_}
 use native.Mathlib.Omega.{arith}
 use mathlib.Core.Path.{_≡_, sym, ap, _∙_}
+use mathlib.Core.Bool.{true, false}
 use mathlib.Core.List.{List, [], _++_, map}
 use lib.ListN.{length, replicate}
 use lib.Dec.{eqb}
@@ -12,8 +13,8 @@ use Rattle.model.specs.Runs.{reply, replies}
 use Rattle.model.specs.Journal.{Journaled, journalSize, withoutEntries, takeBack, takingBack, Act, asks, takesBack, acted, answers}
 use Rattle.model.specs.Beginnings.{Beginning, begun, leftWith, left}
 use Rattle.model.proofs.Tests.{split, apart, cond-true}
-use Rattle.invariants.specs.TakingBack.{zeros}
-use Rattle.invariants.proofs.TakingBack.{taken-back, empty-17, acted-fits, acted-append, asked-replies, takings-restore}
+use Rattle.invariants.specs.TakingBack.{zeros, tookChildren, noneTook}
+use Rattle.invariants.proofs.TakingBack.{taken-back, empty-17, acted-fits, acted-append, asked-replies, takings-restore, children-empty}
 use Rattle.unit.specs.Rows.{Rows, stateIn}
 use Rattle.unit.specs.Stored.{unitOf}
 use Rattle.journal.specs.Ring.{entryCount}
@@ -25,24 +26,30 @@ use Rattle.capi.proofs.UnitRuns.{after-said, after-whole, unit-rows, fu
 
 -- ---- every content of a unit
 
--- after a reply 0 it returns 0 and the state is what it was
-pub any-taken-back : (u : Rows) → WholeUnit u → (b : List ℕ) → reply b (stateIn u) ≡ 0 → (answerOf takesBack (askedUnit b u) ≡ 0) × (stateIn (takenUnit (askedUnit b u)) ≡ stateIn u)
+-- after a reply 0 that took no children it returns 0 and the state is what it was
+pub any-taken-back : (u : Rows) → WholeUnit u → (b : List ℕ) → reply b (stateIn u) ≡ 0 → tookChildren b (stateIn u) ≡ false
+    → (answerOf takesBack (askedUnit b u) ≡ 0) × (stateIn (takenUnit (askedUnit b u)) ≡ stateIn u)
 unfolding saidBy
-any-taken-back u U b z =
-    let t = taken-back b (saidBy u) z in (
+any-taken-back u U b z none =
+    let t = taken-back b (saidBy u) z none in (
       ap (λ (j : Journaled). number (takingBack (j .journal))) (ask-said u U b) ∙ t .1,
       ap (λ (j : Journaled). j .monitor) (taken-said (askedUnit b u) (ask-whole u U b) ∙ ap takeBack (ask-said u U b) ∙ t .0),
     )
 
--- and so it is after a list of requests of which n replied 0, n at most 32, with n takings-back
-pub any-takings-restore : (u : Rows) → WholeUnit u → (bs : List (List ℕ)) (n : ℕ) → zeros (unitReplies bs u) ≡ n → n ≤ journalSize
+-- "A deletion that took children empties the journal" (change request §11): after it it returns 17
+pub any-children-empty : (u : Rows) → WholeUnit u → (b : List ℕ) → tookChildren b (stateIn u) ≡ true → answerOf takesBack (askedUnit b u) ≡ 17
+unfolding saidBy
+any-children-empty u U b took = ap (λ (j : Journaled). number (takingBack (j .journal))) (ask-said u U b) ∙ children-empty b (saidBy u) took .1
+
+-- and so it is after a list of requests that took none and of which n replied 0, n at most 32, with n takings-back
+pub any-takings-restore : (u : Rows) → WholeUnit u → (bs : List (List ℕ)) → noneTook bs (stateIn u) ≡ true → (n : ℕ) → zeros (unitReplies bs u) ≡ n → n ≤ journalSize
     → stateIn (actedUnit (replicate n takesBack) (unitAsked bs u)) ≡ stateIn u
 unfolding saidBy
-any-takings-restore u U bs n z h =
+any-takings-restore u U bs none n z h =
     let count : zeros (replies bs (stateIn u)) ≡ n = ap zeros (sym (answers-said (map asks bs) u U ∙ asked-replies bs (saidBy u))) ∙ z in
     ap (λ (j : Journaled). j .monitor)
     (acted-said (replicate n takesBack) (unitAsked bs u) (acted-whole (map asks bs) u U) ∙ ap (acted (replicate n takesBack)) (acted-said (map asks bs) u U)
-    ∙ takings-restore bs (saidBy u) (entries-fit (journalPart u)) n count h .0)
+    ∙ takings-restore bs (saidBy u) (entries-fit (journalPart u)) none n count h .0)
 
 -- ---- a unit that was started or opened, then asked and taken back in any order
 
@@ -60,25 +67,25 @@ module _ (b : Beginning) (l : List Act) where
   fits = acted-fits l (withoutEntries (begun b .monitor)) (omega arith)
 
   -- "after n requests with reply 0, n at most 32 and no taking-back among them, n takings-back restore the state before them all": every byte of the
-  -- monitor is what it was
-  pub unit-takings-restore : (bs : List (List ℕ)) (n : ℕ) → zeros (unitReplies bs (unitAfter b l)) ≡ n → n ≤ journalSize
+  -- monitor is what it was, where none of the requests took children
+  pub unit-takings-restore : (bs : List (List ℕ)) → noneTook bs (left b l) ≡ true → (n : ℕ) → zeros (unitReplies bs (unitAfter b l)) ≡ n → n ≤ journalSize
       → monitorPart (actedUnit (replicate n takesBack) (unitAsked bs (unitAfter b l))) ≡ monitorPart (unitAfter b l)
-  unit-takings-restore bs n z h =
+  unit-takings-restore bs none n z h =
       let count : zeros (replies bs (left b l)) ≡ n = ap zeros (sym (further-replies b l bs)) ∙ z in
       ap monitorPart (sym (unit-append (map asks bs) (replicate n takesBack) (unitAfter b l)))
       ∙ rows-after (map asks bs ++ replicate n takesBack)
-      ∙ ap (λ (j : Journaled). unitOf (j .monitor)) (acted-append (map asks bs) (replicate n takesBack) (leftWith b l) ∙ takings-restore bs (leftWith b l) fits n count h .0)
+      ∙ ap (λ (j : Journaled). unitOf (j .monitor)) (acted-append (map asks bs) (replicate n takesBack) (leftWith b l) ∙ takings-restore bs (leftWith b l) fits none n count h .0)
       ∙ sym (unit-rows b l)
 
 -- and each of them returns 0
-pub unit-takings-0 : (b : Beginning) (l : List Act) (bs : List (List ℕ)) (n : ℕ) → zeros (unitReplies bs (unitAfter b l)) ≡ n → n ≤ journalSize
+pub unit-takings-0 : (b : Beginning) (l : List Act) (bs : List (List ℕ)) → noneTook bs (left b l) ≡ true → (n : ℕ) → zeros (unitReplies bs (unitAfter b l)) ≡ n → n ≤ journalSize
     → answersOf (replicate n takesBack) (unitAsked bs (unitAfter b l)) ≡ replicate n 0
-unit-takings-0 b l bs n z h =
+unit-takings-0 b l bs none n z h =
     let count : zeros (replies bs (left b l)) ≡ n = ap zeros (sym (further-replies b l bs)) ∙ z in
     ap (answersOf (replicate n takesBack)) (sym (unit-append l (map asks bs) (begunUnit b)))
     ∙ answers-after b (l ++ map asks bs) (replicate n takesBack)
     ∙ ap (answers (replicate n takesBack)) (acted-append l (map asks bs) (withoutEntries (begun b .monitor)))
-    ∙ takings-restore bs (leftWith b l) (fits b l) n count h .1
+    ∙ takings-restore bs (leftWith b l) (fits b l) none n count h .1
 
 -- ---- an empty journal
 

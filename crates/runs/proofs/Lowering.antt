@@ -100,9 +100,9 @@ raised-met = (refl, refl, refl)
 pub labelled-met : object (stateAfter 2) 0 .label ≢ Absent
 labelled-met e = clash (ap present (sym (raised-met .0) ∙ e))
 
--- and of the owner's changes of level: the second request asks for a first label, the third for the same one
+-- and of the owner's changes of level: the second request asks for a first label, of an object under none, the third for the same one
 pub owner-asks-met : (decode (stateAfter 1 .profile) (getD bytes 1 []) ≡ Says (ChangeLevel (object (stateAfter 1) 0 .owner) 0 (level 3 0x0001)))
     × (decode (stateAfter 2 .profile) (getD bytes 2 []) ≡ Says (ChangeLevel (object (stateAfter 2) 0 .owner) 0 (level 3 0x0001)))
-    × (object (stateAfter 1) 0 .live ≡ true) × (object (stateAfter 1) 0 .label ≡ Absent)
+    × (object (stateAfter 1) 0 .live ≡ true) × (object (stateAfter 1) 0 .label ≡ Absent) × (object (stateAfter 1) 0 .parent ≡ 0)
 unfolding steps bytes tableW join bitsToBytes pack tableFrom tableForm labelForm labelFrom tableChecks profileFits absentBeyond levelsInside labelInside begin readTable allZero bytesToBits toBits odd cut fromBits field decode decodeFields fields wellFormed fieldsFormed within modeAllowed unusedZero request respond step acted ask checks already changed starAll starFor starFrom starPair wallAll wallFor wallFrom wallPair compatible confined company implies unless answer simpleAll has add remove notLowered sameLabel dominates levelDominates compare parentWithin parentLive labelUnder labelsRise meets without
-owner-asks-met = (refl, refl, refl, refl)
+owner-asks-met = (refl, refl, refl, refl, refl)
