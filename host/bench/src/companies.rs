@@ -18,7 +18,7 @@ impl Drawing {
         let mut it = Drawing { monitor: Monitor::begin([Some(TOP); SUBJECTS]), requests: Vec::new() };
         for object in 0..OBJECTS {
             let actor = object % SUBJECTS;
-            it.ask(actor, object, Kind::Create { execute: true });
+            it.ask(actor, object, Kind::Create { execute: true, parent: None });
             it.ask(actor, object, Kind::ChangeLevel(TOP));
             it.ask(actor, object, Kind::SetCompanies(companies(object)));
             for other in (0..SUBJECTS).filter(|&other| other != actor) {

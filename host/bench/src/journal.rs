@@ -21,7 +21,7 @@ struct List {
 /// the first.
 fn list(name: &'static str, two: impl Fn(usize) -> [Kind; 2]) -> List {
     let top = Level { class: 15, needs: u16::MAX };
-    let begin = |_| [Kind::Create { execute: true }, Kind::ChangeLevel(top)];
+    let begin = |_| [Kind::Create { execute: true, parent: None }, Kind::ChangeLevel(top)];
     let mut requests = Vec::new();
     let mut add = |kinds: &dyn Fn(usize) -> [Kind; 2]| {
         for (at, object) in (0..2).flat_map(|at| (0..OBJECTS).map(move |object| (at, object))) {
@@ -40,7 +40,7 @@ fn lists() -> [List; 2] {
             let other = (owner + 1) % SUBJECTS;
             [Kind::Give(other, Mode::Execute), Kind::Rescind(other, Mode::Execute)]
         }),
-        list("delete and create", |_| [Kind::Delete, Kind::Create { execute: true }]),
+        list("delete and create", |_| [Kind::Delete, Kind::Create { execute: true, parent: None }]),
     ]
 }
 

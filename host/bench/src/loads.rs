@@ -32,7 +32,7 @@ pub fn prepare(random: &mut Random, objects: usize, dense: bool) -> (Monitor, Ve
         let mut request = load::request(random, shape, &monitor);
         if step < objects {
             request.object = step;
-            request.kind = Kind::Create { execute: true };
+            request.kind = Kind::Create { execute: true, parent: None };
         }
         let labelled = monitor.objects[request.object].as_ref().is_some_and(|it| it.label.is_some());
         let left_out = match request.kind {
@@ -66,7 +66,7 @@ fn by_someone(random: &mut Random, monitor: &Monitor, objects: usize) -> (usize,
 fn change_level(random: &mut Random, monitor: &Monitor, objects: usize) -> Request {
     let (actor, object) = by_someone(random, monitor, objects);
     match &monitor.objects[object] {
-        None => Request { actor, object, kind: Kind::Create { execute: true } },
+        None => Request { actor, object, kind: Kind::Create { execute: true, parent: None } },
         Some(it) if it.label == Some(top(objects)) && it.held == [0; SUBJECTS] => {
             Request { actor: it.owner, object, kind: Kind::Delete }
         }
@@ -103,7 +103,8 @@ const KINDS: [(&str, Draw); 8] = [
     }),
     ("create, delete", |r, m, n| {
         let (actor, object) = by_someone(r, m, n);
-        let kind = if m.objects[object].is_some() { Kind::Delete } else { Kind::Create { execute: true } };
+        let kind =
+            if m.objects[object].is_some() { Kind::Delete } else { Kind::Create { execute: true, parent: None } };
         Request { actor, object, kind }
     }),
     ("change level", change_level),

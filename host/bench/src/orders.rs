@@ -28,7 +28,7 @@ fn full(label: impl Fn(usize) -> Level) -> Monitor {
     for object in 0..OBJECTS {
         let actor = object % SUBJECTS;
         let mut granted = |kind| assert!(monitor.step(Request { actor, object, kind }) < 2, "{kind:?} of o{object}");
-        granted(Kind::Create { execute: true });
+        granted(Kind::Create { execute: true, parent: None });
         granted(Kind::ChangeLevel(label(object)));
         for (other, mode) in (0..SUBJECTS).flat_map(|other| Mode::ALL.map(|mode| (other, mode))) {
             granted(Kind::Give(other, mode));

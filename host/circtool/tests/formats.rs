@@ -225,7 +225,9 @@ fn the_worked_examples_are_what_the_library_reads_and_writes() {
     assert_eq!(subjects.iter().map(|it| (it.class, it.needs)).collect::<Vec<_>>(), [(1, 1), (3, 3), (0, 0)]);
     let by = |kind| Request { kind, ..decoded }.encode();
     let companies = Kind::SetCompanies([3, 0, 0, 1]);
-    for kind in [Kind::Create { execute: true }, decoded.kind, companies, Kind::Get(reference::Mode::Write)] {
+    for kind in
+        [Kind::Create { execute: true, parent: None }, decoded.kind, companies, Kind::Get(reference::Mode::Write)]
+    {
         assert_eq!(unit.ask(&by(kind)), 0, "{kind:?}");
     }
     assert_eq!(unit.image()[63..71], in_image);

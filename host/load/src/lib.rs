@@ -176,7 +176,7 @@ struct Fields {
 type Make = fn(Fields) -> Kind;
 
 fn create(it: Fields) -> Kind {
-    Kind::Create { execute: it.execute }
+    Kind::Create { execute: it.execute, parent: None }
 }
 
 /// How often each kind is drawn; the last one only where the shape has companies.

@@ -6,7 +6,7 @@ use crate::monitor::Monitor;
 use crate::profile::Profile;
 use crate::record::{Object, OBJECTS, SUBJECTS};
 use crate::wall::CONFLICT_CLASSES;
-use crate::{reply, star, wall};
+use crate::{reply, star, tree, wall};
 
 const CLASS_BITS: usize = 4;
 const NEEDS_BITS: usize = 16;
@@ -15,8 +15,11 @@ const LABEL_BITS: usize = 1 + CLASS_BITS + NEEDS_BITS;
 const OWNER_BITS: usize = 4;
 const COMPANY_BITS: usize = 4;
 const SET_BITS: usize = 4;
-/// live, owner, label, the company of each conflict class, then rights and accesses of each subject
-const OBJECT_BITS: usize = 1 + OWNER_BITS + LABEL_BITS + CONFLICT_CLASSES * COMPANY_BITS + SUBJECTS * 2 * SET_BITS;
+/// the parent's number plus one, or 0
+const PARENT_BITS: usize = 7;
+/// live, owner, label, the company of each conflict class, then rights and accesses of each subject, and the parent
+const OBJECT_BITS: usize =
+    1 + OWNER_BITS + LABEL_BITS + CONFLICT_CLASSES * COMPANY_BITS + SUBJECTS * 2 * SET_BITS + PARENT_BITS;
 
 pub const TABLE_BYTES: usize = SUBJECTS * LABEL_BITS / 8;
 pub const IMAGE_BYTES: usize = TABLE_BYTES + OBJECTS * OBJECT_BITS / 8;
@@ -53,7 +56,7 @@ impl Monitor {
     }
 
     /// A monitor begun from an image: check 16 of the profile, then 10, 11, 16 of clearances and labels, 12, 6, 7, 8, 9, 18,
-    /// each over the whole image before the next.
+    /// 19, 20, each over the whole image before the next.
     pub fn from_image_in(profile: Profile, image: &[u8]) -> Result<Monitor, u8> {
         if !profile.is_in_range() {
             return Err(reply::PROFILE);
@@ -86,7 +89,7 @@ impl Monitor {
         self.subjects.iter().flatten().chain(labels).any(|level| !self.profile.has_level(level))
     }
 
-    /// The first of checks 12, 6, 7, 8, 9, 18 that the state fails.
+    /// The first of checks 12, 6, 7, 8, 9, 18, 19, 20 that the state fails.
     pub fn fault(&self) -> Option<u8> {
         let any = |bad: &dyn Fn(&Object, usize) -> bool| {
             self.objects.iter().flatten().any(|object| (0..SUBJECTS).any(|s| bad(object, s)))
@@ -114,7 +117,14 @@ impl Monitor {
         if !(0..SUBJECTS).all(|s| wall::kept(self.star, &self.objects, s)) {
             return Some(reply::WALL);
         }
-        None
+        self.fault_of_parents()
+    }
+
+    fn fault_of_parents(&self) -> Option<u8> {
+        if !tree::parents_kept(&self.objects) {
+            return Some(reply::PARENT);
+        }
+        (!tree::labels_kept(&self.objects)).then_some(reply::PARENT_LABEL)
     }
 
     /// Writes the image into the first bytes of the buffer; 13 and every byte left where it is too short.
@@ -181,6 +191,7 @@ fn read_object(bits: &mut BitReader, form: &mut bool) -> Option<Object> {
         object.rights[s] = bits.number(SET_BITS) as u8;
         object.held[s] = bits.number(SET_BITS) as u8;
     }
+    object.parent = (bits.number(PARENT_BITS) as usize).checked_sub(1);
     Some(object)
 }
 
@@ -212,4 +223,5 @@ fn write_object(bits: &mut BitWriter, object: &Option<Object>) {
         bits.number(object.rights[s].into(), SET_BITS);
         bits.number(object.held[s].into(), SET_BITS);
     }
+    bits.number(object.parent.map_or(0, |parent| parent as u32 + 1), PARENT_BITS);
 }

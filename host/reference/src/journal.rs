@@ -4,6 +4,8 @@
 use crate::monitor::Monitor;
 use crate::record::Object;
 use crate::reply;
+use crate::request::Kind;
+use crate::tree;
 use std::collections::VecDeque;
 
 /// "A journal of up to 32 entries".
@@ -42,15 +44,19 @@ impl Journaled {
         self.entries.len()
     }
 
-    /// Carries out a byte string, returns its reply, and enters it where that is 0.
+    /// Carries out a byte string, returns its reply, and enters it where that is 0. "A deletion that took children empties the
+    /// journal": it has no entry either.
     pub fn request(&mut self, bytes: &[u8]) -> u8 {
         let Some(request) = self.monitor.decode(bytes) else {
             return reply::MALFORMED;
         };
         let entry = Entry { object: request.object, record: self.monitor.objects[request.object].clone() };
+        let takes_children = request.kind == Kind::Delete && tree::has_child(&self.monitor.objects, request.object);
         let reply = self.monitor.step(request);
-        if reply == reply::CHANGED {
-            self.enter(entry);
+        match (reply, takes_children) {
+            (reply::CHANGED, true) => self.entries.clear(),
+            (reply::CHANGED, false) => self.enter(entry),
+            _ => {}
         }
         reply
     }

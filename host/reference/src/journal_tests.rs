@@ -17,7 +17,7 @@ fn changed(journaled: &mut Journaled, requests: usize) -> Vec<Monitor> {
     let mut states = vec![journaled.monitor.clone()];
     for at in 0..requests {
         let kind = match at {
-            0 => Kind::Create { execute: true },
+            0 => Kind::Create { execute: true, parent: None },
             _ if at % 2 == 1 => Kind::Give(0, Mode::Execute),
             _ => Kind::Rescind(0, Mode::Execute),
         };
@@ -83,7 +83,7 @@ fn a_delete_taken_back_restores_label_rights_and_accesses() {
     let mut journaled = begun();
     let low = Level { class: 0, needs: 0 };
     for kind in [
-        Kind::Create { execute: true },
+        Kind::Create { execute: true, parent: None },
         Kind::ChangeLevel(low),
         Kind::Give(0, Mode::Read),
         Kind::Give(2, Mode::Append),
@@ -108,7 +108,7 @@ fn a_label_taken_back_is_the_one_before_or_none() {
     let mut journaled = begun();
     let label = |journaled: &Journaled| journaled.monitor.objects[0].as_ref().unwrap().label;
     let (low, high) = (Level { class: 1, needs: 1 }, Level { class: 2, needs: 1 });
-    for kind in [Kind::Create { execute: false }, Kind::ChangeLevel(low), Kind::ChangeLevel(high)] {
+    for kind in [Kind::Create { execute: false, parent: None }, Kind::ChangeLevel(low), Kind::ChangeLevel(high)] {
         assert_eq!(asked(&mut journaled, 1, 0, kind), 0, "{kind:?}");
     }
     assert_eq!(asked(&mut journaled, 1, 0, Kind::ChangeLevel(low)), reply::LOWERED, "a request does not lower it");
@@ -126,7 +126,7 @@ fn reply_1_and_refusals_enter_nothing_and_leave_the_journal() {
         (1, Kind::Rescind(0, Mode::Execute), reply::ALREADY),
         (1, Kind::Get(Mode::Read), reply::NO_LABEL),
         (2, Kind::Delete, reply::NO_RIGHT),
-        (1, Kind::Create { execute: true }, reply::LIVE),
+        (1, Kind::Create { execute: true, parent: None }, reply::LIVE),
         (9, Kind::Delete, reply::NOT_ENROLLED),
     ] {
         assert_eq!(asked(&mut journaled, actor, 0, kind), reply, "{kind:?}");

@@ -16,6 +16,7 @@ mod record;
 mod request;
 mod star;
 mod start_order;
+mod tree;
 mod wall;
 
 pub use image::{IMAGE_BYTES, TABLE_BYTES};
@@ -60,6 +61,10 @@ pub mod reply {
     pub const EMPTY_JOURNAL: u8 = 17;
     /// the wall between competing companies
     pub const WALL: u8 = 18;
+    /// a parent that is not live; in images also one that is no object, or a chain of parents that does not end
+    pub const PARENT: u8 = 19;
+    /// a label that breaks the rule toward parent or child
+    pub const PARENT_LABEL: u8 = 20;
 }
 
 #[cfg(test)]
@@ -68,5 +73,9 @@ mod journal_tests;
 mod profile_tests;
 #[cfg(test)]
 mod tests;
+#[cfg(test)]
+mod tree_image_tests;
+#[cfg(test)]
+mod tree_tests;
 #[cfg(test)]
 mod wall_tests;

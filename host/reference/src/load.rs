@@ -38,7 +38,8 @@ impl Xorshift {
             2 => Kind::Release(one),
             3 => Kind::Give(other, one),
             4 => Kind::Rescind(other, one),
-            5 => Kind::Create { execute: mode % 2 == 1 },
+            // "The test load writes 0 there", where the parent stands
+            5 => Kind::Create { execute: mode % 2 == 1, parent: None },
             6 => Kind::Delete,
             _ => Kind::ChangeLevel(Level { class, needs }),
         };
@@ -91,7 +92,10 @@ mod tests {
     fn mode_of(kind: Kind) -> Option<u32> {
         match kind {
             Kind::Get(mode) | Kind::Release(mode) | Kind::Give(_, mode) | Kind::Rescind(_, mode) => Some(mode.number()),
-            Kind::Create { execute } => Some(4 * u32::from(execute)),
+            Kind::Create { execute, parent } => {
+                assert_eq!(parent, None);
+                Some(4 * u32::from(execute))
+            }
             Kind::Delete | Kind::ChangeLevel(_) | Kind::SetCompanies(_) => None,
         }
     }

@@ -24,12 +24,12 @@ fn by(actor: usize, object: usize, kind: Kind) -> Request {
 /// Each request with its reply.
 pub fn marked_run() -> [(Request, u8); 16] {
     [
-        (by(1, 0, Create { execute: false }), 0),
+        (by(1, 0, Create { execute: false, parent: None }), 0),
         (by(1, 0, Get(Read)), 7),
         (by(1, 0, level(0, 0)), 0),
         (by(1, 0, level(0, 0)), 1),
         (by(1, 0, Get(Read)), 0),
-        (by(1, 1, Create { execute: true }), 0),
+        (by(1, 1, Create { execute: true, parent: None }), 0),
         (by(1, 1, level(2, 1)), 0),
         (by(1, 1, Get(Append)), 0),
         (by(1, 0, level(3, 3)), 9),

@@ -7,6 +7,7 @@ use crate::record::{Object, OBJECTS, SUBJECTS};
 use crate::reply;
 use crate::request::{Kind, Request};
 use crate::star::{self, Star};
+use crate::tree;
 use crate::wall::{self, Companies};
 
 #[derive(Clone, Debug)]
@@ -70,7 +71,7 @@ impl Monitor {
             Kind::Release(mode) => self.release(actor, object, mode),
             Kind::Give(other, mode) => self.give(actor, other, object, mode),
             Kind::Rescind(other, mode) => self.rescind(actor, other, object, mode),
-            Kind::Create { execute } => self.create(actor, object, execute),
+            Kind::Create { execute, parent } => self.create(actor, object, execute, parent),
             Kind::Delete => self.delete(actor, object),
             Kind::ChangeLevel(level) => self.change_level(actor, object, level),
             Kind::SetCompanies(companies) => self.set_companies(actor, object, companies),
@@ -151,22 +152,27 @@ impl Monitor {
         }
     }
 
-    fn create(&mut self, actor: usize, object: usize, execute: bool) -> u8 {
+    /// An object that is not live is not its own parent either.
+    fn create(&mut self, actor: usize, object: usize, execute: bool, parent: Option<usize>) -> u8 {
         if self.objects[object].is_some() {
             return reply::LIVE;
         }
-        let mut new = Object::new(actor);
+        if parent.is_some_and(|parent| self.objects[parent].is_none()) {
+            return reply::PARENT;
+        }
+        let mut new = Object { parent, ..Object::new(actor) };
         new.rights[actor] = if execute { 15 } else { 14 };
         self.objects[object] = Some(new);
         reply::CHANGED
     }
 
+    /// "Deleting an object deletes everything below it .. on the top owner's request alone".
     fn delete(&mut self, actor: usize, object: usize) -> u8 {
         match &self.objects[object] {
             None => reply::NOT_LIVE,
             Some(it) if it.owner != actor => reply::NO_RIGHT,
             Some(_) => {
-                self.objects[object] = None;
+                tree::remove(&mut self.objects, object);
                 reply::CHANGED
             }
         }
@@ -190,15 +196,19 @@ impl Monitor {
         }
         let before = it.label;
         it.label = Some(level);
-        for s in 0..SUBJECTS {
-            if !star::kept(self.star, &self.objects, s) {
-                if let Some(it) = &mut self.objects[object] {
-                    it.label = before;
-                }
-                return reply::STAR;
-            }
+        let broken = self.broken_by_label(object);
+        if let (Some(_), Some(it)) = (broken, &mut self.objects[object]) {
+            it.label = before;
         }
-        changed(before != Some(level))
+        broken.unwrap_or(changed(before != Some(level)))
+    }
+
+    /// Checks 9 and 20 of a change of level, with the new label in place.
+    fn broken_by_label(&self, object: usize) -> Option<u8> {
+        if !(0..SUBJECTS).all(|s| star::kept(self.star, &self.objects, s)) {
+            return Some(reply::STAR);
+        }
+        (!tree::label_kept(&self.objects, object)).then_some(reply::PARENT_LABEL)
     }
 
     /// "lets the owner set them": checks 4, 6, and the wall over all subjects in the state after it.

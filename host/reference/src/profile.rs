@@ -43,7 +43,9 @@ impl Profile {
             Kind::ChangeLevel(level) => self.has_level(level),
             // the numbers stand in the field of the needs and are none: "not bounded by the profile"
             Kind::SetCompanies(_) => true,
-            Kind::Get(_) | Kind::Release(_) | Kind::Create { .. } | Kind::Delete => true,
+            // the parent stands there too: "for an object beyond the profile, it is malformed, and the profile's needs do not bound it"
+            Kind::Create { parent, .. } => parent.is_none_or(|parent| self.has_object(parent)),
+            Kind::Get(_) | Kind::Release(_) | Kind::Delete => true,
         };
         fields && self.has_subject(request.actor) && self.has_object(request.object)
     }

@@ -66,7 +66,7 @@ fn the_ranges_are_looked_at_before_anything_else_is_read() {
 #[test]
 fn what_is_outside_the_profile_in_a_request_is_malformed() {
     let asked = |actor: usize, object: usize, kind: Kind| small().request(&Request { actor, object, kind }.encode());
-    let create = Kind::Create { execute: false };
+    let create = Kind::Create { execute: false, parent: None };
     assert_eq!((asked(3, 9, create), asked(4, 9, create), asked(3, 10, create)), (0, 2, 2));
     assert_eq!((asked(15, 0, create), asked(0, 63, create)), (2, 2));
     for kind in [|other| Kind::Give(other, Mode::Read), |other| Kind::Rescind(other, Mode::Read)] {
@@ -140,7 +140,7 @@ fn images_are_checked_16_10_11_16_12_6_7_8_9() {
     for (state, number) in states {
         assert_eq!(read(state), number);
     }
-    assert_eq!(Monitor::from_image_in(SMALL, &image(&beyond)[..1401]), Err(reply::LENGTH));
+    assert_eq!(Monitor::from_image_in(SMALL, &image(&beyond)[..1457]), Err(reply::LENGTH));
     let clearance = with(&absent, |it| it.subjects[3] = Some(level(0, 0x8000)));
     assert_eq!(read(&clearance), reply::PROFILE);
 }
@@ -149,7 +149,7 @@ fn images_are_checked_16_10_11_16_12_6_7_8_9() {
 fn a_record_beyond_the_profile_is_absent_and_a_bit_in_it_gets_11() {
     let good = image(&with_object());
     // the records of subjects 4 to 15 and of objects 10 to 63, each bit by itself
-    let bits = (21 * 4..21 * 16).chain(8 * 42 + 170 * 10..8 * IMAGE_BYTES);
+    let bits = (21 * 4..21 * 16).chain(8 * 42 + 177 * 10..8 * IMAGE_BYTES);
     for bit in bits {
         let mut image = good;
         image[bit / 8] |= 0x80 >> (bit % 8);

@@ -19,13 +19,15 @@ pub struct Object {
     pub companies: Companies,
     pub rights: [u8; SUBJECTS],
     pub held: [u8; SUBJECTS],
+    /// the object that contains it; an image may name one above 63, which is none of the objects
+    pub parent: Option<usize>,
 }
 
 impl Object {
-    /// Without label, company, right or access.
+    /// Without label, company, right, access or parent.
     pub fn new(owner: usize) -> Object {
         let none = [0; SUBJECTS];
-        Object { owner, label: None, companies: [0; CONFLICT_CLASSES], rights: none, held: none }
+        Object { owner, label: None, companies: [0; CONFLICT_CLASSES], rights: none, held: none, parent: None }
     }
 
     /// Whether the subject holds any access on it, e too.

@@ -14,7 +14,11 @@ pub enum Kind {
     Release(Mode),
     Give(usize, Mode),
     Rescind(usize, Mode),
-    Create { execute: bool },
+    /// under a parent, or under none
+    Create {
+        execute: bool,
+        parent: Option<usize>,
+    },
     Delete,
     ChangeLevel(Level),
     SetCompanies(Companies),
@@ -54,12 +58,18 @@ fn row(kind: u32) -> Option<Row> {
     Some(match kind {
         1 | 2 => Row { other: false, class: false, needs: false, mode: Takes::OneMode },
         3 | 4 => Row { other: true, class: false, needs: false, mode: Takes::OneMode },
-        5 => Row { other: false, class: false, needs: false, mode: Takes::Execute },
+        5 => Row { other: false, class: false, needs: true, mode: Takes::Execute },
         6 => Row { other: false, class: false, needs: false, mode: Takes::NoMode },
         7 => Row { other: false, class: true, needs: true, mode: Takes::NoMode },
         8 => Row { other: false, class: false, needs: true, mode: Takes::NoMode },
         _ => return None,
     })
+}
+
+/// "Create carries the parent's number plus one in the needs field, 0 for none; above 64 .. it is malformed".
+fn parent_in(needs: u16) -> Option<Option<usize>> {
+    let number = usize::from(needs);
+    (number <= OBJECTS).then(|| number.checked_sub(1))
 }
 
 /// A well-formed request.
@@ -101,7 +111,7 @@ impl Request {
             2 => Kind::Release(moded?),
             3 => Kind::Give(other, moded?),
             4 => Kind::Rescind(other, moded?),
-            5 => Kind::Create { execute: moded.is_some() },
+            5 => Kind::Create { execute: moded.is_some(), parent: parent_in(needs)? },
             6 => Kind::Delete,
             7 => Kind::ChangeLevel(Level { class, needs }),
             8 => Kind::SetCompanies(wall::from_needs(needs)),
@@ -116,7 +126,7 @@ impl Request {
             Kind::Release(mode) => (2, 0, mode.number()),
             Kind::Give(other, mode) => (3, other, mode.number()),
             Kind::Rescind(other, mode) => (4, other, mode.number()),
-            Kind::Create { execute } => (5, 0, if execute { 4 } else { 0 }),
+            Kind::Create { execute, .. } => (5, 0, if execute { 4 } else { 0 }),
             Kind::Delete => (6, 0, 0),
             Kind::ChangeLevel(_) => (7, 0, 0),
             Kind::SetCompanies(_) => (8, 0, 0),
@@ -124,6 +134,7 @@ impl Request {
         let (class, needs) = match self.kind {
             Kind::ChangeLevel(Level { class, needs }) => (class, needs),
             Kind::SetCompanies(companies) => (0, wall::to_needs(companies)),
+            Kind::Create { parent: Some(parent), .. } => (0, parent as u16 + 1),
             _ => (0, 0),
         };
         let mut bytes = [0; REQUEST_BYTES];

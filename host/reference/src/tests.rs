@@ -184,7 +184,7 @@ fn to(class: u8, needs: u16) -> Kind {
 #[test]
 fn a_new_label_that_does_not_dominate_the_old_is_refused_with_14() {
     let monitor = &mut Monitor::from_table(&table_w()).unwrap();
-    assert_eq!(asked(monitor, 1, 0, Kind::Create { execute: false }), 0);
+    assert_eq!(asked(monitor, 1, 0, Kind::Create { execute: false, parent: None }), 0);
     for (class, needs, reply) in [
         (3, 1, 0), // a first label is free
         (0, 0, 14),
@@ -200,7 +200,7 @@ fn a_new_label_that_does_not_dominate_the_old_is_refused_with_14() {
         assert_eq!(asked(monitor, 1, 0, to(class, needs)), reply, "class {class} needs {needs}");
     }
     assert_eq!(asked(monitor, 1, 0, Kind::Delete), 0);
-    assert_eq!(asked(monitor, 1, 0, Kind::Create { execute: false }), 0);
+    assert_eq!(asked(monitor, 1, 0, Kind::Create { execute: false, parent: None }), 0);
     assert_eq!(asked(monitor, 1, 0, to(0, 0)), 0, "a first label again");
 }
 
@@ -209,7 +209,7 @@ fn check_14_is_after_6_and_before_8() {
     let monitor = &mut Monitor::from_table(&table_w()).unwrap();
     assert_eq!(asked(monitor, 1, 0, to(0, 0)), reply::NOT_LIVE);
     for (object, level, mode) in [(0, to(1, 1), Mode::Read), (1, to(2, 1), Mode::Append)] {
-        for kind in [Kind::Create { execute: false }, level, Kind::Get(mode)] {
+        for kind in [Kind::Create { execute: false, parent: None }, level, Kind::Get(mode)] {
             assert_eq!(asked(monitor, 1, object, kind), 0, "{kind:?} of o{object}");
         }
     }
@@ -224,5 +224,5 @@ fn check_14_is_after_6_and_before_8() {
 
 #[test]
 fn the_printed_sizes() {
-    assert_eq!((TABLE_BYTES, IMAGE_BYTES, PAGE_BYTES), (42, 1402, 258));
+    assert_eq!((TABLE_BYTES, IMAGE_BYTES, PAGE_BYTES), (42, 1458, 258));
 }

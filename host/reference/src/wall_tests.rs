@@ -201,7 +201,7 @@ fn a_profile_bounds_subjects_and_objects_of_kind_8_and_no_number() {
 fn the_numbers_are_0_at_creation_and_do_not_belong_to_the_label() {
     let mut monitor = with_objects(&[[7; 4]]);
     assert_eq!(asked(&mut monitor, 1, 0, Kind::Delete), 0);
-    assert_eq!(asked(&mut monitor, 1, 0, Kind::Create { execute: false }), 0);
+    assert_eq!(asked(&mut monitor, 1, 0, Kind::Create { execute: false, parent: None }), 0);
     assert_eq!(object(&mut monitor, 0).companies, NONE);
     assert_eq!(asked(&mut monitor, 1, 0, Kind::SetCompanies(B)), 0, "without a label");
     assert_eq!(read(&monitor), 0);
@@ -217,21 +217,21 @@ fn the_numbers_are_0_at_creation_and_do_not_belong_to_the_label() {
 }
 
 #[test]
-fn images_have_the_numbers_behind_the_needs_and_are_checked_for_18_last() {
+fn images_have_the_numbers_behind_the_needs_and_are_checked_for_18_after_9() {
     let mut monitor = with_objects(&[NONE, [1, 2, 3, 15]]);
     // live, owner, label, then the numbers: from bit 26 of the record of object 1 on
-    let at = 8 * 42 + 170 + 26;
+    let at = 8 * 42 + 177 + 26;
     let written = image(&monitor);
     let bits: String =
         (at..at + 16).map(|bit| if written[bit / 8] >> (7 - bit % 8) & 1 == 1 { '1' } else { '0' }).collect();
     assert_eq!(bits, "0001001000111111");
     assert_eq!(Monitor::from_image(&written), Ok(monitor.clone()));
-    assert_eq!(Monitor::from_image(&written[..1274]), Err(reply::LENGTH), "the former size");
-    assert_eq!(Monitor::from_image(&written[..1401]), Err(reply::LENGTH));
+    assert_eq!(Monitor::from_image(&written[..1274]), Err(reply::LENGTH), "the size before there were companies");
+    assert_eq!(Monitor::from_image(&written[..1457]), Err(reply::LENGTH));
     // a number in the record of an object that is not live
     for bit in 0..16 {
         let mut stray = written;
-        let place = 8 * 42 + 170 * 63 + 26 + bit;
+        let place = 8 * 42 + 177 * 63 + 26 + bit;
         stray[place / 8] |= 0x80 >> (place % 8);
         assert_eq!(Monitor::from_image(&stray), Err(reply::STRAY_BITS), "bit {bit}");
     }

@@ -15,7 +15,11 @@ pub fn fields(request: &Request) -> [u64; 7] {
         Kind::Release(mode) => (2, 0, mode.number(), none),
         Kind::Give(other, mode) => (3, other, mode.number(), none),
         Kind::Rescind(other, mode) => (4, other, mode.number(), none),
-        Kind::Create { execute } => (5, 0, if execute { 4 } else { 0 }, none),
+        // and there, in a create, the parent's number plus one
+        Kind::Create { execute, parent } => {
+            let needs = parent.map_or(0, |parent| parent as u16 + 1);
+            (5, 0, if execute { 4 } else { 0 }, Level { class: 0, needs })
+        }
         Kind::Delete => (6, 0, 0, none),
         Kind::ChangeLevel(level) => (7, 0, 0, level),
     };

@@ -68,7 +68,7 @@ fn fill(random: &mut Random, monitor: &mut Monitor) -> bool {
         let Some(actor) = anyone(random, monitor) else {
             return false;
         };
-        monitor.step(Request { actor, object, kind: Kind::Create { execute: random.once_in(2) } });
+        monitor.step(Request { actor, object, kind: Kind::Create { execute: random.once_in(2), parent: None } });
     }
     monitor.objects.iter().all(Option::is_some)
 }

@@ -152,7 +152,8 @@ fn pairs(random: &mut Random) -> Vec<(usize, Mode)> {
 fn all_then_nothing(random: &mut Random, level: Level) -> (u8, Vec<Request>) {
     let (owner, object) = (random.below(SUBJECTS), random.below(OBJECTS));
     let by = |actor: usize, kind: Kind| Request { actor, object, kind };
-    let mut requests = vec![by(owner, Kind::Create { execute: true }), by(owner, Kind::ChangeLevel(level))];
+    let mut requests =
+        vec![by(owner, Kind::Create { execute: true, parent: None }), by(owner, Kind::ChangeLevel(level))];
     for (subject, mode) in pairs(random) {
         requests.extend([by(owner, Kind::Give(subject, mode)), by(subject, Kind::Get(mode))]);
     }

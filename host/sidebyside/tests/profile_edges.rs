@@ -3,7 +3,7 @@
 use reference::{reply, Kind, Level, Mode, Monitor, Profile, Request, OBJECTS, SUBJECTS};
 use sidebyside::Both;
 
-const CREATE: Kind = Kind::Create { execute: false };
+const CREATE: Kind = Kind::Create { execute: false, parent: None };
 
 /// Everyone in use is enrolled with the highest level, and object 0 is live and has no label.
 fn state(profile: Profile) -> Both {

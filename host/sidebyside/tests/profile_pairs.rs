@@ -89,7 +89,7 @@ fn changed(random: &mut Random, monitor: &Monitor) -> Option<(&'static str, Moni
 fn fill(monitor: &mut Monitor) {
     let Some(actor) = (0..SUBJECTS).find(|&subject| monitor.subjects[subject].is_some()) else { return };
     for object in 0..monitor.profile.objects.into() {
-        monitor.step(Request { actor, object, kind: Kind::Create { execute: false } });
+        monitor.step(Request { actor, object, kind: Kind::Create { execute: false, parent: None } });
     }
 }
 

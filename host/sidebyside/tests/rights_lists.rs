@@ -9,8 +9,8 @@ use sidebyside::Both;
 
 const LOW: Level = Level { class: 0, needs: 0 };
 const HIGH: Level = Level { class: 2, needs: 1 };
-const WITH_E: Kind = Kind::Create { execute: true };
-const WITHOUT_E: Kind = Kind::Create { execute: false };
+const WITH_E: Kind = Kind::Create { execute: true, parent: None };
+const WITHOUT_E: Kind = Kind::Create { execute: false, parent: None };
 
 /// What subject 0, who owns object 0, has done to it.
 const FIRST: [&[Kind]; 4] = [

@@ -63,7 +63,7 @@ fn state(labels: &[Option<Level>], companies: [Companies; 3], held: &[Get]) -> O
         assert_eq!(monitor.step(Request { actor: 0, object, kind }), reply::CHANGED, "{kind:?} of o{object}");
     };
     for (object, label) in labels.iter().enumerate() {
-        granted(object, Kind::Create { execute: true });
+        granted(object, Kind::Create { execute: true, parent: None });
         label.iter().for_each(|level| granted(object, Kind::ChangeLevel(*level)));
         for mode in [Mode::Read, Mode::Write, Mode::Append] {
             granted(object, Kind::Give(1, mode));

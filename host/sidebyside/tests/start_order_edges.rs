@@ -61,7 +61,7 @@ fn no_gets() -> Vec<[u8; 6]> {
         Kind::Release(Mode::Read),
         Kind::Give(3, Mode::Read),
         Kind::Rescind(3, Mode::Read),
-        Kind::Create { execute: true },
+        Kind::Create { execute: true, parent: None },
         Kind::Delete,
         Kind::ChangeLevel(level),
         Kind::SetCompanies([0, 0, 0, 1]),

@@ -15,7 +15,8 @@ fn with_objects(companies: &[Companies]) -> Both {
     monitor.subjects[1..3].fill(Some(HIGH));
     let mut both = Both::new(monitor);
     for (object, &companies) in companies.iter().enumerate() {
-        let made = [Kind::Create { execute: true }, Kind::ChangeLevel(HIGH), Kind::SetCompanies(companies)];
+        let made =
+            [Kind::Create { execute: true, parent: None }, Kind::ChangeLevel(HIGH), Kind::SetCompanies(companies)];
         for kind in made.into_iter().chain(Mode::ALL.map(|mode| Kind::Give(2, mode))) {
             assert!(asked(&mut both, 1, object, kind) < 2, "{kind:?}");
         }

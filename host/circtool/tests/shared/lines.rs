@@ -19,7 +19,10 @@ pub fn request_line(request: &Request) -> String {
         Kind::Release(mode) => format!("s{s} release {} o{o}", letter(mode)),
         Kind::Give(other, mode) => format!("s{s} give s{other} {} o{o}", letter(mode)),
         Kind::Rescind(other, mode) => format!("s{s} rescind s{other} {} o{o}", letter(mode)),
-        Kind::Create { execute } => format!("s{s} create o{o}{}", if execute { " with e" } else { "" }),
+        Kind::Create { execute, parent } => {
+            let under = parent.map_or(String::new(), |parent| format!(" under o{parent}"));
+            format!("s{s} create o{o}{under}{}", if execute { " with e" } else { "" })
+        }
         Kind::Delete => format!("s{s} delete o{o}"),
         Kind::ChangeLevel(level) => {
             let needs: Vec<String> =
