@@ -14,7 +14,8 @@
  * broken; 10 another length; 11 a stray bit in what is absent; 12 an absent subject owns, has a right or holds; 13 the buffer
  * is too short; 14 the new label does not dominate the one that the object has; 15 the seed of a load is 0; 16 a profile
  * outside its ranges, or a clearance or label outside the profile; 17 the journal is empty: nothing to take back; 18 the wall of
- * competing companies would break, of an image: is broken.
+ * competing companies would break, of an image: is broken; 19 the parent is not live, of an image also: parent bits above 64 or a
+ * chain of parents that does not end; 20 the label would break the rule toward parent or child, of an image: breaks it.
  * circmon_compare has four numbers of its own, and circmon_clash has four codes of its own. docs/FORMATS.md has the bytes.
  *
  * A function that returns a number with a count beside it returns both in 64 bits: the number in the low byte and the count,
@@ -29,7 +30,7 @@ extern "C" {
 #endif
 
 #define CIRCMON_TABLE_BYTES 42
-#define CIRCMON_IMAGE_BYTES 1402
+#define CIRCMON_IMAGE_BYTES 1458
 #define CIRCMON_REQUEST_BYTES 6
 #define CIRCMON_DISTINGUISH_BYTES 24
 #define CIRCMON_UNIT_BYTES 4928
@@ -49,6 +50,14 @@ extern "C" {
 #define CIRCMON_ORDERS_CODE(answer) ((uint8_t)((answer) & 0xFF))
 #define CIRCMON_ORDERS_FIRST(answer) ((uint32_t)((uint64_t)(answer) >> 8 & 0xFFFFFF))
 #define CIRCMON_ORDERS_SECOND(answer) ((uint32_t)((uint64_t)(answer) >> 32 & 0xFFFFFF))
+
+/* ---- Objects under objects
+ *
+ * An object may have a parent, another live object: a flat stands under its riser. A create carries the parent's number plus one in
+ * its needs field, 0 for none. There it is no set of needs, and no needs of a profile bound it: it is malformed where it is above
+ * the number of objects in use. An object keeps its parent as long as it is live. A labelled child has a labelled parent, and its
+ * label dominates that of the parent. A delete of an object deletes everything below it too, down to the last, whoever owns what
+ * is below, and asks only for the owner of the object itself. */
 
 /* The length of a buffer, in bytes. It has 64 bits on every machine, so that this header need not change with one. */
 typedef uint64_t circmon_size;
@@ -87,8 +96,8 @@ _Static_assert(sizeof(circmon_unit) == CIRCMON_UNIT_BYTES, "a unit has no paddin
 #endif
 
 /* Begins from an image under the widest profile.
- * Returns 0, and the unit is the monitor of the image; or the first refusal of 10, 11, 12, 6, 7, 8, 9, 18, and the unit is
- * the empty monitor, nobody enrolled. Of this and of the three below: the journal is empty, also where the image was saved from a
+ * Returns 0, and the unit is the monitor of the image; or the first refusal of 10, 11, 12, 6, 7, 8, 9, 18, 19, 20, and the unit
+ * is the empty monitor, nobody enrolled. Of this and of the three below: the journal is empty, also where the image was saved from a
  * unit that had entries. Every byte of the unit is written; what was in it before does not matter. */
 uint8_t circmon_open(circmon_unit *unit, const uint8_t *image, circmon_size image_len);
 
@@ -99,8 +108,8 @@ uint8_t circmon_start(circmon_unit *unit, const uint8_t *table, circmon_size tab
 
 /* Begins from an image under a profile.
  * Returns 16 where the profile is outside its ranges, before the image is looked at; else 0, and the unit is the monitor of the
- * image with this profile; or the first refusal of 10, 11, 16, 12, 6, 7, 8, 9, 18. Of this order 16 is a clearance or label
- * outside the profile. Where it is not 0, the unit is the empty monitor, nobody enrolled, which has the widest profile.
+ * image with this profile; or the first refusal of 10, 11, 16, 12, 6, 7, 8, 9, 18, 19, 20. Of this order 16 is a clearance or
+ * label outside the profile. Where it is not 0, the unit is the empty monitor, nobody enrolled, which has the widest profile.
  * Every byte of the unit is written; what was in it before does not matter. */
 uint8_t circmon_open_in(circmon_unit *unit, uint8_t subjects, uint8_t objects, uint8_t highest_class, uint16_t needs,
                         const uint8_t *image, circmon_size image_len);
@@ -114,23 +123,25 @@ uint8_t circmon_start_in(circmon_unit *unit, uint8_t subjects, uint8_t objects, 
                          const uint8_t *table, circmon_size table_len);
 
 /* Carries out a request: bytes of any length and content; what is no request, or is outside the profile of the unit, gets 2.
- * Returns the reply. Below 2 it is granted: 0 and the state changed, 1 and it was so already. 2 to 9, 14 or 18 is the first
- * check that refuses, and every byte of the unit is left. With reply 0 the record of the object as it was is entered in the
- * journal; where that has 32 entries, the oldest gives way. With any other reply no byte of the journal changes. */
+ * Returns the reply. Below 2 it is granted: 0 and the state changed, 1 and it was so already. 2 to 9, 14 or 18 to 20 is the
+ * first check that refuses, and every byte of the unit is left. With reply 0 the record of the object as it was is entered in the
+ * journal; where that has 32 entries, the oldest gives way. But a delete that took children, at least one object below its own,
+ * empties the journal and is not entered: it cannot be taken back, nor can what came before it. With any other reply no byte of
+ * the journal changes. A delete uses stack for each object on the way down: docs/EMBEDDING.md, "Memory". */
 uint8_t circmon_ask(circmon_unit *unit, const uint8_t *request, circmon_size request_len);
 
 /* Takes back the latest request that is in the journal.
- * Returns 0, and the object of the latest entry has the record that the entry keeps: rights, accesses held, owner, label and
- * companies, or that it was not live; the entry is gone. Or 17 where the journal is empty, and every byte of the unit is left.
+ * Returns 0, and the object of the latest entry has the record that the entry keeps: rights, accesses held, owner, label,
+ * companies and parent, or that it was not live; the entry is gone. Or 17 where the journal is empty, and every byte of the unit is left.
  * Of a unit that was opened or started with 0 and then only asked and taken back, 0 restores exactly the state before the latest
- * request still in the journal, and n calls after n requests with reply 0, n at most 32 and no taking-back among them, the
- * state before them all.
+ * request still in the journal, and n calls after n requests with reply 0, n at most 32, no taking-back and no delete that took
+ * children among them, the state before them all.
  * It is no request: it has no bytes and enters nothing, and it may lower a label or leave an object without the one that it had,
  * which no request does. It restores records, and not the data of an object. */
 uint8_t circmon_take_back(circmon_unit *unit);
 
-/* Writes the image of the state into the first 1,402 bytes of the buffer and leaves any later byte.
- * Returns 0; or 13 where the buffer has under 1,402 bytes, and leaves every byte of it. The unit is only read. The image does
+/* Writes the image of the state into the first 1,458 bytes of the buffer and leaves any later byte.
+ * Returns 0; or 13 where the buffer has under 1,458 bytes, and leaves every byte of it. The unit is only read. The image does
  * not say the profile: it is opened again under the profile of this unit. Nor is the journal in it. */
 uint8_t circmon_save(const circmon_unit *unit, uint8_t *image, circmon_size image_len);
 
@@ -163,16 +174,16 @@ uint64_t circmon_clash(const circmon_unit *unit, const uint8_t *requests, circmo
  * None of these keeps a journal. */
 
 /* Begins a monitor from an enrolment table and writes its image.
- * Returns 10 or 11 where the table is refused; then 13 where the buffer has under 1,402 bytes; else 0.
- * A refusal leaves every byte of the buffer. 0 fills its first 1,402 bytes and leaves any later byte. */
+ * Returns 10 or 11 where the table is refused; then 13 where the buffer has under 1,458 bytes; else 0.
+ * A refusal leaves every byte of the buffer. 0 fills its first 1,458 bytes and leaves any later byte. */
 uint8_t circmon_begin(const uint8_t *table, circmon_size table_len, uint8_t *image, circmon_size image_len);
 
-/* Reads an image. Returns 0 where it is accepted, else the first refusal of 10, 11, 12, 6, 7, 8, 9, 18. */
+/* Reads an image. Returns 0 where it is accepted, else the first refusal of 10, 11, 12, 6, 7, 8, 9, 18, 19, 20. */
 uint8_t circmon_read(const uint8_t *image, circmon_size image_len);
 
 /* Carries out a request on the state in the buffer, which is exactly an image.
  * Where the image is refused with n, returns 128 + n and leaves every byte.
- * Else returns the reply, 0 to 9, 14 or 18, and writes the image of the state after the request in place. */
+ * Else returns the reply, 0 to 9, 14 or 18 to 20, and writes the image of the state after the request in place. */
 uint8_t circmon_request(uint8_t *image, circmon_size image_len, const uint8_t *request, circmon_size request_len);
 
 /* Runs requests of six bytes in a row, from a monitor begun from a table; a short last piece counts and gets 2.
@@ -186,7 +197,7 @@ uint8_t circmon_replay(const uint8_t *table, circmon_size table_len, const uint8
  * under 24 bytes. Each of these leaves every byte of requests.
  * Else returns the number of requests: 0 where the images are equal, and 1 to 4 where they differ. They stand at the front of
  * requests, six bytes for each, and any later byte is left. Carried out in this order from a and from b, they get different
- * replies at some place. */
+ * replies at some place. Where the images differ in the parent of an object, they are deletes and creates alone, at most two. */
 uint8_t circmon_distinguish(const uint8_t *a, circmon_size a_len, const uint8_t *b, circmon_size b_len,
                             uint8_t *requests, circmon_size requests_len);
 

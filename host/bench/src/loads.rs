@@ -17,7 +17,7 @@ pub struct Load {
 }
 
 pub fn shape(objects: usize) -> Shape {
-    Shape { objects, subjects: SUBJECTS, classes: 4, needs: 2, companies: 0, damaged: 1_000_000 }
+    Shape { objects, subjects: SUBJECTS, classes: 4, needs: 2, companies: 0, parents: 0, damaged: 1_000_000 }
 }
 
 /// Requests that leave `objects` live objects, most of them labelled, with many rights; dense: all labelled, with many

@@ -26,7 +26,7 @@ pub const OBJECTS: usize = 64;
 pub const CONFLICT_CLASSES: usize = 4;
 /// The bits of a subject's record in a table, and of an object's in an image.
 const SUBJECT_BITS: usize = 21;
-const OBJECT_BITS: usize = 170;
+const OBJECT_BITS: usize = 177;
 pub const TABLE_BYTES: usize = SUBJECTS * SUBJECT_BITS / 8;
 pub const IMAGE_BYTES: usize = TABLE_BYTES + OBJECTS * OBJECT_BITS / 8;
 pub const REQUEST_BYTES: usize = 6;
@@ -43,7 +43,7 @@ fn size(slice: &[u8]) -> u64 {
     slice.len() as u64
 }
 
-/// The image of a monitor begun from the table under the widest profile, into the first 1,402 bytes of the buffer: 0, or 10, 11
+/// The image of a monitor begun from the table under the widest profile, into the first 1,458 bytes of the buffer: 0, or 10, 11
 /// or 13 and every byte left.
 pub fn begin(table: &[u8], image: &mut [u8]) -> u8 {
     // Safety: each pointer comes with the length of its slice, and no slice overlaps the one that is written.

@@ -104,15 +104,15 @@ impl Unit {
         }
     }
 
-    /// Begins from an image under the widest profile: 0; or the first refusal of 10, 11, 12, 6, 7, 8, 9, 18, and this is the
-    /// empty monitor.
+    /// Begins from an image under the widest profile: 0; or the first refusal of 10, 11, 12, 6, 7, 8, 9, 18, 19, 20, and this
+    /// is the empty monitor.
     pub fn open(&mut self, image: &[u8]) -> u8 {
         // Safety: the unit is whole and apart from the slice, whose pointer comes with its length.
         unsafe { raw::circmon_open(&mut self.rows, image.as_ptr(), size(image)) }
     }
 
-    /// Begins from an image under a profile: 0; or the first refusal of 10, 11, 16, 12, 6, 7, 8, 9, 18, and this is the empty
-    /// monitor, which has the widest one.
+    /// Begins from an image under a profile: 0; or the first refusal of 10, 11, 16, 12, 6, 7, 8, 9, 18, 19, 20, and this
+    /// is the empty monitor, which has the widest one.
     pub fn open_in(&mut self, profile: Profile, image: &[u8]) -> u8 {
         // Safety: the unit is whole and apart from the slice, whose pointer comes with its length.
         unsafe {
@@ -129,7 +129,7 @@ impl Unit {
     }
 
     /// The reply to a byte string of any length and content, below 2 where it is granted; this is the state after it. A request with
-    /// reply 0 can be taken back.
+    /// reply 0 can be taken back, but for a delete that took children: after it nothing can be, until another request replies 0.
     pub fn ask(&mut self, request: &[u8]) -> u8 {
         // Safety: the unit is whole and apart from the slice, whose pointer comes with its length.
         unsafe { raw::circmon_ask(&mut self.rows, request.as_ptr(), size(request)) }
@@ -142,7 +142,7 @@ impl Unit {
         unsafe { raw::circmon_take_back(&mut self.rows) }
     }
 
-    /// The image into the first 1,402 bytes of the buffer: 0, or 13 and every byte left where it is shorter.
+    /// The image into the first 1,458 bytes of the buffer: 0, or 13 and every byte left where it is shorter.
     pub fn save(&self, image: &mut [u8]) -> u8 {
         // Safety: the unit is whole and apart from the slice, whose pointer comes with its length.
         unsafe { raw::circmon_save(&self.rows, image.as_mut_ptr(), size(image)) }

@@ -1,5 +1,9 @@
 //! Loads of requests from a seed. A run that draws every field at random is refused nearly always; these runs follow a
-//! state, so that grants, conflicts, changes of level, companies, deletes and re-creates in one slot are all frequent.
+//! state, so that grants, conflicts, changes of level, companies, parents, deletes and re-creates in one slot are all frequent.
+
+mod trees;
+
+pub use trees::depth;
 
 use reference::{Companies, Kind, Level, Mode, Monitor, Profile, Request, CONFLICT_CLASSES, OBJECTS, SUBJECTS};
 
@@ -51,6 +55,9 @@ pub struct Shape {
     /// companies of each conflict class, 0 to 15: few make one subject meet two of them; with 0 no request sets any, and a run is
     /// the one that is drawn without them
     pub companies: usize,
+    /// of ten creates as many carry a parent, where an object is live; with 0 none does, and a run is the one that is drawn without
+    /// parents
+    pub parents: usize,
     /// once in how many requests a byte string is damaged or has another length
     pub damaged: usize,
 }
@@ -108,14 +115,13 @@ pub fn request(random: &mut Random, shape: Shape, monitor: &Monitor) -> Request 
         _ => anyone,
     };
     let kind = if live.is_none() && !random.once_in(8) { create } else { drawn(random, shape) };
-    let fields = Fields {
-        mode: random.mode(),
-        other: random.below(shape.subjects),
-        execute: random.once_in(2),
-        level: inside(monitor.profile, new_level(random, shape, live.and_then(|it| it.label))),
-        companies: new_companies(random, shape, live.map_or([0; CONFLICT_CLASSES], |it| it.companies)),
-    };
-    Request { actor, object, kind: kind(fields) }
+    let (mode, other, execute) = (random.mode(), random.below(shape.subjects), random.once_in(2));
+    let level = new_level(random, shape, live.and_then(|it| it.label));
+    let level = inside(monitor.profile, trees::beside_parent(random, monitor, object, level));
+    let companies = new_companies(random, shape, live.map_or([0; CONFLICT_CLASSES], |it| it.companies));
+    let parent = trees::new_parent(random, shape, monitor);
+    let request = Request { actor, object, kind: kind(Fields { mode, other, execute, level, companies, parent }) };
+    trees::moved_up(random, monitor, request)
 }
 
 /// The level that a change of level asks for. A label only rises until its object is deleted, and at the top every change is
@@ -170,13 +176,14 @@ struct Fields {
     execute: bool,
     level: Level,
     companies: Companies,
+    parent: Option<usize>,
 }
 
 /// Makes a request of one kind.
 type Make = fn(Fields) -> Kind;
 
 fn create(it: Fields) -> Kind {
-    Kind::Create { execute: it.execute, parent: None }
+    Kind::Create { execute: it.execute, parent: it.parent }
 }
 
 /// How often each kind is drawn; the last one only where the shape has companies.
@@ -222,11 +229,11 @@ pub fn bytes(random: &mut Random, shape: Shape, monitor: &Monitor) -> Vec<u8> {
     bytes
 }
 
-/// A state with n live, labelled objects, some companies and many rights and accesses.
+/// A state with n live, labelled objects, some of them under others, some companies and many rights and accesses.
 pub fn rich(seed: u64, objects: usize, requests: usize) -> Monitor {
     let random = &mut Random::new(seed);
-    let shape =
-        Shape { objects: objects.min(OBJECTS), subjects: SUBJECTS, classes: 4, needs: 2, companies: 2, damaged: 50 };
+    let objects = objects.min(OBJECTS);
+    let shape = Shape { objects, subjects: SUBJECTS, classes: 4, needs: 2, companies: 2, parents: 3, damaged: 50 };
     let mut monitor = Monitor::from_table(&table(random, shape)).expect("a table that was written");
     for _ in 0..requests {
         let bytes = bytes(random, shape, &monitor);

@@ -39,11 +39,11 @@ pub fn image(monitor: &Monitor) -> Vec<u8> {
 
 /// Shapes of runs: few objects and subjects and many conflicts, many objects, few levels, many levels, few companies, many, none.
 pub const SHAPES: [Shape; 5] = [
-    Shape { objects: 2, subjects: 3, classes: 3, needs: 2, companies: 2, damaged: 9 },
-    Shape { objects: 5, subjects: 4, classes: 2, needs: 3, companies: 2, damaged: 20 },
-    Shape { objects: 16, subjects: 6, classes: 4, needs: 2, companies: 0, damaged: 30 },
-    Shape { objects: 64, subjects: 16, classes: 3, needs: 1, companies: 2, damaged: 50 },
-    Shape { objects: 64, subjects: 16, classes: 16, needs: 16, companies: 15, damaged: 40 },
+    Shape { objects: 2, subjects: 3, classes: 3, needs: 2, companies: 2, parents: 4, damaged: 9 },
+    Shape { objects: 5, subjects: 4, classes: 2, needs: 3, companies: 2, parents: 6, damaged: 20 },
+    Shape { objects: 16, subjects: 6, classes: 4, needs: 2, companies: 0, parents: 6, damaged: 30 },
+    Shape { objects: 64, subjects: 16, classes: 3, needs: 1, companies: 2, parents: 3, damaged: 50 },
+    Shape { objects: 64, subjects: 16, classes: 16, needs: 16, companies: 15, parents: 4, damaged: 40 },
 ];
 
 /// The long runs: so many seeds from 0 on, each with a shape and so many requests.

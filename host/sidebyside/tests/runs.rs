@@ -63,7 +63,7 @@ fn replay_gives_the_replies_of_the_requests_one_by_one() {
 
 #[test]
 fn a_deleted_object_leaves_nothing_for_the_next_in_its_slot() {
-    let shape = Shape { objects: 1, subjects: 16, classes: 2, needs: 1, companies: 2, damaged: 1000 };
+    let shape = Shape { objects: 1, subjects: 16, classes: 2, needs: 1, companies: 2, parents: 0, damaged: 1000 };
     let mut replies = Replies::default();
     for seed in 5000..5050 {
         compare_run(seed, shape, 2000, 1, &mut replies);

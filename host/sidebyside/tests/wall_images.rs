@@ -16,7 +16,7 @@ fn companies_at(object: usize) -> usize {
 /// A state of few levels, so that the wall and not the star property decides.
 fn reached(random: &mut Random) -> Monitor {
     let objects = [2, 5, 20, 64][random.below(4)];
-    let shape = Shape { objects, subjects: 5, classes: 1, needs: 1, companies: 2, damaged: 1000 };
+    let shape = Shape { objects, subjects: 5, classes: 1, needs: 1, companies: 2, parents: 0, damaged: 1000 };
     let table = load::table(random, shape);
     let mut monitor = Monitor::from_table(&table).expect("a table that was written");
     for _ in 0..20 * objects {

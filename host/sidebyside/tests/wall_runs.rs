@@ -10,10 +10,10 @@ use sidebyside::{drawn, image, with_effect, RUNS, RUN_REQUESTS};
 
 /// Few companies on few objects, so that one subject often meets two of them; levels are few too, so that star refuses less.
 const SHAPES: [Shape; 4] = [
-    Shape { objects: 3, subjects: 3, classes: 1, needs: 0, companies: 2, damaged: 12 },
-    Shape { objects: 6, subjects: 4, classes: 2, needs: 1, companies: 1, damaged: 20 },
-    Shape { objects: 12, subjects: 3, classes: 1, needs: 1, companies: 3, damaged: 30 },
-    Shape { objects: 64, subjects: 16, classes: 2, needs: 0, companies: 15, damaged: 40 },
+    Shape { objects: 3, subjects: 3, classes: 1, needs: 0, companies: 2, parents: 0, damaged: 12 },
+    Shape { objects: 6, subjects: 4, classes: 2, needs: 1, companies: 1, parents: 0, damaged: 20 },
+    Shape { objects: 12, subjects: 3, classes: 1, needs: 1, companies: 3, parents: 0, damaged: 30 },
+    Shape { objects: 64, subjects: 16, classes: 2, needs: 0, companies: 15, parents: 0, damaged: 40 },
 ];
 
 fn letter(mode: Mode) -> char {
