@@ -1,5 +1,5 @@
 /* Tables, requests and images by their bits, a page by its characters and a load by its draws, written from docs/FORMATS.md
- * alone: a table with three subjects, each of the eight kinds of request, the record of an object read out of the image, its
+ * alone: a table with three subjects, each of the eight kinds of request, the records of two objects read out of the image, an
  * access page, and test loads made here beside those of the library. docs/FORMATS.md builds and runs it. */
 #include "circmon.h"
 #include <stdio.h>
@@ -58,11 +58,14 @@ static void hex(const char *words, const uint8_t *bytes, size_t count) {
 }
 
 static void show_object(const uint8_t *image, unsigned object) {
-    unsigned at = 336 + 170 * object;
+    unsigned at = 336 + 177 * object, parent = get(image, at + 170, 7);
     printf("o%u: live %u, owner %u, label %u, class %u, needs 0x%04X, companies", object, get(image, at, 1), get(image, at + 1, 4),
            get(image, at + 5, 1), get(image, at + 6, 4), get(image, at + 10, 16));
     for (unsigned class = 1; class <= 4; class++) {
         printf(" %u", get(image, at + 26 + 4 * (class - 1), 4));
+    }
+    if (parent != 0) {
+        printf(", under o%u", parent - 1);
     }
     printf("\n");
     for (unsigned subject = 0; subject < 16; subject++) {
@@ -134,6 +137,7 @@ static const struct request requests[] = {
     {"s1 rescinds r on o1 from s2", RESCIND, 1, 2, 1, R, 0, 0},
     {"s1 creates o63", CREATE, 1, 0, 63, NONE, 0, 0},
     {"s1 deletes o63", DELETE, 1, 0, 63, NONE, 0, 0},
+    {"s1 creates o2 under o1", CREATE, 1, 0, 2, NONE, 0, 1 + 1},
     {"s1 sets the companies of o1 to 3 0 0 1", SET_COMPANIES, 1, 0, 1, NONE, 0, 3 * 4096 + 0 * 256 + 0 * 16 + 1},
 };
 
@@ -150,8 +154,9 @@ int main(void) {
         hex(requests[i].words, bytes, sizeof bytes);
         printf(": %d\n", circmon_request(image, sizeof image, bytes, sizeof bytes));
     }
-    hex("bytes 63 to 70 of the image\n", image + 63, 8);
+    hex("bytes 64 to 71 of the image\n", image + 64, 8);
     show_object(image, 1);
+    show_object(image, 2);
     show_page(image, 1);
     compare_loads(10000);
     return 0;

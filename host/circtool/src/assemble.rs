@@ -5,7 +5,7 @@ use crate::action::Action;
 use crate::kinds::{Row, Takes};
 use crate::level::Level;
 use crate::mode::Mode;
-use crate::phrases::{companies, level, mode, numbered, object, profile, with_execute};
+use crate::phrases::{companies, level, mode, numbered, object, profile, under, with_execute};
 use crate::profile::Stated;
 use crate::request::{Kind, Parts, Request};
 use crate::script::{number, Line, ScriptError, MARK};
@@ -244,6 +244,9 @@ fn request(line: &mut Line) -> Result<Request, ScriptError> {
         parts.mode = Some(mode(line)?);
     }
     let object = object(line)?;
+    if row.parent {
+        parts.parent = under(line)?;
+    }
     if row.mode == Takes::Execute {
         parts.mode = with_execute(line)?.then_some(Mode::Execute);
     }

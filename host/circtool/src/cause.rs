@@ -1,11 +1,13 @@
 //! Why a request is refused, found from the state before it. The reply itself is the library's; this finds the cause
 //! without knowing the number, and the tests compare the two.
 
+use crate::effect::after;
 use crate::level::{level_words, shortfall, Level};
 use crate::mode::{Mode, Modes};
 use crate::properties::{self, Holding, Pair};
 use crate::request::{Kind, Malformed, Request};
-use crate::view::{Object, View};
+use crate::tree::{self, Unruly};
+use crate::view::View;
 use crate::wall::{self, Breach};
 use crate::words::malformed_words;
 use circmon::compare;
@@ -23,6 +25,8 @@ pub enum Cause {
     Simple { place: Holding, by: By },
     Star { pair: Pair, by: By },
     Wall { breach: Breach, by: By },
+    Parent { object: usize, parent: usize },
+    ParentLabel { unruly: Unruly, changed: usize },
 }
 
 /// What would break a property: an access that comes to those held, or another label or other companies below them.
@@ -74,6 +78,8 @@ impl Cause {
             Cause::Star { .. } => 9,
             Cause::Lowered { .. } => 14,
             Cause::Wall { .. } => 18,
+            Cause::Parent { .. } => 19,
+            Cause::ParentLabel { .. } => 20,
         }
     }
 }
@@ -92,16 +98,18 @@ pub fn judge(view: &View, bytes: &[u8]) -> Verdict {
     }
 }
 
-/// The first cause in the order 3, then 4 or 5, then 6, 14, 7, 8, 9, 18; no kind has both 14 and 7.
+/// The first cause in the order 3, then 4 or 5, then 19, 6, 14, 7, 8, 9, 18, 20; no kind has both 14 and 7, or 18 and 20.
 fn refusal(view: &View, after: &View, request: &Request) -> Option<Cause> {
     enrolment(view, request)
         .or_else(|| life(view, request))
+        .or_else(|| parent(view, request))
         .or_else(|| missing(view, request))
         .or_else(|| lowered(view, request))
         .or_else(|| label(after, request))
         .or_else(|| simple(after, request))
         .or_else(|| star(after, request))
         .or_else(|| wall(after, request))
+        .or_else(|| parent_label(after, request))
 }
 
 fn enrolment(view: &View, request: &Request) -> Option<Cause> {
@@ -121,6 +129,12 @@ fn life(view: &View, request: &Request) -> Option<Cause> {
         (None, _) => Some(Cause::NotLive { object }),
         (Some(_), _) => None,
     }
+}
+
+/// An object that is not live is not its own parent either.
+fn parent(view: &View, request: &Request) -> Option<Cause> {
+    let Kind::Create { parent: Some(parent), .. } = request.kind else { return None };
+    view.object(parent).is_none().then_some(Cause::Parent { object: request.object, parent })
 }
 
 fn missing(view: &View, request: &Request) -> Option<Cause> {
@@ -183,47 +197,20 @@ fn wall(after: &View, request: &Request) -> Option<Cause> {
     Some(Cause::Wall { breach, by: by(request) })
 }
 
+/// Toward the parent of the object or toward one of its children: between others nothing changes.
+fn parent_label(after: &View, request: &Request) -> Option<Cause> {
+    if !matches!(request.kind, Kind::ChangeLevel(_)) {
+        return None;
+    }
+    let unruly = tree::unruly(after).into_iter().next()?;
+    Some(Cause::ParentLabel { unruly, changed: request.object })
+}
+
 fn by(request: &Request) -> By {
     match request.kind {
         Kind::SetCompanies(_) => By::Companies,
         Kind::ChangeLevel(_) => By::Level,
         _ => By::Access,
-    }
-}
-
-/// The state that the request would leave if nothing refused it.
-pub fn after(view: &View, request: &Request) -> View {
-    let mut after = view.clone();
-    let slot = &mut after.objects[request.object];
-    match (request.kind, slot.as_mut()) {
-        (Kind::Create { execute }, None) => *slot = Some(created(request.actor, execute)),
-        (Kind::Delete, Some(_)) => *slot = None,
-        (kind, Some(it)) => change(it, request.actor, kind),
-        (_, None) => {}
-    }
-    after
-}
-
-fn created(actor: usize, execute: bool) -> Object {
-    let mut object = Object::new(actor);
-    for mode in Mode::ALL.into_iter().filter(|&mode| execute || mode != Mode::Execute) {
-        object.rights[actor] = object.rights[actor].with(mode);
-    }
-    object
-}
-
-fn change(it: &mut Object, actor: usize, kind: Kind) {
-    match kind {
-        Kind::Get(mode) => it.held[actor] = it.held[actor].with(mode),
-        Kind::Release(mode) => it.held[actor] = it.held[actor].without(mode),
-        Kind::Give(other, mode) => it.rights[other] = it.rights[other].with(mode),
-        Kind::Rescind(other, mode) => {
-            it.rights[other] = it.rights[other].without(mode);
-            it.held[other] = it.held[other].without(mode);
-        }
-        Kind::ChangeLevel(level) => it.label = Some(level),
-        Kind::SetCompanies(companies) => it.companies = companies,
-        Kind::Create { .. } | Kind::Delete => {}
     }
 }
 
@@ -256,6 +243,13 @@ impl fmt::Display for Cause {
             }
             Cause::Star { pair, by } => write!(out, "{}", by.said(|verb| pair.words(verb))),
             Cause::Wall { breach, by } => write!(out, "{}", by.said(|verb| breach.words(verb))),
+            Cause::Parent { object, parent } if object == parent => {
+                write!(out, "o{object} cannot be under itself: a parent is live before its child is created")
+            }
+            Cause::Parent { object, parent } => {
+                write!(out, "o{parent}, under which o{object} would stand, is not live")
+            }
+            Cause::ParentLabel { unruly, changed } => write!(out, "{}", unruly.words(Some(*changed))),
         }
     }
 }

@@ -1,7 +1,7 @@
 //! The subcommands: from the words of the command line to what is printed and the exit status.
 
 use crate::arguments::{Arguments, Takes};
-use crate::begin::{begin, image_message, is_image, Begun};
+use crate::begin::{begin, beside, image_message, Begun, Beside};
 use crate::compare::{compare, Comparison, Named};
 use crate::disassemble::disassemble;
 use crate::explain::explain;
@@ -125,7 +125,7 @@ fn dis(arguments: &Arguments, standard_input: &mut dyn Read) -> Step<Outcome> {
     let mut outcome = Outcome::fine(disassemble(&input.bytes));
     if is_text(&input.bytes) {
         outcome.err = format!("{}: it looks like a script; 'circtool asm' turns a script into bytes\n", input.name);
-    } else if is_image(&input.bytes) {
+    } else {
         outcome.err = image_message(&input.name, &input.bytes);
     }
     Ok(outcome)
@@ -150,9 +150,10 @@ fn begin_run(name: &str, arguments: &Arguments, standard_input: &mut dyn Read) -
 /// What another flag, or none, would do with an input that was taken for bytes.
 fn other_form(input: &Input, asked: Option<Form>) -> &'static str {
     let taken_for = asked.unwrap_or_else(|| form(&input.bytes));
+    let is_image = || matches!(beside(&input.bytes), Beside::Image | Beside::FormerImage(_));
     match asked {
         _ if taken_for == Form::Script => "",
-        None if is_image(&input.bytes) => "  with --bytes it is run as a table and requests all the same\n",
+        None if is_image() => "  with --bytes it is run as a table and requests all the same\n",
         None if is_text(&input.bytes) => "  it looks like a script; with --script it is read as one\n",
         Some(_) if is_text(&input.bytes) => "  it looks like a script; without --bytes it is read as one\n",
         _ => "",
@@ -161,7 +162,7 @@ fn other_form(input: &Input, asked: Option<Form>) -> &'static str {
 
 fn explain_run(arguments: &Arguments, standard_input: &mut dyn Read, paint: Paint) -> Step<Outcome> {
     let mut begun = begin_run("explain", arguments, standard_input)?;
-    Ok(Outcome::fine(explain(&mut begun.unit, &begun.actions, &begun.lines, paint)))
+    Ok(Outcome::fine(explain(&mut begun.unit, &begun.actions, &begun.lines, paint)).with(&begun.remark))
 }
 
 fn run(arguments: &Arguments, standard_input: &mut dyn Read) -> Step<Outcome> {
@@ -169,7 +170,7 @@ fn run(arguments: &Arguments, standard_input: &mut dyn Read) -> Step<Outcome> {
     if let Some(out) = out {
         may_write(out, arguments.file())?;
     }
-    let Begun { mut unit, actions, .. } = begin_run("run", arguments, standard_input)?;
+    let Begun { mut unit, actions, remark, .. } = begin_run("run", arguments, standard_input)?;
     let numbers: String = actions.iter().map(|action| format!("{}\n", action.carry_out(&mut unit))).collect();
     if let Some(out) = out {
         save::whole(out, &unit.image()).map_err(|error| {
@@ -177,7 +178,7 @@ fn run(arguments: &Arguments, standard_input: &mut dyn Read) -> Step<Outcome> {
             trouble(format!("circtool: cannot write {name}: {error}\n"))
         })?;
     }
-    Ok(Outcome::fine(numbers))
+    Ok(Outcome::fine(numbers).with(&remark))
 }
 
 /// An image is not mixed into the replies on standard output, and does not take the place of its own input.
@@ -221,7 +222,9 @@ fn load_requests(arguments: &Arguments, standard_input: &mut dyn Read) -> Step<O
         Some(file) => Some(load::table(&read(Some(file), standard_input).map_err(trouble)?)?),
         None => None,
     };
-    load::load(&asked, table.as_deref()).map(Outcome::fine).map_err(refused)
+    let (table, remark) = table.map_or((None, String::new()), |it| (Some(it.bytes), it.remark));
+    let outcome = load::load(&asked, table.as_deref()).map(Outcome::fine).map_err(refused);
+    outcome.map(|it| it.with(&remark))
 }
 
 fn compare_images(arguments: &Arguments, standard_input: &mut dyn Read, paint: Paint) -> Step<Outcome> {

@@ -97,8 +97,8 @@ fn both_replies(number: usize, a: &Step, b: &Step, paint: Paint) -> String {
     let mut text = format!("{number:>4}  {}{mark}\n", a.request);
     for (name, step) in [("A", a), ("B", b)] {
         text.push_str(&format!("        {name}: {}\n", reply_words(step.reply)));
-        if let Some(reason) = &step.reason {
-            text.push_str(&wrapped(reason, "           ", 100));
+        if let Some(note) = &step.note {
+            text.push_str(&wrapped(note, "           ", 100));
         }
     }
     text

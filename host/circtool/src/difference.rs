@@ -4,7 +4,7 @@ use crate::level::{label_words, level_words, Level};
 use crate::mode::Modes;
 use crate::view::{Object, View, OBJECTS, SUBJECTS};
 
-/// One line for each difference: subjects first, then each object with owner, label, companies, rights and accesses.
+/// One line for each difference: subjects first, then each object with owner, parent, label, companies, rights and accesses.
 pub fn differences(a: &View, b: &View) -> Vec<String> {
     let subjects = (0..SUBJECTS).filter_map(|subject| clearance(subject, a.subjects[subject], b.subjects[subject]));
     let objects = (0..OBJECTS).flat_map(|object| match (&a.objects[object], &b.objects[object]) {
@@ -24,7 +24,13 @@ fn clearance(subject: usize, a: Option<Level>, b: Option<Level>) -> Option<Strin
 
 fn brief(object: &Object) -> String {
     let companies = if object.companies.is_none() { String::new() } else { format!(", {}", object.companies.words()) };
-    format!("owner s{}, {}{companies}", object.owner, labelled(object.label))
+    let parent = object.parent.map_or(String::new(), |parent| format!(", under o{parent}"));
+    format!("owner s{}{parent}, {}{companies}", object.owner, labelled(object.label))
+}
+
+/// `under o3`, or that it is under none.
+fn placed(parent: Option<usize>) -> String {
+    parent.map_or("under no object".to_string(), |parent| format!("under o{parent}"))
 }
 
 fn labelled(label: Option<Level>) -> String {
@@ -35,6 +41,9 @@ fn both_live(object: usize, a: &Object, b: &Object) -> Vec<String> {
     let mut lines = Vec::new();
     if a.owner != b.owner {
         lines.push(format!("o{object}: owner s{} in A, s{} in B", a.owner, b.owner));
+    }
+    if a.parent != b.parent {
+        lines.push(format!("o{object}: {} in A, {} in B", placed(a.parent), placed(b.parent)));
     }
     if a.label != b.label {
         lines.push(format!("o{object}: {} in A, {} in B", labelled(a.label), labelled(b.label)));

@@ -3,9 +3,10 @@
 use crate::action::Action;
 use crate::cause::{judge, Verdict};
 use crate::paint::Paint;
-use crate::request::Request;
+use crate::request::{Kind, Request};
 use crate::show::{profile_lines, subject_lines};
 use crate::taking_back::{Journal, TakenBack};
+use crate::tree::below;
 use crate::view::View;
 use crate::words::{bytes_words, count, reply_words, taken_back_words, wrapped};
 use circmon::Unit;
@@ -16,23 +17,34 @@ pub struct Step {
     pub request: String,
     /// the library's reply
     pub reply: u8,
-    /// why it is a refusal
-    pub reason: Option<String>,
+    /// why it is a refusal, or what a delete took with it
+    pub note: Option<String>,
 }
 
 /// What stands in place of a cause where none is found: that must not happen, and must not pass for an explanation.
 pub const NO_CAUSE: &str = "circtool finds no cause for this number; please report it";
 
-/// Carries out the request on the unit; the reply is the unit's, the reason is found in the state before it.
+/// Carries out the request on the unit; the reply is the unit's, the note is found in the state before it.
 pub fn step(unit: &mut Unit, bytes: &[u8]) -> Step {
     let before = View::of(unit);
     let reply = unit.ask(bytes);
-    let reason = match judge(&before, bytes) {
-        _ if reply <= 1 => None,
+    let note = match judge(&before, bytes) {
+        _ if reply <= 1 => taken_words(&before, bytes),
         Verdict::Refused(cause) if cause.number() == reply => Some(cause.to_string()),
         _ => Some(NO_CAUSE.to_string()),
     };
-    Step { request: bytes_words(bytes), reply, reason }
+    Step { request: bytes_words(bytes), reply, note }
+}
+
+/// What a delete takes beside its object; nothing where it takes no other, and of every other request.
+fn taken_words(before: &View, bytes: &[u8]) -> Option<String> {
+    let request = Request::decode(bytes).ok().filter(|it| it.kind == Kind::Delete)?;
+    let mut objects: Vec<usize> = below(before, request.object).into_iter().map(|(object, _)| object).collect();
+    objects.sort_unstable();
+    let names: Vec<String> = objects.iter().map(|object| format!("o{object}")).collect();
+    let goes = if names.len() == 1 { "goes" } else { "go" };
+    let words = format!("{} below it {goes} with it: {}", count(names.len(), "object", "objects"), names.join(", "));
+    (!names.is_empty()).then_some(words)
 }
 
 /// One action of a run, carried out.
@@ -62,7 +74,7 @@ impl Carried {
     /// What stands below it.
     fn note(&self) -> Option<&str> {
         match self {
-            Carried::Request(step) => step.reason.as_deref(),
+            Carried::Request(step) => step.note.as_deref(),
             Carried::TakenBack(it) => Some(&it.note),
         }
     }
@@ -75,9 +87,10 @@ pub fn carried_out(unit: &mut Unit, actions: &[Action]) -> Vec<Carried> {
         Action::TakeBack => Carried::TakenBack(journal.take_back(unit)),
         Action::Request(bytes) => {
             let before = View::of(unit);
-            let step = step(unit, bytes);
+            let mut step = step(unit, bytes);
             if let (0, Ok(request)) = (step.reply, Request::decode(bytes)) {
-                journal.enter(at + 1, request, before);
+                let emptied = journal.enter(at + 1, request, before);
+                step.note = step.note.map(|note| note + emptied);
             }
             Carried::Request(step)
         }
@@ -85,7 +98,7 @@ pub fn carried_out(unit: &mut Unit, actions: &[Action]) -> Vec<Carried> {
     actions.iter().enumerate().map(carry_out).collect()
 }
 
-/// The whole text: the profile where it is not the widest, the subjects, a row for each action with its reason below, and a count.
+/// The whole text: the profile where it is not the widest, the subjects, a row for each action with its note below, and a count.
 /// Where the actions come from a script, the line of each stands beside the step; else there are no lines.
 pub fn explain(unit: &mut Unit, actions: &[Action], lines: &[usize], paint: Paint) -> String {
     let before = View::of(unit);

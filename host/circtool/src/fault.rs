@@ -3,11 +3,12 @@
 
 use crate::bits::bit;
 use crate::layout::{bit_name, object_at, place, record_of, subject_at, Record};
-use crate::layout::{FORMER_IMAGE_BYTES, LABEL_AT, LABEL_BITS, OBJECT_BITS, SUBJECT_BITS};
+use crate::layout::{BYTES_WITHOUT_COMPANIES, BYTES_WITHOUT_PARENTS, LABEL_AT, LABEL_BITS, OBJECT_BITS, SUBJECT_BITS};
 use crate::level::{level_words, Level};
 use crate::mode::Modes;
 use crate::profile::{self, Profile};
 use crate::properties::{self, Holding, Pair};
+use crate::tree::{self, Unruly, Wrong};
 use crate::view::{View, OBJECTS, SUBJECTS};
 use crate::wall::{self, Breach};
 use circmon::{IMAGE_BYTES, TABLE_BYTES};
@@ -25,6 +26,8 @@ pub enum Fault {
     Simple(Holding),
     Star(Pair),
     Wall(Breach),
+    Parent(Wrong),
+    ParentLabel(Unruly),
 }
 
 /// What is absent and has a bit of its own set.
@@ -50,13 +53,13 @@ pub fn of_table(profile: Profile, bytes: &[u8]) -> Vec<Fault> {
     }
 }
 
-/// Checks 10, 11, 16, 12, 6, 7, 8, 9, 18 of an image, each over the whole image before the next.
+/// Checks 10, 11, 16, 12, 6, 7, 8, 9, 18, 19, 20 of an image, each over the whole image before the next.
 pub fn of_image(profile: Profile, bytes: &[u8]) -> Vec<Fault> {
     if bytes.len() != IMAGE_BYTES {
         return vec![Fault::Length { found: bytes.len(), expected: IMAGE_BYTES }];
     }
     let view = View::new(bytes).under(profile);
-    let checks: [&dyn Fn() -> Vec<Fault>; 8] = [
+    let checks: [&dyn Fn() -> Vec<Fault>; 10] = [
         &|| stray(profile, bytes),
         &|| outside(&view),
         &|| not_enrolled(&view),
@@ -65,6 +68,8 @@ pub fn of_image(profile: Profile, bytes: &[u8]) -> Vec<Fault> {
         &|| properties::simple(&view).into_iter().map(Fault::Simple).collect(),
         &|| properties::star(&view).into_iter().map(Fault::Star).collect(),
         &|| wall::breaches(&view).into_iter().map(Fault::Wall).collect(),
+        &|| tree::wrong_parents(&view).into_iter().map(Fault::Parent).collect(),
+        &|| tree::unruly(&view).into_iter().map(Fault::ParentLabel).collect(),
     ];
     checks.iter().map(|check| check()).find(|faults| !faults.is_empty()).unwrap_or_default()
 }
@@ -142,6 +147,8 @@ impl Fault {
             Fault::Simple(_) => 8,
             Fault::Star(_) => 9,
             Fault::Wall(_) => 18,
+            Fault::Parent(_) => 19,
+            Fault::ParentLabel(_) => 20,
         }
     }
 
@@ -156,6 +163,8 @@ impl Fault {
             Fault::Discretionary(it) | Fault::Label(it) | Fault::Simple(it) => of(it),
             Fault::Star(pair) => [of(&pair.read), of(&pair.written)].concat(),
             Fault::Wall(breach) => [of(&breach.from), of(&breach.to)].concat(),
+            Fault::Parent(wrong) => wrong.objects().into_iter().map(Record::Object).collect(),
+            Fault::ParentLabel(it) => vec![Record::Object(it.child), Record::Object(it.parent)],
         }
     }
 }
@@ -164,10 +173,11 @@ impl fmt::Display for Fault {
     fn fmt(&self, out: &mut fmt::Formatter) -> fmt::Result {
         match self {
             Fault::Length { found: 1, expected } => write!(out, "1 byte, not {expected}"),
-            Fault::Length { found: found @ FORMER_IMAGE_BYTES, expected: expected @ IMAGE_BYTES } => {
-                write!(out, "{found} bytes, not {expected}: an image of the former size, without company numbers")
+            Fault::Length { found, expected } => {
+                let former = former_image(*found).filter(|_| *expected == IMAGE_BYTES);
+                let words = former.map_or(String::new(), |lacks| format!(": the size of images {lacks}"));
+                write!(out, "{found} bytes, not {expected}{words}")
             }
-            Fault::Length { found, expected } => write!(out, "{found} bytes, not {expected}"),
             Fault::Stray { absent, bits } => write!(out, "{absent}, and {}", stray_words(bits)),
             Fault::Outside { record, level, profile } => {
                 let whose = match record {
@@ -197,7 +207,18 @@ impl fmt::Display for Fault {
             }
             Fault::Star(pair) => write!(out, "{}", pair.words("holds")),
             Fault::Wall(breach) => write!(out, "{}", breach.words("holds")),
+            Fault::Parent(wrong) => write!(out, "{}", wrong.words()),
+            Fault::ParentLabel(it) => write!(out, "{}", it.words(None)),
         }
+    }
+}
+
+/// What images of this size lack, which were written before; nothing of another size.
+pub fn former_image(bytes: usize) -> Option<&'static str> {
+    match bytes {
+        BYTES_WITHOUT_PARENTS => Some("from before objects had parents"),
+        BYTES_WITHOUT_COMPANIES => Some("from before objects had companies and parents"),
+        _ => None,
     }
 }
 

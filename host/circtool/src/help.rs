@@ -40,6 +40,7 @@ the needs. What is outside it in a request gets 2.
   subject 1 class 3 needs {0,1}    enrols s1; a subject that no line names is absent
   subject 2 class 0 needs {}
   s1 create o0                     s1 create o1 with e
+  s1 create o2 under o0            s1 create o3 under o2 with e
   s1 level o0 class 2 needs {0}    s1 level o0 class 0 needs {}
   s1 get r o0                      s1 release r o0
   s1 give s0 r o1                  s1 rescind s0 r o1
@@ -53,6 +54,9 @@ the needs. What is outside it in a request gets 2.
 Subjects are 0 to 15, objects 0 to 63, classes, needs and companies 0 to 15, modes r, w, a, e. A profile has 1 to 16
 subjects, 1 to 64 objects, a class from 0 to 15 and any needs. Between words stand spaces and tabs. A byte-order mark
 before the script is left out.
+
+An object that is created under another one is its child. Only a delete ends that, and a delete of the parent deletes
+everything below it.
 
 A profile has no bytes, and circmon runs under the widest one, which a script without a profile has too: a script with
 another is not written. Nor is one with 'take back': taking back is no request and has no bytes.
@@ -79,20 +83,23 @@ Usage: circtool explain [--script | --bytes] [--profile PROFILE] [FILE]
 
 Runs the requests and prints each with its reply in words and, for a refusal, its cause in the state before the request:
 the right or ownership that is missing, the absent label, the new label that does not dominate the old one, the
-clearance that does not dominate a label, the two objects that stand in the way of the star property, or those that
-stand in the way of the wall of competing companies. Of two levels it says how the one compares with the other, 'below'
+clearance that does not dominate a label, the two objects that stand in the way of the star property, those that
+stand in the way of the wall of competing companies, the parent that is not live, or the parent or child whose label
+does not fit. Of two levels it says how the one compares with the other, 'below'
 (only the other one dominates) or 'apart' (neither does), and what is missing: the class, needs, or both. A level that
 is equal to the other or above it dominates it, and that is not refused. Of the wall it says who holds what, the
 companies of both objects in the conflict class, and the rule. Of what is outside the profile it says what is in use.
+Of a delete that is granted it says which objects below go with it.
 
 A script may take back requests, with the line 'take back'. Then explain says which request that was and what its object
 is again; or, with 17, that there is none to take back. The journal keeps up to 32 requests with reply 0, the oldest
-gives way, and the latest is taken back first.
+gives way, and the latest is taken back first. A delete that takes objects below empties it, and cannot be taken back.
 
 The input is a script or bytes as circmon reads them. Without a flag the first byte decides: 00, 80 to FF, or no byte at
 all is bytes, any other a script, and so is what begins with a byte-order mark. An accepted table is never taken for a
-script. 1,402 bytes are an image and are not run. circmon stops after 4,096 requests, circtool does not. Where the input
-is a script, the line of each request stands beside its step.
+script. 1,458 bytes are the size of an image, and also of a table and 236 requests: where they are accepted as an image,
+they are taken for one and not run, unless --bytes says so; else they are run, and it is said. circmon stops after 4,096
+requests, circtool does not. Where the input is a script, the line of each request stands beside its step.
 
   --profile PROFILE   the profile of the site, where the script does not state it: as in a script, in one word of the
                       command line, 'subjects 4 objects 10 class 3 needs {0,1}'
@@ -112,8 +119,9 @@ there is nothing to take back. With --image the image after the run is written t
 bad, OUT is as it was.
 
 The input is a script or bytes as circmon reads them. Without a flag the first byte decides: 00, 80 to FF, or no byte at
-all is bytes, any other a script, and so is what begins with a byte-order mark. 1,402 bytes are an image and not run.
-circmon stops after 4,096 requests, circtool does not.
+all is bytes, any other a script, and so is what begins with a byte-order mark. 1,458 bytes are the size of an image,
+and also of a table and 236 requests: where they are accepted as an image, they are taken for one and not run, unless
+--bytes says so; else they are run, and it is said. circmon stops after 4,096 requests, circtool does not.
 
   --profile PROFILE   the profile of the site, where the script does not state it: as in a script, in one word of the
                       command line, 'subjects 4 objects 10 class 3 needs {0,1}'
@@ -127,9 +135,10 @@ written, or errors in the script.
 pub const SHOW: &str = "\
 Usage: circtool show [--anyway] [--profile PROFILE] [IMAGE]
 
-Prints the state in an image: counts, enrolled subjects with clearances, live objects with owner, label or 'no label'
-and companies, and each subject that has rights or holds accesses on them. Of a refused image it prints the number, the
-check in words and where it failed; with --anyway also the fields as they stand, without what is marked absent.
+Prints the state in an image: counts, enrolled subjects with clearances, live objects with owner, label or 'no label',
+companies and parent, and each subject that has rights or holds accesses on them. An object stands behind the one that
+it is under, two places further in. Of a refused image it prints the number, the check in words and where it failed;
+with --anyway also the fields as they stand, without what is marked absent.
 
   --profile PROFILE   the profile of the monitor that wrote the image, which does not say it: as in a script, in one
                       word of the command line, 'subjects 4 objects 10 class 3 needs {0,1}'; else it is the widest
@@ -146,7 +155,7 @@ Usage: circtool page [--profile PROFILE] IMAGE OBJECT ..
        circtool page [--profile PROFILE] --all [IMAGE]
 
 Prints the access page of each object, o0 to o63, or with --all of every live one: under its owner, its label or 'no
-label' and its companies the page as the library writes it, a line for each subject and a last line.
+label', its companies and its parent the page as the library writes it, a line for each subject and a last line.
 
   01 rwae r--- 1       s1 has the rights r, w, a and e and holds r, which is one access
   to 01 00 00 00 01    one subject holds r, none w, a or e; the total is one access
@@ -168,7 +177,7 @@ Usage: circtool load SEED COUNT [--table FILE] [--bytes]
 Writes COUNT requests that the library makes from SEED, as a script, with a first line that says seed and count. The
 same seed gives the same requests everywhere, and a longer load begins with a shorter one of the same seed. Every
 request is well formed under the widest profile, and a script with another is no table for it; most are refused, since
-every field is drawn. No request of a load sets companies.
+every field is drawn. No request of a load sets companies or creates an object under another one.
 
   --table FILE   puts the subjects of FILE in front: those of a script, whose other lines are left out, or those of a
                  table in bytes; '-' is standard input
@@ -189,7 +198,7 @@ Usage: circtool compare [--profile PROFILE] A B
 
 Compares two images, of monitors of one profile. Equal: every further list of requests draws the same replies from both,
 which is proved. Different: where, in words, and requests on which the two reply differently, with both replies to each:
-at most four requests, proved.
+at most four requests, proved. Where the two differ in a parent, these are deletes and creates alone, at most two.
 
   --profile PROFILE   the profile of both monitors, which no image says: as in a script, in one word of the command
                       line, 'subjects 4 objects 10 class 3 needs {0,1}'; else it is the widest

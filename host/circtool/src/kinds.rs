@@ -21,6 +21,8 @@ pub struct Row {
     pub needs: bool,
     /// whether the field of the needs holds company numbers
     pub companies: bool,
+    /// whether it holds a parent
+    pub parent: bool,
     pub mode: Takes,
     /// what stands behind the actor in a script, and in a sentence
     pub script: &'static str,
@@ -29,8 +31,8 @@ pub struct Row {
 
 /// The row of a kind that uses no field; the others change it.
 const fn row(number: u32, name: &'static str, script: &'static str, sentence: &'static str) -> Row {
-    let (other, class, needs, companies) = (false, false, false, false);
-    Row { number, name, other, class, needs, companies, mode: Takes::NoMode, script, sentence }
+    let (other, class, needs, companies, parent) = (false, false, false, false, false);
+    Row { number, name, other, class, needs, companies, parent, mode: Takes::NoMode, script, sentence }
 }
 
 pub const KINDS: [Row; 8] = [
@@ -42,7 +44,11 @@ pub const KINDS: [Row; 8] = [
         mode: Takes::OneMode,
         ..row(4, "rescind", "rescind OTHER MODE OBJECT", "rescinds MODE on OBJECT from OTHER")
     },
-    Row { mode: Takes::Execute, ..row(5, "create", "create OBJECT with MODE", "creates OBJECT with MODE") },
+    Row {
+        parent: true,
+        mode: Takes::Execute,
+        ..row(5, "create", "create OBJECT under PARENT with MODE", "creates OBJECT under PARENT with MODE")
+    },
     row(6, "delete", "delete OBJECT", "deletes OBJECT"),
     Row { class: true, needs: true, ..row(7, "level", "level OBJECT LEVEL", "changes the level of OBJECT to LEVEL") },
     Row {
@@ -53,6 +59,8 @@ pub const KINDS: [Row; 8] = [
 
 /// What stands in the words of a kind that may be created without e, where it is.
 pub const WITH_MODE: &str = " with MODE";
+/// The same of the parent.
+pub const UNDER_PARENT: &str = " under PARENT";
 
 impl Row {
     pub fn of_number(number: u32) -> Option<&'static Row> {
@@ -88,6 +96,7 @@ mod tests {
                 assert_eq!(words.contains(WITH_MODE), row.mode == Takes::Execute, "{row:?}");
                 assert_eq!(words.contains("LEVEL"), row.class || row.needs, "{row:?}");
                 assert_eq!(words.contains("COMPANIES"), row.companies, "{row:?}");
+                assert_eq!(words.contains(UNDER_PARENT), row.parent, "{row:?}");
             }
         }
     }

@@ -14,12 +14,13 @@ const SETS: [(&str, usize); 2] = [("right", 4), ("access", 4)];
 /// A company number.
 const COMPANY_BITS: usize = 4;
 /// An object's record.
-const OBJECT: [(&str, usize); 5] = [
+const OBJECT: [(&str, usize); 6] = [
     ("live", 1),
     ("owner", 4),
     ("label", LABEL_BITS),
     ("company", CONFLICT_CLASSES * COMPANY_BITS),
     ("sets", SUBJECTS * width(&SETS)),
+    ("parent", 7),
 ];
 
 pub const LABEL_BITS: usize = width(&LEVEL);
@@ -35,8 +36,11 @@ pub const OWNER: Place = place_of(&OBJECT, 1);
 pub const LABEL_AT: usize = place_of(&OBJECT, 2).at;
 pub const COMPANIES: Place = place_of(&OBJECT, 3);
 const SETS_AT: usize = place_of(&OBJECT, 4).at;
-/// The bytes of an image before objects had company numbers: such an image is refused by its length.
-pub const FORMER_IMAGE_BYTES: usize = TABLE_BYTES + OBJECTS * (OBJECT_BITS - COMPANIES.width) / 8;
+/// The number of the parent plus one, or 0.
+pub const PARENT: Place = place_of(&OBJECT, 5);
+/// The bytes of an image before objects had parents, and before they had company numbers: such an image is refused by its length.
+pub const BYTES_WITHOUT_PARENTS: usize = image_bytes(OBJECT_BITS - PARENT.width);
+pub const BYTES_WITHOUT_COMPANIES: usize = image_bytes(OBJECT_BITS - PARENT.width - COMPANIES.width);
 
 // the library and the fields say the same sizes
 const _: () = assert!(8 * TABLE_BYTES == SUBJECTS * SUBJECT_BITS);
@@ -54,6 +58,11 @@ impl Place {
     pub fn behind(self, start: usize) -> Place {
         Place { at: start + self.at, ..self }
     }
+}
+
+/// The bytes of an image whose object records have so many bits.
+const fn image_bytes(object_bits: usize) -> usize {
+    TABLE_BYTES + OBJECTS * object_bits / 8
 }
 
 const fn width(fields: &Fields) -> usize {
@@ -164,9 +173,16 @@ mod tests {
         assert_eq!((bit_name(366), bit_name(377)), (class(2), class(4)));
         assert_eq!(bit_name(378), "right r of s0");
         assert_eq!(bit_name(382), "access r of s0");
-        assert_eq!(record_of(11_215), Record::Object(63));
-        assert_eq!(bit_name(11_215), "access e of s15");
-        assert_eq!(place(11_215), "byte 1401, mask 0x01");
+        assert_eq!((bit_name(505), bit_name(506), bit_name(512)), named("access e of s15", "parent", "parent"));
+        assert_eq!(record_of(513), Record::Object(1));
+        assert_eq!(record_of(11_663), Record::Object(63));
+        assert_eq!(bit_name(11_656), "access e of s15");
+        assert_eq!(bit_name(11_663), "parent");
+        assert_eq!(place(11_663), "byte 1457, mask 0x01");
+    }
+
+    fn named(one: &str, two: &str, three: &str) -> (String, String, String) {
+        (one.to_string(), two.to_string(), three.to_string())
     }
 
     fn class(number: usize) -> String {
@@ -174,7 +190,7 @@ mod tests {
     }
 
     #[test]
-    fn an_image_was_16_bits_shorter_for_each_object() {
-        assert_eq!((IMAGE_BYTES, FORMER_IMAGE_BYTES), (1402, 1274));
+    fn an_image_was_7_bits_shorter_for_each_object_and_before_that_another_16() {
+        assert_eq!((IMAGE_BYTES, BYTES_WITHOUT_PARENTS, BYTES_WITHOUT_COMPANIES), (1458, 1402, 1274));
     }
 }

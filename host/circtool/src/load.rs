@@ -37,9 +37,15 @@ fn decimal(expected: &str, word: &OsStr, most: usize) -> Result<usize, String> {
     number(&word, most).ok_or_else(|| format!("expected {expected}, found {}", quoted(&word)))
 }
 
+/// A table that a load is put behind, and what is to be said of the form in which it was taken.
+pub struct Table {
+    pub bytes: Vec<u8>,
+    pub remark: String,
+}
+
 /// The table of a script or of bytes; the requests behind it are left out. A profile would be lost: a load has a line for each
 /// request and each subject, and is sure to be well formed under the widest profile only.
-pub fn table(input: &Input) -> Step<Vec<u8>> {
+pub fn table(input: &Input) -> Step<Table> {
     let begun = begin(input, None, None).map_err(|outcome| {
         let text = form(&input.bytes) == Form::Bytes && is_text(&input.bytes);
         outcome.with(if text {
@@ -53,7 +59,7 @@ pub fn table(input: &Input) -> Step<Vec<u8>> {
         return Err(trouble(format!("{name}: a load is for the widest profile, and this script has a narrower one\n")));
     }
     // an image begins with the table
-    Ok(begun.unit.image()[..TABLE_BYTES].to_vec())
+    Ok(Table { bytes: begun.unit.image()[..TABLE_BYTES].to_vec(), remark: begun.remark })
 }
 
 /// The load as it is asked for, behind the table where there is one. An error says why it is refused.

@@ -1,9 +1,9 @@
 //! Whether the order of gets matters for the state that they leave. The answer is the library's; the two gets that it names are
 //! carried out both ways round, and why they are not granted both is said as for any refusal.
 
-use crate::cause::after;
 use crate::compare::Named;
 use crate::difference::differences;
+use crate::effect::after;
 use crate::explain::{step, Step};
 use crate::input::{assembled, error_lines, Input};
 use crate::paint::Paint;

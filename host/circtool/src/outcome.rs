@@ -21,7 +21,7 @@ impl Outcome {
         Outcome { out: Vec::new(), err, status }
     }
 
-    /// With a further line behind what it says.
+    /// With further lines behind what it says.
     pub fn with(mut self, line: &str) -> Outcome {
         self.err.push_str(line);
         self

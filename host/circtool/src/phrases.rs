@@ -23,6 +23,21 @@ pub fn object(line: &mut Line) -> Result<usize, ScriptError> {
     line.take(OBJECT, |word| numbered(word, 'o', OBJECTS))
 }
 
+/// `under o1`, where it stands there.
+pub fn under(line: &mut Line) -> Result<Option<usize>, ScriptError> {
+    match line.peek() {
+        Some(word) if word.text == "under" => {
+            line.keyword("under")?;
+            object(line).map(Some)
+        }
+        Some(word) if word.text != "with" => {
+            Err(line.unexpected("'under' and an object, 'with e' or the end of the line"))
+        }
+        _ => Ok(None),
+    }
+}
+
+/// `with e`, where it stands there: the last words of a line.
 pub fn with_execute(line: &mut Line) -> Result<bool, ScriptError> {
     if line.peek().is_none() {
         return Ok(false);

@@ -2,13 +2,14 @@
 
 use crate::bits::{field, put};
 use crate::companies::{Companies, CONFLICT_CLASSES};
-use crate::kinds::{Row, KINDS, WITH_MODE};
+use crate::kinds::{Row, UNDER_PARENT, WITH_MODE};
 use crate::level::{level_words, Level};
 use crate::mode::Mode;
 use crate::profile::{self, Profile};
 use crate::view::{OBJECTS, SUBJECTS};
 use circmon::REQUEST_BYTES;
-use std::fmt;
+
+pub use crate::malformed::{reasons_words, Malformed};
 
 #[derive(Clone, Copy, Debug, PartialEq, Eq)]
 pub enum Kind {
@@ -16,7 +17,7 @@ pub enum Kind {
     Release(Mode),
     Give(usize, Mode),
     Rescind(usize, Mode),
-    Create { execute: bool },
+    Create { execute: bool, parent: Option<usize> },
     Delete,
     ChangeLevel(Level),
     SetCompanies(Companies),
@@ -29,6 +30,7 @@ pub struct Parts {
     pub mode: Option<Mode>,
     pub level: Level,
     pub companies: Companies,
+    pub parent: Option<usize>,
 }
 
 impl Parts {
@@ -37,19 +39,20 @@ impl Parts {
         mode: None,
         level: Level { class: 0, needs: 0 },
         companies: Companies([0; CONFLICT_CLASSES]),
+        parent: None,
     };
 }
 
 impl Kind {
     /// The kind with this number; nothing where it needs a mode and has none.
     pub fn new(number: u32, parts: Parts) -> Option<Kind> {
-        let Parts { other, mode, level, companies } = parts;
+        let Parts { other, mode, level, companies, parent } = parts;
         Some(match number {
             1 => Kind::Get(mode?),
             2 => Kind::Release(mode?),
             3 => Kind::Give(other, mode?),
             4 => Kind::Rescind(other, mode?),
-            5 => Kind::Create { execute: mode == Some(Mode::Execute) },
+            5 => Kind::Create { execute: mode == Some(Mode::Execute), parent },
             6 => Kind::Delete,
             7 => Kind::ChangeLevel(level),
             8 => Kind::SetCompanies(companies),
@@ -65,7 +68,9 @@ impl Kind {
             Kind::Release(mode) => (2, with(mode)),
             Kind::Give(other, mode) => (3, Parts { other, ..with(mode) }),
             Kind::Rescind(other, mode) => (4, Parts { other, ..with(mode) }),
-            Kind::Create { execute } => (5, if execute { with(Mode::Execute) } else { Parts::NONE }),
+            Kind::Create { execute, parent } => {
+                (5, Parts { parent, mode: execute.then_some(Mode::Execute), ..Parts::NONE })
+            }
             Kind::Delete => (6, Parts::NONE),
             Kind::ChangeLevel(level) => (7, Parts { level, ..Parts::NONE }),
             Kind::SetCompanies(companies) => (8, Parts { companies, ..Parts::NONE }),
@@ -78,23 +83,6 @@ pub struct Request {
     pub actor: usize,
     pub object: usize,
     pub kind: Kind,
-}
-
-/// One reason why bytes are no request.
-#[derive(Clone, Debug, PartialEq, Eq)]
-pub enum Malformed {
-    Length(usize),
-    Kind(u32),
-    Actor(u32),
-    Other(u32),
-    Object(u32),
-    /// a mode that the kind of this name does not allow
-    Mode(u32, &'static str),
-    Unused(&'static str, u32),
-    ActorBeyond(u32, Profile),
-    OtherBeyond(u32, Profile),
-    ObjectBeyond(u32, Profile),
-    LevelOutside(Level, Profile),
 }
 
 /// The fields as numbers, in their order.
@@ -150,12 +138,13 @@ impl Fields {
             let unused = [
                 ("other subject", row.other, self.other),
                 ("class", row.class, self.class),
-                ("needs", row.needs || row.companies, self.needs),
+                ("needs", row.needs || row.companies || row.parent, self.needs),
                 ("spare", false, self.spare),
             ];
             for (name, used, number) in unused {
                 note(!used && number != 0, Malformed::Unused(name, number));
             }
+            note(row.parent && self.needs as usize > OBJECTS, Malformed::Parent(self.needs));
         }
         reasons
     }
@@ -167,10 +156,12 @@ impl Fields {
         let object = |number: u32| (number as usize) < OBJECTS && !profile::has_object(profile, number as usize);
         let other = row.is_some_and(|row| row.other) && subject(self.other);
         let level = row.is_some_and(|row| row.class || row.needs) && !profile::has_level(profile, self.level());
+        let parent = self.needs.checked_sub(1).filter(|&number| row.is_some_and(|row| row.parent) && object(number));
         let reasons = [
             subject(self.actor).then_some(Malformed::ActorBeyond(self.actor, profile)),
             other.then_some(Malformed::OtherBeyond(self.other, profile)),
             object(self.object).then_some(Malformed::ObjectBeyond(self.object, profile)),
+            parent.map(|number| Malformed::ParentBeyond(number, profile)),
             level.then_some(Malformed::LevelOutside(self.level(), profile)),
         ];
         reasons.into_iter().flatten().collect()
@@ -188,6 +179,7 @@ impl Fields {
                 mode: Mode::from_number(self.mode),
                 level: self.level(),
                 companies: Companies::from_bits(self.needs as u16),
+                parent: (self.needs as usize).checked_sub(1),
             },
         )
     }
@@ -215,7 +207,7 @@ impl Request {
     }
 
     pub fn encode(&self) -> [u8; REQUEST_BYTES] {
-        let (kind, Parts { other, mode, level, companies }) = self.kind.parts();
+        let (kind, Parts { other, mode, level, companies, parent }) = self.kind.parts();
         Fields {
             kind,
             actor: self.actor as u32,
@@ -223,8 +215,8 @@ impl Request {
             object: self.object as u32,
             mode: mode.map_or(0, Mode::number),
             class: level.class.into(),
-            // the same field: no kind uses both
-            needs: (level.needs | companies.bits()).into(),
+            // the same field: no kind uses two of them
+            needs: u32::from(level.needs | companies.bits()) | parent.map_or(0, |parent| parent as u32 + 1),
             spare: 0,
         }
         .bytes()
@@ -242,50 +234,18 @@ impl Request {
 
     /// The actor, and the words of the kind with the fields in their places.
     fn filled(&self, words: fn(&Row) -> &str) -> String {
-        let (number, Parts { other, mode, level, companies }) = self.kind.parts();
+        let (number, Parts { other, mode, level, companies, parent }) = self.kind.parts();
         let words = Row::of_number(number).map_or("", words);
         let words = match mode {
             Some(mode) => words.replace("MODE", &mode.to_string()),
             None => words.replace(WITH_MODE, ""),
         };
+        let words = match parent {
+            Some(parent) => words.replace("PARENT", &format!("o{parent}")),
+            None => words.replace(UNDER_PARENT, ""),
+        };
         let words = words.replace("OTHER", &format!("s{other}")).replace("LEVEL", &level_words(level));
         let words = words.replace("COMPANIES", &companies.to_string());
         format!("s{} {}", self.actor, words.replace("OBJECT", &format!("o{}", self.object)))
     }
-}
-
-impl Malformed {
-    /// Whether the widest profile would not exclude it.
-    pub fn is_by_profile(&self) -> bool {
-        use Malformed::{ActorBeyond, LevelOutside, ObjectBeyond, OtherBeyond};
-        matches!(self, ActorBeyond(..) | OtherBeyond(..) | ObjectBeyond(..) | LevelOutside(..))
-    }
-}
-
-impl fmt::Display for Malformed {
-    fn fmt(&self, out: &mut fmt::Formatter) -> fmt::Result {
-        match self {
-            Malformed::Length(1) => write!(out, "1 byte, not 6"),
-            Malformed::Length(found) => write!(out, "{found} bytes, not 6"),
-            Malformed::Kind(kind) => write!(out, "kind {kind} is not 1 to {}", KINDS.len()),
-            Malformed::Actor(actor) => write!(out, "actor {actor} is above 15"),
-            Malformed::Other(other) => write!(out, "other subject {other} is above 15"),
-            Malformed::Object(object) => write!(out, "object {object} is above 63"),
-            Malformed::Mode(mode, kind) => write!(out, "mode {mode} is not allowed in {kind}"),
-            Malformed::Unused(name, number) => write!(out, "the unused field {name} is {number}, not 0"),
-            Malformed::ActorBeyond(actor, it) => write!(out, "subject s{actor} {}", profile::beyond_subjects(*it)),
-            Malformed::OtherBeyond(other, it) => {
-                write!(out, "other subject s{other} {}", profile::beyond_subjects(*it))
-            }
-            Malformed::ObjectBeyond(object, it) => write!(out, "object o{object} {}", profile::beyond_objects(*it)),
-            Malformed::LevelOutside(level, it) => {
-                write!(out, "{} {}", level_words(*level), profile::outside(*it, *level))
-            }
-        }
-    }
-}
-
-/// All reasons on one line.
-pub fn reasons_words(reasons: &[Malformed]) -> String {
-    reasons.iter().map(Malformed::to_string).collect::<Vec<_>>().join("; ")
 }

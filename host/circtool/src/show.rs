@@ -3,15 +3,17 @@
 use crate::level::{level_words, NO_LABEL};
 use crate::paint::Paint;
 use crate::profile::{profile_words, Profile};
+use crate::tree::ordered;
 use crate::view::{Object, View, SUBJECTS};
 use crate::words::count;
 
-/// The whole text: counts, the profile where it is not the widest, subjects with clearances, live objects with owner, label, companies and rows.
+/// The whole text: counts, the profile where it is not the widest, subjects with clearances, live objects with owner, label,
+/// companies and rows, each further in than the object that it is under.
 pub fn show(view: &View, paint: Paint) -> String {
     let mut text = format!("{}\n{}", counts(view), profile_lines(view.profile, paint));
     text.push_str(&format!("{}\n{}", paint.heading("subjects"), subject_lines(view)));
     text.push_str(&format!("\n{}\n", paint.heading("objects")));
-    let objects: String = view.live().map(|(number, object)| object_lines(number, object, paint)).collect();
+    let objects: String = ordered(view).into_iter().map(|place| object_lines(view, place, paint)).collect();
     text.push_str(if objects.is_empty() { "  none is live\n" } else { &objects });
     text
 }
@@ -62,19 +64,23 @@ fn label(object: &Object, paint: Paint) -> String {
     }
 }
 
-/// An object with its owner and label, and its companies where it has any.
+/// An object with its owner and label, its companies where it has any, and its parent where it has one.
 pub fn object_line(number: usize, object: &Object, paint: Paint) -> String {
     let companies = if object.companies.is_none() { String::new() } else { format!("   {}", object.companies.words()) };
-    format!("o{number:<3} owner s{:<3} {}{companies}\n", object.owner, label(object, paint))
+    let parent = object.parent.map_or(String::new(), |parent| format!("   under o{parent}"));
+    format!("o{number:<3} owner s{:<3} {}{companies}{parent}\n", object.owner, label(object, paint))
 }
 
-fn object_lines(number: usize, object: &Object, paint: Paint) -> String {
-    let mut lines = format!("  {}", object_line(number, object, paint));
+/// An object and the subjects that have something on it, two places further in for each object above it.
+fn object_lines(view: &View, (number, depth): (usize, usize), paint: Paint) -> String {
+    let Some(object) = view.object(number) else { return String::new() };
+    let indent = " ".repeat(2 * depth);
+    let mut lines = format!("{indent}  {}", object_line(number, object, paint));
     for subject in 0..SUBJECTS {
         let (rights, held) = (object.rights[subject], object.held[subject]);
         if !rights.is_empty() || !held.is_empty() {
             let holds = if held.is_empty() { String::new() } else { format!("   holds {}", held.row()) };
-            lines.push_str(&format!("         s{subject:<3} rights {}{holds}\n", rights.row()));
+            lines.push_str(&format!("{indent}         s{subject:<3} rights {}{holds}\n", rights.row()));
         }
     }
     lines

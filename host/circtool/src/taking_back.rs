@@ -3,8 +3,10 @@
 
 use crate::explain::NO_CAUSE;
 use crate::level::level_words;
-use crate::request::Request;
+use crate::request::{Kind, Request};
+use crate::tree::below;
 use crate::view::View;
+use crate::words::count;
 use circmon::{Unit, JOURNAL_ENTRIES};
 use std::collections::VecDeque;
 
@@ -16,9 +18,14 @@ struct Entry {
     before: View,
 }
 
-/// The requests of a run that can be taken back, the latest last.
+/// The requests of a run that can be taken back.
 #[derive(Default)]
-pub struct Journal(VecDeque<Entry>);
+pub struct Journal {
+    /// the latest last
+    entries: VecDeque<Entry>,
+    /// the latest delete that emptied it, unless an entry has given way since
+    emptied: Option<String>,
+}
 
 /// One taking-back of a run.
 #[derive(Clone, Debug, PartialEq, Eq)]
@@ -32,24 +39,38 @@ pub struct TakenBack {
 const EMPTY_JOURNAL: u8 = 17;
 
 impl Journal {
-    /// A request with reply 0 and the state before it; the oldest one gives way.
-    pub fn enter(&mut self, step: usize, request: Request, before: View) {
-        if self.0.len() == JOURNAL_ENTRIES {
-            self.0.pop_front();
+    /// A request with reply 0 and the state before it; the oldest one gives way. But a delete that took children empties the journal
+    /// and is no entry: what is then to be said behind it is returned.
+    pub fn enter(&mut self, step: usize, request: Request, before: View) -> &'static str {
+        let children = if request.kind == Kind::Delete { below(&before, request.object).len() } else { 0 };
+        if children > 0 {
+            let objects = count(children, "object", "objects");
+            self.entries.clear();
+            self.emptied = Some(format!("step {step}, {}, took {objects} below it and emptied it", request.sentence()));
+            return "; that empties the journal: neither this request nor one before it can be taken back";
         }
-        self.0.push_back(Entry { step, request, before });
+        if self.entries.len() == JOURNAL_ENTRIES {
+            self.entries.pop_front();
+            self.emptied = None;
+        }
+        self.entries.push_back(Entry { step, request, before });
+        ""
     }
 
     pub fn take_back(&mut self, unit: &mut Unit) -> TakenBack {
         let present = View::of(unit);
         let number = unit.take_back();
-        let note = match (number, self.0.pop_back()) {
+        let note = match (number, self.entries.pop_back()) {
             (0, Some(entry)) if View::of(unit) == entry.before => entry.words(&present),
-            (EMPTY_JOURNAL, None) => empty_words(),
+            (EMPTY_JOURNAL, None) => self.emptied.as_deref().map_or_else(empty_words, emptied_words),
             _ => NO_CAUSE.to_string(),
         };
         TakenBack { number, note }
     }
+}
+
+fn emptied_words(by: &str) -> String {
+    format!("the journal is empty: {by}; what a delete takes with its object cannot be taken back, and takings-back are counted from there")
 }
 
 fn empty_words() -> String {

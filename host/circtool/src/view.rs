@@ -3,7 +3,8 @@
 
 use crate::bits::{bit, field, put};
 use crate::companies::Companies;
-use crate::layout::{object_at, sets_at, subject_at, Place, CLASS, COMPANIES, HELD, LABEL_AT, NEEDS, OWNER, RIGHTS};
+use crate::layout::{object_at, sets_at, subject_at, Place};
+use crate::layout::{CLASS, COMPANIES, HELD, LABEL_AT, NEEDS, OWNER, PARENT, RIGHTS};
 use crate::level::Level;
 use crate::mode::Modes;
 use crate::profile::Profile;
@@ -18,13 +19,15 @@ pub struct Object {
     pub companies: Companies,
     pub rights: [Modes; SUBJECTS],
     pub held: [Modes; SUBJECTS],
+    /// the object that contains it; the bits of a refused image may name one above 63, which is none
+    pub parent: Option<usize>,
 }
 
 impl Object {
-    /// Without label, company, right or access.
+    /// Without label, company, right, access or parent.
     pub fn new(owner: usize) -> Object {
         let none = [Modes::default(); SUBJECTS];
-        Object { owner, label: None, companies: Companies::default(), rights: none, held: none }
+        Object { owner, label: None, companies: Companies::default(), rights: none, held: none, parent: None }
     }
 }
 
@@ -78,6 +81,11 @@ impl View {
         self.objects.iter().enumerate().filter_map(|(number, object)| Some((number, object.as_ref()?)))
     }
 
+    /// The object with this number, where it is live; none has a number above 63.
+    pub fn object(&self, number: usize) -> Option<&Object> {
+        self.objects.get(number)?.as_ref()
+    }
+
     /// The enrolled subjects with their clearances.
     pub fn enrolled(&self) -> impl Iterator<Item = (usize, Level)> + '_ {
         self.subjects.iter().enumerate().filter_map(|(number, clearance)| Some((number, (*clearance)?)))
@@ -102,5 +110,6 @@ fn object_in(bytes: &[u8], at: usize) -> Option<Object> {
         companies: Companies::from_bits(number(bytes, at, COMPANIES) as u16),
         rights: std::array::from_fn(|subject| modes(subject, RIGHTS)),
         held: std::array::from_fn(|subject| modes(subject, HELD)),
+        parent: (number(bytes, at, PARENT) as usize).checked_sub(1),
     })
 }

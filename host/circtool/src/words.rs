@@ -25,7 +25,7 @@ pub fn hex(bytes: &[u8]) -> String {
 /// taking-back; nothing where it is none.
 type Row = (u8, &'static str, &'static str, &'static str, &'static str);
 
-const NUMBERS: [Row; 19] = [
+const NUMBERS: [Row; 21] = [
     (0, "granted, the state changed", "", "", "taken back"),
     (1, "granted, it was so already", "", "", ""),
     (2, "refused: malformed", "", "", ""),
@@ -45,6 +45,14 @@ const NUMBERS: [Row; 19] = [
     (16, "", "a clearance or label is outside the profile", "", ""),
     (17, "", "", "", "refused: the journal is empty"),
     (18, "refused: the wall of competing companies would break", "the wall of competing companies is broken", "", ""),
+    (19, "refused: the parent is not live", "a parent is not live, or a chain of parents does not end", "", ""),
+    (
+        20,
+        "refused: the label would break the rule toward parent or child",
+        "a label breaks the rule toward a parent",
+        "",
+        "",
+    ),
 ];
 
 /// The words of a number in one column of the table.
@@ -112,8 +120,8 @@ mod tests {
         let numbers = |words: fn(u8) -> String| -> Vec<u8> {
             (0..=255).filter(|&number| !words(number).contains("a number that")).collect()
         };
-        assert_eq!(numbers(reply_words), (0..=9).chain([14, 18]).collect::<Vec<u8>>());
-        assert_eq!(numbers(refusal_words), (6..=13).chain([16, 18]).collect::<Vec<u8>>());
+        assert_eq!(numbers(reply_words), (0..=9).chain([14, 18, 19, 20]).collect::<Vec<u8>>());
+        assert_eq!(numbers(refusal_words), (6..=13).chain([16, 18, 19, 20]).collect::<Vec<u8>>());
         assert_eq!(numbers(load_words), [15]);
         assert_eq!(numbers(taken_back_words), [0, 17]);
     }

@@ -1,4 +1,4 @@
-//! Of each refusal with 8 or 9, of requests and of images, and of each with 14 the answer of the comparison is said and exactly
+//! Of each refusal with 8, 9 or 20, of requests and of images, and of each with 14 the answer of the comparison is said and exactly
 //! what is missing: beside the second implementation's comparison, and need by need.
 
 mod shared;
@@ -91,16 +91,36 @@ fn lowered(reason: &str, before: &Monitor, request: &Request, said: &mut Said) {
     *said.entry((14, answer, missing)).or_default() += 1;
 }
 
+/// The reason of a refusal with 20 has what the label of the child lacks of that of the parent, where the parent has one.
+fn parent_label(reason: &str, state: &Monitor, said: &mut Said) {
+    let [child, parent] = numbers(&format!(" {}", &reason[..reason.find(',').unwrap()]), " o")[..] else {
+        panic!("{reason}")
+    };
+    let rule = "a labelled child has a labelled parent, whose label it dominates";
+    let own = label(state, child);
+    let Some(above) = state.objects[parent].as_ref().unwrap().label else {
+        let start = format!("o{child} is under o{parent}, which has no label, and so it cannot have the label");
+        assert_eq!(reason, format!("{start} {}; {rule}", words(own)));
+        return *said.entry((20, "absent", "label")).or_default() += 1;
+    };
+    let reason = reason.replace("the new label of", "the label of");
+    let (tail, answer, missing) = expected(own, above, &format!("the label of o{parent} ({})", words(above)));
+    let start = format!("o{child} is under o{parent}, and the label of o{child} ({})", words(own));
+    assert_eq!(reason, format!("{start} {tail}; {rule}"));
+    *said.entry((20, answer, missing)).or_default() += 1;
+}
+
 fn check(number: u8, reason: &str, state: &Monitor, said: &mut Said) {
     match number {
         8 => simple(reason, state, said),
         9 => star(reason, state, said),
+        20 => parent_label(reason, state, said),
         _ => panic!("{number}: {reason}"),
     }
 }
 
 #[test]
-fn requests_refused_with_14_8_or_9() {
+fn requests_refused_with_14_8_9_or_20() {
     let mut said = Said::new();
     for seed in 0..300 {
         let run = shared::run(seed, SHAPES[seed as usize % SHAPES.len()], 1000);
@@ -108,8 +128,8 @@ fn requests_refused_with_14_8_or_9() {
         let mut monitor = Monitor::from_table(&run.table).unwrap();
         for bytes in &run.requests {
             let step = step(&mut unit, bytes);
-            if let 14 | 8 | 9 = step.reply {
-                let (request, reason) = (Request::decode(bytes).unwrap(), step.reason.unwrap());
+            if let 14 | 8 | 9 | 20 = step.reply {
+                let (request, reason) = (Request::decode(bytes).unwrap(), step.note.unwrap());
                 match step.reply {
                     14 => lowered(&reason, &monitor, &request, &mut said),
                     number => check(number, &reason, &with_effect(&monitor, &request), &mut said),
@@ -118,7 +138,7 @@ fn requests_refused_with_14_8_or_9() {
             monitor.request(bytes);
         }
     }
-    for it in [all(14), all(8), all(9)].concat() {
+    for it in [all(14), all(8), all(9), all(20), vec![(20, "absent", "label")]].concat() {
         assert!(said.get(&it).is_some_and(|times| *times > 30), "{it:?} was not met often: {said:?}");
     }
 }
@@ -139,7 +159,7 @@ fn relabelled(seed: u64) -> Monitor {
 }
 
 #[test]
-fn images_refused_with_8_or_9() {
+fn images_refused_with_8_9_or_20() {
     let mut said = Said::new();
     for seed in 0..1000 {
         let monitor = relabelled(seed);
@@ -152,7 +172,7 @@ fn images_refused_with_8_or_9() {
             check(number, &fault.to_string(), &monitor, &mut said);
         }
     }
-    for it in [all(8), all(9)].concat() {
+    for it in [all(8), all(9), all(20)].concat() {
         assert!(said.get(&it).is_some_and(|times| *times > 2), "{it:?} was not met: {said:?}");
     }
 }

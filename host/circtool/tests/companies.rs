@@ -25,7 +25,7 @@ fn last(requests: &str) -> (u8, String) {
     let bytes = circtool::assemble::assemble(&format!("{THREE}{}{requests}", objects())).unwrap();
     let mut unit = Unit::from_table(&bytes[..42]).unwrap();
     let step = bytes[42..].chunks(6).map(|piece| step(&mut unit, piece)).last().unwrap();
-    (step.reply, step.reason.unwrap_or_default())
+    (step.reply, step.note.unwrap_or_default())
 }
 
 const FIRST: &str =
@@ -125,8 +125,8 @@ fn an_image_that_is_refused_with_18() {
     let file = image("held", "s1 get e o0\ns1 get r o1\ns1 get a o2\ns0 companies o0 1 0 0 0\n");
     let mut bytes = std::fs::read(file).unwrap();
     assert_eq!((bytes.len(), circmon::read(&bytes)), (IMAGE_BYTES, 0));
-    // company 2 of conflict class 1 for o1: its record begins at bit 336 + 170, the companies 26 bits behind that
-    let bit = 336 + 170 + 26 + 2;
+    // company 2 of conflict class 1 for o1: its record begins at bit 336 + 177, the companies 26 bits behind that
+    let bit = 336 + 177 + 26 + 2;
     bytes[bit / 8] ^= 0x80 >> (bit % 8);
     assert_eq!(circmon::read(&bytes), 18);
     let show = circtool(&["show"], &bytes);

@@ -5,15 +5,17 @@ mod shared;
 use circmon::Level;
 use circmon::Unit;
 use circtool::action::Action;
-use circtool::cause::{after, judge, By, Cause, Missing, Verdict};
+use circtool::cause::{judge, By, Cause, Missing, Verdict};
+use circtool::effect::after;
 use circtool::explain::{explain, step};
 use circtool::mode::Modes;
 use circtool::paint::Paint;
 use circtool::properties::{Holding, Pair};
 use circtool::view::View;
 use circtool::wall::Breach;
-use reference::{Kind, Monitor, Request};
+use reference::{Kind, Monitor, Request, OBJECTS};
 use shared::second;
+use shared::trees::unruly_is_so;
 use sidebyside::{with_effect, Count, REPLIES, SHAPES};
 
 /// That both levels are there and the first does not dominate the second, by the second implementation.
@@ -108,6 +110,29 @@ fn cause_is_so(cause: &Cause, before: &Monitor, bytes: &[u8]) {
         Cause::Simple { place, by } => simple_is_so(place, *by, before, &request),
         Cause::Star { pair, by } => star_is_so(pair, *by, before, &request),
         Cause::Wall { breach, by } => wall_is_so(breach, *by, before, &request),
+        Cause::Parent { object, parent } => {
+            assert!(before.objects[*object].is_none() && before.objects[*parent].is_none());
+            let create = |execute| Kind::Create { execute, parent: Some(*parent) };
+            assert!(*object == request.object && [create(true), create(false)].contains(&request.kind));
+        }
+        Cause::ParentLabel { unruly, changed } => {
+            unruly_is_so(unruly, &with_effect(before, &request), &format!("{request:?}"));
+            assert!(*changed == request.object && [unruly.child, unruly.parent].contains(changed));
+        }
+    }
+}
+
+/// What is said of a delete that takes more than its object, by the second implementation's state before and after it.
+fn taken_words(before: &Monitor, bytes: &[u8]) -> Option<String> {
+    let mut after = before.clone();
+    after.request(bytes);
+    let own = Request::decode(bytes)?.object;
+    let gone = |&slot: &usize| slot != own && before.objects[slot].is_some() && after.objects[slot].is_none();
+    let names: Vec<String> = (0..OBJECTS).filter(gone).map(|slot| format!("o{slot}")).collect();
+    match names.len() {
+        0 => None,
+        1 => Some(format!("1 object below it goes with it: {}", names[0])),
+        count => Some(format!("{count} objects below it go with it: {}", names.join(", "))),
     }
 }
 
@@ -128,10 +153,10 @@ fn explain_run(seed: u64, length: usize, count: &mut Count) {
                 let words = cause.to_string();
                 let checked = std::panic::catch_unwind(|| cause_is_so(&cause, &monitor, bytes));
                 assert!(checked.is_ok(), "{place}: {words}");
-                assert_eq!(step.reason, Some(words), "{place}");
+                assert_eq!(step.note, Some(words), "{place}");
             }
             _ => {
-                assert_eq!(step.reason, None, "{place}");
+                assert_eq!(step.note, taken_words(&monitor, bytes), "{place}");
                 // the state after it, in which star and simple are looked for, is the one that the library leaves
                 let request = circtool::request::Request::decode(bytes).unwrap();
                 assert_eq!(after(&before, &request), View::new(&unit.image()), "{place}");
@@ -157,7 +182,7 @@ fn steps(script: &str) -> Vec<(u8, String)> {
     let bytes = circtool::assemble::assemble(script).unwrap();
     let mut unit = Unit::from_table(&bytes[..42]).unwrap();
     let steps = bytes[42..].chunks(6).map(|piece| step(&mut unit, piece));
-    steps.map(|step| (step.reply, step.reason.unwrap_or_default())).collect()
+    steps.map(|step| (step.reply, step.note.unwrap_or_default())).collect()
 }
 
 const SUBJECTS: &str = "subject 0 class 1 needs {0}\nsubject 1 class 3 needs {0,1}\nsubject 2 class 3 needs {}\n";

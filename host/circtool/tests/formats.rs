@@ -79,7 +79,7 @@ fn kinds_modes_and_unused_fields_are_those_of_the_page() {
         assert_eq!(reply != 2, expected, "kind {kind}, mode {mode}, {other} {class} {needs} {spare}");
         well_formed += usize::from(expected);
     }
-    assert_eq!(well_formed, 4 + 4 + 8 + 8 + 2 + 1 + 4 + 2);
+    assert_eq!(well_formed, 4 + 4 + 8 + 8 + 4 + 1 + 4 + 2);
 }
 
 #[test]
@@ -151,6 +151,7 @@ fn object(bytes: &[u8], at: usize, fields: &Fields) -> Option<reference::Object>
         }),
         rights: sets(fields["rights"]),
         held: sets(fields["held"]),
+        parent: (read(bytes, at, fields["parent"]) as usize).checked_sub(1),
     })
 }
 
@@ -168,7 +169,7 @@ fn tables_and_images_have_the_fields_of_the_page() {
             assert_eq!(found, run.monitor.subjects[subject], "seed {seed}, subject {subject}");
         }
         for slot in 0..64 {
-            let found = object(&unit.image(), 336 + 170 * slot, &of_object);
+            let found = object(&unit.image(), 336 + 177 * slot, &of_object);
             assert_eq!(found, run.monitor.objects[slot], "seed {seed}, object {slot}");
         }
     }
@@ -182,7 +183,11 @@ fn the_pictures_have_two_letters_for_each_bit() {
         let page = document();
         let line = page.lines().find(|line| line.trim_start().starts_with(first)).unwrap();
         let widths: Vec<usize> = line.trim().trim_matches('|').split('|').map(|cell| cell.len().div_ceil(2)).collect();
-        let mut fields: Vec<(usize, usize)> = fields(heading).into_values().collect();
+        let mut fields = fields(heading);
+        // between the sets of s0 and the parent, the last of a record, stand those of the other subjects
+        let parent = fields.remove("parent");
+        assert!(parent.is_none_or(|(_, width)| widths.last() == Some(&width)), "{line}");
+        let mut fields: Vec<(usize, usize)> = fields.into_values().collect();
         fields.sort_unstable();
         let fields: Vec<usize> = fields.into_iter().map(|it| it.1).collect();
         assert_eq!(widths[..fields.len()], fields, "{line}");
@@ -230,7 +235,7 @@ fn the_worked_examples_are_what_the_library_reads_and_writes() {
     {
         assert_eq!(unit.ask(&by(kind)), 0, "{kind:?}");
     }
-    assert_eq!(unit.image()[63..71], in_image);
+    assert_eq!(unit.image()[64..72], in_image);
     let mut written = [0; PAGE_BYTES];
     assert_eq!(unit.page(1, &mut written), 0);
     let (page, written) = (document(), String::from_utf8(written.to_vec()).unwrap());
@@ -258,5 +263,5 @@ fn the_program_written_from_the_page_makes_each_kind() {
     kinds.sort_unstable();
     kinds.dedup();
     assert_eq!(kinds, [1, 2, 3, 4, 5, 6, 7, 8]);
-    assert!(text.contains(&format!("{}  bytes 63 to 70 of the image\n", hex(&image(&monitor)[63..71]))), "{text}");
+    assert!(text.contains(&format!("{}  bytes 64 to 71 of the image\n", hex(&image(&monitor)[64..72]))), "{text}");
 }

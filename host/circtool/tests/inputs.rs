@@ -68,48 +68,6 @@ fn text_that_is_taken_for_bytes_says_so() {
 }
 
 #[test]
-fn an_image_is_not_run_as_requests() {
-    let folder = folder("image-as-run");
-    let file = folder.join("a.img");
-    let name = file.to_str().unwrap();
-    for seed in 0..20 {
-        let image = sidebyside::image(&load::rich(seed, 20, 300));
-        std::fs::write(&file, &image).unwrap();
-        for words in [["run", name], ["explain", name]] {
-            let output = circtool(&words, b"");
-            ended(&output, 2);
-            assert!(output.stdout.is_empty());
-            let message = err(&output);
-            assert!(message.starts_with(&format!("{name}: 1402 bytes are an image, ")), "{message}");
-            assert!(message.contains("'circtool show' prints the state"), "{message}");
-        }
-        // who asks for bytes gets bytes, as circmon takes them: 226 requests and a short piece
-        let asked = circtool(&["run", "--bytes", name], b"");
-        ended(&asked, 0);
-        assert_eq!((out(&asked), out(&asked).lines().count()), (reference::program(&image), 227));
-        let dis = circtool(&["dis", name], b"");
-        ended(&dis, 0);
-        assert!(err(&dis).starts_with(&format!("{name}: 1402 bytes are an image, ")), "{}", err(&dis));
-        assert_eq!(circtool(&["asm"], &dis.stdout).stdout, image, "and dis is exact all the same");
-    }
-}
-
-#[test]
-fn an_image_of_the_former_size_is_not_run_and_not_read() {
-    let image = sidebyside::image(&load::rich(3, 20, 300));
-    let former = &image[..circtool::layout::FORMER_IMAGE_BYTES];
-    let run = circtool(&["run"], former);
-    ended(&run, 2);
-    let message = "<stdin>: 1274 bytes are an image of the former size, and no table with whole requests behind it\n";
-    assert!(err(&run).starts_with(message), "{}", err(&run));
-    let show = circtool(&["show"], former);
-    ended(&show, 1);
-    let message = "<stdin>: image refused with 10 (another length)\n  \
-                   1274 bytes, not 1402: an image of the former size, without company numbers\n";
-    assert_eq!((out(&show), err(&show).as_str()), (String::new(), message));
-}
-
-#[test]
 fn a_text_of_the_length_of_an_image_is_a_text() {
     let spaced = format!("\u{a0}{SCRIPT}");
     let text = format!("{spaced}{}", "#".repeat(circmon::IMAGE_BYTES - spaced.len()));

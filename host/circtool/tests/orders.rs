@@ -204,7 +204,7 @@ fn a_refused_image_and_bad_words_have_status_2() {
     let bad = bad.to_str().unwrap();
     let see = "see 'circtool orders --help'";
     for (words, message) in [
-        (vec![bad, EXAMPLE], format!("{bad}: image refused with 10 (another length)\n  5 bytes, not 1402")),
+        (vec![bad, EXAMPLE], format!("{bad}: image refused with 10 (another length)\n  5 bytes, not 1458")),
         (vec![], format!("circtool orders: expected 1 file, found 0; {see}")),
         (vec!["a", "b", "c"], format!("circtool orders: unexpected 'c'; {see}")),
         (vec!["a", "--script"], format!("circtool orders: unknown option '--script'; {see}")),

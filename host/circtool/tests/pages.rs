@@ -38,7 +38,7 @@ fn page(monitor: &Monitor, object: usize) -> String {
 fn expected(monitor: &Monitor, objects: &[usize]) -> String {
     let shown = out(&circtool(&["show"], &image(monitor)));
     let section = |&object: &usize| {
-        let line = shown.lines().find(|line| line.starts_with(&format!("  o{object} "))).unwrap();
+        let line = shown.lines().find(|line| line.trim_start().starts_with(&format!("o{object} "))).unwrap();
         format!("{}\n{}", line.trim_start(), page(monitor, object))
     };
     objects.iter().map(section).collect::<Vec<_>>().join("\n")

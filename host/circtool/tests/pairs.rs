@@ -172,5 +172,5 @@ fn a_refused_image_is_named_with_its_place() {
         text.starts_with("B, b.img: image refused with 7 (") && text.contains("s1 holds r on o2, which has no label")
     );
     let Comparison::Trouble(text) = compared(&good[..9], &good[..8]) else { panic!("no trouble") };
-    assert!(text.starts_with("A, a.img: image refused with 10 (another length)\n  9 bytes, not 1402"), "{text}");
+    assert!(text.starts_with("A, a.img: image refused with 10 (another length)\n  9 bytes, not 1458"), "{text}");
 }

@@ -35,6 +35,10 @@ fn is_so(reason: &Malformed, profile: Profile, bytes: &[u8]) -> Option<&'static 
             assert!(u64::from(*number) == object && object >= profile.objects.into());
             ("object", given)
         }
+        Malformed::ParentBeyond(number, given) => {
+            assert!(u64::from(*number) + 1 == needs && needs > profile.objects.into());
+            ("parent", given)
+        }
         Malformed::LevelOutside(level, given) => {
             assert_eq!((u64::from(level.class), u64::from(level.needs)), (class, needs));
             assert!(!profile.has_level(&second(*level)));
@@ -66,7 +70,7 @@ fn requests_outside_the_profile_are_explained_by_it() {
             if let Verdict::Refused(Cause::Malformed(reasons)) = &verdict {
                 let said: Vec<_> = reasons.iter().filter_map(|reason| is_so(reason, profile, &bytes)).collect();
                 said.iter().for_each(|name| met.note(*name));
-                let words = step.reason.unwrap();
+                let words = step.note.unwrap();
                 assert_eq!(words.starts_with("the bytes are no request: "), said.is_empty(), "{what}: {words}");
                 assert!(said.is_empty() || words.contains(" the profile"), "{what}: {words}");
             }
@@ -173,7 +177,7 @@ fn the_words_of_refused_tables_and_images() {
         [
             "a.img: image refused with 11 (a bit is set in what is absent)",
             "  subject record 9 is beyond the profile: 4 subjects, s0 to s3 are in use, and the bit at byte 23, mask 0x04 (enrolled) is set",
-            "  object record 63 is beyond the profile: 10 objects, o0 to o9 are in use, and the bit at byte 1380, mask 0x02 (live) is set, and 1 more of its bits",
+            "  object record 63 is beyond the profile: 10 objects, o0 to o9 are in use, and the bit at byte 1435, mask 0x01 (live) is set, and 1 more of its bits",
         ]
     );
 }

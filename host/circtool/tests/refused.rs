@@ -4,11 +4,12 @@ mod shared;
 
 use circmon::{Profile, IMAGE_BYTES};
 use circtool::fault::{self, Absent, Fault};
-use circtool::layout::{record_of, FORMER_IMAGE_BYTES};
+use circtool::layout::{record_of, BYTES_WITHOUT_COMPANIES, BYTES_WITHOUT_PARENTS};
 use circtool::refusal;
 use load::Random;
 use reference::{Monitor, Object};
 use shared::second;
+use shared::trees::{unruly_is_so, wrong_is_so};
 use sidebyside::{image, Count, SHAPES};
 
 /// Nothing is outside it; `profile_refusals` has the others.
@@ -48,7 +49,7 @@ fn each_single_bit_of_rich_images_is_located() {
             }
         }
     }
-    for number in [0, 6, 8, 9, 11, 12, 18] {
+    for number in [0, 6, 8, 9, 11, 12, 18, 19, 20] {
         assert!(seen.of(number) > 0, "{number} was not met: {seen:?}");
     }
 }
@@ -79,7 +80,7 @@ fn states_that_break_one_property() {
         let mut monitor = load::rich(seed, 10, 500);
         for object in monitor.objects.iter_mut().flatten() {
             if random.once_in(3) {
-                spoil(seed % 6, random, object);
+                spoil(seed % 7, random, object);
             }
         }
         let bytes = image(&monitor);
@@ -92,12 +93,12 @@ fn states_that_break_one_property() {
         }
         seen.note(number);
     }
-    for number in [6, 7, 8, 9, 12, 18] {
+    for number in [6, 7, 8, 9, 12, 18, 19, 20] {
         assert!(seen.of(number) > 5, "{number} was not met often: {seen:?}");
     }
 }
 
-/// One of six ways to break a secure state, at one object.
+/// One of seven ways to break a secure state, at one object.
 fn spoil(way: u64, random: &mut Random, object: &mut Object) {
     let subject = random.below(16);
     match way {
@@ -106,7 +107,12 @@ fn spoil(way: u64, random: &mut Random, object: &mut Object) {
         2 => object.owner = subject,
         3 => object.label = object.label.map(|label| reference::Level { class: label.class + 1, ..label }),
         4 => object.label = object.label.map(|_| reference::Level { class: 0, needs: 0 }),
-        _ => object.companies = std::array::from_fn(|_| random.below(3) as u8),
+        5 => object.companies = std::array::from_fn(|_| random.below(3) as u8),
+        // another object of the state, or one that is not live, or none at all
+        _ => {
+            let below = if random.once_in(3) { 127 } else { 10 };
+            object.parent = Some(random.below(below));
+        }
     }
 }
 
@@ -138,13 +144,15 @@ fn is_so(fault: &Fault, state: &Monitor, what: &str) {
             assert!(!written.label.unwrap().dominates(&read.label.unwrap()), "{what}");
         }
         Fault::Wall(breach) => shared::wall_is_so(breach, state, what),
+        Fault::Parent(wrong) => wrong_is_so(wrong, state, what),
+        Fault::ParentLabel(it) => unruly_is_so(it, state, what),
     }
 }
 
 #[test]
 fn lengths_and_tables() {
     let bytes = image(&load::rich(7, 20, 500));
-    for length in [0, 1, 41, 42, 43, FORMER_IMAGE_BYTES, IMAGE_BYTES - 1] {
+    for length in [0, 1, 41, 42, 43, BYTES_WITHOUT_COMPANIES, BYTES_WITHOUT_PARENTS, IMAGE_BYTES - 1] {
         assert_eq!(circmon::read(&bytes[..length]), 10);
         assert_eq!(fault::of_image(WIDEST, &bytes[..length]), [Fault::Length { found: length, expected: IMAGE_BYTES }]);
     }
@@ -168,11 +176,11 @@ fn message(bytes: &[u8]) -> String {
 #[test]
 fn messages_name_the_check_and_the_place() {
     let empty = vec![0; IMAGE_BYTES];
-    let stray = flipped(&empty, 42 * 8 + 170 + 42 + 8 * 2 + 1);
+    let stray = flipped(&empty, 42 * 8 + 177 + 42 + 8 * 2 + 1);
     assert_eq!(
         message(&stray),
         "a.img: image refused with 11 (a bit is set in what is absent)\n  \
-         object record 1 is not live, and the bit at byte 70, mask 0x04 (right w of s2) is set\n"
+         object record 1 is not live, and the bit at byte 71, mask 0x08 (right w of s2) is set\n"
     );
     let subject = flipped(&flipped(&empty, 21 * 3 + 1), 21 * 3 + 20);
     assert_eq!(
@@ -180,18 +188,26 @@ fn messages_name_the_check_and_the_place() {
         "a.img: image refused with 11 (a bit is set in what is absent)\n  \
          subject record 3 is absent, and the bit at byte 8, mask 0x80 (class) is set, and 1 more of its bits\n"
     );
-    let company = flipped(&empty, 42 * 8 + 170 * 63 + 26 + 15);
+    let company = flipped(&empty, 42 * 8 + 177 * 63 + 26 + 15);
     assert_eq!(
         message(&company),
         "a.img: image refused with 11 (a bit is set in what is absent)\n  \
-         object record 63 is not live, and the bit at byte 1385, mask 0x01 (company of conflict class 4) is set\n"
+         object record 63 is not live, and the bit at byte 1441, mask 0x80 (company of conflict class 4) is set\n"
     );
-    assert_eq!(message(&empty[..1401]), "a.img: image refused with 10 (another length)\n  1401 bytes, not 1402\n");
+    let parent = flipped(&empty, 42 * 8 + 177 * 64 - 1);
     assert_eq!(
-        message(&empty[..1274]),
-        "a.img: image refused with 10 (another length)\n  \
-         1274 bytes, not 1402: an image of the former size, without company numbers\n"
+        message(&parent),
+        "a.img: image refused with 11 (a bit is set in what is absent)\n  \
+         object record 63 is not live, and the bit at byte 1457, mask 0x01 (parent) is set\n"
     );
+    for (length, more) in [
+        (1457, ""),
+        (1402, ": the size of images from before objects had parents"),
+        (1274, ": the size of images from before objects had companies and parents"),
+    ] {
+        let expected = format!("a.img: image refused with 10 (another length)\n  {length} bytes, not 1458{more}\n");
+        assert_eq!(message(&empty[..length]), expected);
+    }
     let live = flipped(&empty, 42 * 8);
     assert_eq!(
         message(&live),

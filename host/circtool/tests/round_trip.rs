@@ -123,7 +123,7 @@ fn bytes_are_a_request_exactly_where_the_library_does_not_reply_2() {
     let everyone = reference::Monitor::begin([Some(reference::Level { class: 1, needs: 1 }); 16]).table();
     let unit = Unit::from_table(&everyone).unwrap();
     let (mut seen, mut malformed) = (0, 0);
-    for at in 0..16 * 8 * 4 * 3 * 4 * 2 * 2 * 2 {
+    for at in 0..16 * 8 * 4 * 3 * 4 * 2 * 4 * 2 {
         let mut rest = at;
         let mut draw = |from: &[u64]| {
             let value = from[rest % from.len()];
@@ -133,7 +133,7 @@ fn bytes_are_a_request_exactly_where_the_library_does_not_reply_2() {
         let kind = draw(&std::array::from_fn::<u64, 16, _>(|k| k as u64));
         let mode = draw(&[0, 1, 2, 3, 4, 5, 6, 7]);
         let (actor, other, object) = (draw(&[0, 15, 16, 31]), draw(&[0, 15, 16]), draw(&[0, 63, 64, 127]));
-        let (class, needs, spare) = (draw(&[0, 9]), draw(&[0, 0x8001]), draw(&[0, 1]));
+        let (class, needs, spare) = (draw(&[0, 9]), draw(&[0, 64, 65, 0x8001]), draw(&[0, 1]));
         let bytes = packed([kind, actor, other, object, mode, class, needs, spare]);
         let reply = unit.clone().ask(&bytes);
         let decoded = Request::decode(&bytes);
@@ -147,9 +147,9 @@ fn bytes_are_a_request_exactly_where_the_library_does_not_reply_2() {
         }
         seen += 1;
     }
-    // two actors on two objects: 4 get, 4 release, 8 give, 8 rescind, 2 create, 1 delete, 4 changes of level and 2 settings of
-    // companies each
-    assert_eq!((seen, seen - malformed), (49_152, 4 * 33));
+    // two actors on two objects: 4 get, 4 release, 8 give, 8 rescind, 4 create, of which 2 carry a parent, 1 delete, 8 changes of
+    // level and 4 settings of companies each
+    assert_eq!((seen, seen - malformed), (98_304, 4 * 41));
 }
 
 #[test]
@@ -169,7 +169,10 @@ fn each_reason_stands_behind_its_bytes() {
         ([8, 1, 0, 0, 0, 3, 7, 0], "the unused field class is 3, not 0"),
         ([1, 1, 2, 0, 1, 0, 0, 0], "the unused field other subject is 2, not 0"),
         ([6, 1, 0, 0, 0, 3, 0, 0], "the unused field class is 3, not 0"),
-        ([5, 1, 0, 0, 0, 0, 1, 0], "the unused field needs is 1, not 0"),
+        ([6, 1, 0, 0, 0, 0, 1, 0], "the unused field needs is 1, not 0"),
+        ([5, 1, 0, 0, 0, 0, 65, 0], "the field of the parent, its number plus one, is 65, above 64"),
+        ([5, 1, 0, 0, 4, 0, 0xFFFF, 0], "the field of the parent, its number plus one, is 65535, above 64"),
+        ([5, 1, 0, 0, 0, 3, 1, 0], "the unused field class is 3, not 0"),
         ([7, 1, 0, 0, 0, 0, 0, 8], "the unused field spare is 8, not 0"),
         ([1, 31, 0, 70, 7, 0, 0, 0], "actor 31 is above 15; object 70 is above 63; mode 7 is not allowed in get"),
     ] {

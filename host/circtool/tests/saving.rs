@@ -52,7 +52,7 @@ fn links_permissions_and_pipes_are_kept() {
     let line =
         format!("mkfifo {at}/pipe; timeout 10 cat {at}/pipe | wc -c & echo '{SCRIPT}' | timeout 10 $CIRCTOOL run --image {at}/pipe; wait");
     let output = shell(&line);
-    assert_eq!((out(&output).replace("0\n", "").trim(), err(&output).as_str()), ("1402", ""));
+    assert_eq!((out(&output).replace("0\n", "").trim(), err(&output).as_str()), ("1458", ""));
     assert!(fs::symlink_metadata(folder.join("pipe")).unwrap().file_type().is_fifo());
     assert_eq!(names(&folder), ["a.img", "link.img", "pipe"]);
 }

@@ -62,7 +62,15 @@ fn errors_of_requests() {
         ("S1 get r o0", format!("1:1: {first}, found 'S1'")),
         ("s1", format!("1:3: {verbs}, found the end of the line")),
         ("s1 creat o0", format!("1:4: {verbs}, found 'creat'")),
-        ("s1 create o0 e", "1:14: expected 'with e' or the end of the line, found 'e'".to_string()),
+        (
+            "s1 create o0 e",
+            "1:14: expected 'under' and an object, 'with e' or the end of the line, found 'e'".to_string(),
+        ),
+        ("s1 create o0 under", "1:19: expected an object (o0 to o63), found the end of the line".to_string()),
+        ("s1 create o0 under o64", "1:20: expected an object (o0 to o63), found 'o64'".to_string()),
+        ("s1 create o0 under o1 e", "1:23: expected 'with e' or the end of the line, found 'e'".to_string()),
+        ("s1 create o0 with e under o1", "1:21: expected the end of the line, found 'under'".to_string()),
+        ("s1 delete o0 under o1", "1:14: expected the end of the line, found 'under'".to_string()),
         ("s1 create o0 with r", "1:19: expected 'e', found 'r'".to_string()),
         ("s1 create o0 with # e", "1:18: expected 'e', found the end of the line".to_string()),
     ] {

@@ -30,10 +30,10 @@ const OPEN: Option<Level> = Some(Level { class: 0, needs: 0 });
 
 /// The line of an object and those of its subjects.
 fn lines_of(text: &str, slot: usize) -> Vec<String> {
-    let start = format!("  o{slot} ");
-    let mut lines = text.lines().skip_while(|line| !line.starts_with(&start));
+    let start = format!("o{slot} ");
+    let mut lines = text.lines().skip_while(|line| !line.trim_start().starts_with(&start));
     let first = lines.next().unwrap_or_else(|| panic!("no line of o{slot} in\n{text}")).to_string();
-    let rest = lines.take_while(|line| line.starts_with("         s")).map(str::to_string);
+    let rest = lines.take_while(|line| line.trim_start().starts_with('s')).map(str::to_string);
     [first].into_iter().chain(rest).collect()
 }
 
@@ -104,10 +104,15 @@ fn random_states_are_shown_whole() {
         let text = text(&monitor);
         for (slot, object) in monitor.objects.iter().enumerate() {
             let Some(object) = object else {
-                assert!(!text.contains(&format!("\n  o{slot} ")), "seed {seed}: o{slot} is not live");
+                assert!(!text.contains(&format!("  o{slot} ")), "seed {seed}: o{slot} is not live");
                 continue;
             };
             let lines = lines_of(&text, slot);
+            let indent = " ".repeat(2 * (load::depth(&monitor, slot) - 1));
+            assert!(lines[0].starts_with(&format!("{indent}  o{slot} ")), "seed {seed}: {}", lines[0]);
+            let under = object.parent.map_or(String::new(), |parent| format!("   under o{parent}"));
+            assert!(lines[0].ends_with(&under), "seed {seed}: {}", lines[0]);
+            assert_eq!(lines[0].contains(" under "), object.parent.is_some(), "seed {seed}: {}", lines[0]);
             assert!(lines[0].contains(&format!(" owner s{} ", object.owner)), "seed {seed}: {}", lines[0]);
             assert_eq!(lines[0].contains("no label"), object.label.is_none(), "seed {seed}: {}", lines[0]);
             assert_eq!(lines[0].contains(" class "), object.label.is_some() || lines[0].contains("not class 0"));
@@ -116,7 +121,7 @@ fn random_states_are_shown_whole() {
                 .map(|s| {
                     (s, if object.held[s] == 0 { String::new() } else { format!("   holds {}", row(object.held[s])) })
                 })
-                .map(|(s, holds)| format!("         s{s:<3} rights {}{holds}", row(object.rights[s])))
+                .map(|(s, holds)| format!("{indent}         s{s:<3} rights {}{holds}", row(object.rights[s])))
                 .collect();
             assert_eq!(lines[1..], subjects, "seed {seed}, o{slot}");
         }

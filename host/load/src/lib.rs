@@ -119,7 +119,7 @@ pub fn request(random: &mut Random, shape: Shape, monitor: &Monitor) -> Request 
     let level = new_level(random, shape, live.and_then(|it| it.label));
     let level = inside(monitor.profile, trees::beside_parent(random, monitor, object, level));
     let companies = new_companies(random, shape, live.map_or([0; CONFLICT_CLASSES], |it| it.companies));
-    let parent = trees::new_parent(random, shape, monitor);
+    let parent = trees::new_parent(random, shape, monitor, object);
     let request = Request { actor, object, kind: kind(Fields { mode, other, execute, level, companies, parent }) };
     trees::moved_up(random, monitor, request)
 }

@@ -18,8 +18,8 @@ pub fn depth(monitor: &Monitor, object: usize) -> usize {
 }
 
 /// The parent that a create carries: mostly a live object, of these sometimes the one with the longest chain, so that chains
-/// grow; sometimes any object, which may be the one to be created or another that is not live.
-pub fn new_parent(random: &mut Random, shape: Shape, monitor: &Monitor) -> Option<usize> {
+/// grow; sometimes the object that is to be created, or any one, which need not be live.
+pub fn new_parent(random: &mut Random, shape: Shape, monitor: &Monitor, object: usize) -> Option<usize> {
     if shape.parents == 0 || random.below(10) >= shape.parents {
         return None;
     }
@@ -27,8 +27,9 @@ pub fn new_parent(random: &mut Random, shape: Shape, monitor: &Monitor) -> Optio
     let from_there = (0..shape.objects).map(|step| (any + step) % shape.objects);
     let mut live = from_there.filter(|&object| live(monitor, object).is_some());
     match random.below(10) {
-        0 | 1 => Some(any),
-        2..=4 => live.max_by_key(|&object| depth(monitor, object)),
+        0 | 1 => Some(object),
+        2 => Some(any),
+        3..=5 => live.max_by_key(|&object| depth(monitor, object)),
         _ => live.next(),
     }
 }

@@ -76,7 +76,7 @@ pub fn held(monitor: &Monitor) -> Vec<Get> {
 }
 
 /// Every number that a request can get.
-pub const REPLIES: [u8; 12] = [0, 1, 2, 3, 4, 5, 6, 7, 8, 9, 14, 18];
+pub const REPLIES: [u8; 14] = [0, 1, 2, 3, 4, 5, 6, 7, 8, 9, 14, 18, 19, 20];
 
 /// The second implementation's state with the access, the label or the companies that the request asks for put in, unchecked.
 pub fn with_effect(monitor: &Monitor, request: &Request) -> Monitor {

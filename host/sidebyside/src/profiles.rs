@@ -75,14 +75,15 @@ pub fn check_narrow(met: &Met, often: usize) {
 }
 
 /// The fields that may be outside a profile.
-pub const FIELDS: [&str; 5] = ["actor", "other", "object", "class", "need"];
+pub const FIELDS: [&str; 6] = ["actor", "other", "object", "class", "need", "parent"];
 
 /// Those of the request that are.
 pub fn fields_outside(profile: Profile, request: &Request) -> Vec<&'static str> {
-    let (other, level) = match request.kind {
-        Kind::Give(other, _) | Kind::Rescind(other, _) => (Some(other), None),
-        Kind::ChangeLevel(level) => (None, Some(level)),
-        _ => (None, None),
+    let (other, level, parent) = match request.kind {
+        Kind::Give(other, _) | Kind::Rescind(other, _) => (Some(other), None, None),
+        Kind::ChangeLevel(level) => (None, Some(level), None),
+        Kind::Create { parent, .. } => (None, None, parent),
+        _ => (None, None, None),
     };
     let outside = [
         request.actor >= profile.subjects.into(),
@@ -90,6 +91,7 @@ pub fn fields_outside(profile: Profile, request: &Request) -> Vec<&'static str> 
         request.object >= profile.objects.into(),
         level.is_some_and(|level| level.class > profile.highest_class),
         level.is_some_and(|level| level.needs & !profile.needs != 0),
+        parent.is_some_and(|parent| parent >= profile.objects.into()),
     ];
     FIELDS.into_iter().zip(outside).filter(|(_, is_so)| *is_so).map(|(name, _)| name).collect()
 }
@@ -130,6 +132,10 @@ pub fn outside(random: &mut Random, profile: Profile, request: Request) -> Optio
             "other"
         }
         (_, Kind::ChangeLevel(level)) => outside_level(random, profile, level)?,
+        (_, Kind::Create { parent, .. }) => {
+            *parent = Some(above(random, profile.objects.into(), OBJECTS)?);
+            "parent"
+        }
         _ => return None,
     };
     Some((name, changed))

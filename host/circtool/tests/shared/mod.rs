@@ -4,6 +4,7 @@
 pub mod clone;
 pub mod formats;
 pub mod lines;
+pub mod trees;
 
 use circtool::wall::{Breach, Rule};
 use load::{Random, Shape};
