@@ -1,7 +1,7 @@
 /* A unit in C: it starts from an enrolment table, answers requests in memory, writes the access page of an object, saves
  * its state as an image and opens it again; a delete taken back; the order of two gets; objects of two competing
- * companies; a request on an image alone; two levels compared; a test load; and a unit under the profile of a small
- * plant. docs/EMBEDDING.md builds and runs it. */
+ * companies; an object under another one; a request on an image alone; two levels compared; a test load; and a unit
+ * under the profile of a small plant. docs/EMBEDDING.md builds and runs it. */
 #include "circmon.h"
 #include <stdio.h>
 #include <string.h>
@@ -63,6 +63,19 @@ static void competing(circmon_unit *unit) {
     printf("s1 gets r on o1: %d\n", circmon_ask(unit, reads[1], sizeof reads[1]));
 }
 
+/* s1 creates o2 under o0, the needs field holding the number of o0 plus one; labels it class 0 needs {}; creates o3 under o9. */
+static const uint8_t make_o2[CIRCMON_REQUEST_BYTES] = {0x50, 0x80, 0x10, 0x00, 0x00, 0x10}, label_o2[CIRCMON_REQUEST_BYTES] = {0x70, 0x80, 0x10};
+static const uint8_t make_o3[CIRCMON_REQUEST_BYTES] = {0x50, 0x80, 0x18, 0x00, 0x00, 0xA0};
+
+/* What is under an object goes with it, and that is not taken back. */
+static void branch(circmon_unit *unit) {
+    printf("s1 creates o2 under o0: %d\n", circmon_ask(unit, make_o2, sizeof make_o2));
+    printf("s1 labels o2 class 0 needs {}, which does not dominate the label of o0: %d\n", circmon_ask(unit, label_o2, sizeof label_o2));
+    printf("s1 creates o3 under o9, which is not live: %d\n", circmon_ask(unit, make_o3, sizeof make_o3));
+    printf("s1 deletes o0, and o2 with it: %d\n", circmon_ask(unit, delete_o0, sizeof delete_o0));
+    printf("take back, after a delete that took a child: %d\n", circmon_take_back(unit));
+}
+
 /* s1 creates o9 and o10. */
 static const uint8_t make_o9[CIRCMON_REQUEST_BYTES] = {0x50, 0x80, 0x48}, make_o10[CIRCMON_REQUEST_BYTES] = {0x50, 0x80, 0x50};
 
@@ -101,6 +114,7 @@ int main(void) {
     printf("the two units are %s\n", memcmp(&unit, &again, CIRCMON_MONITOR_BYTES) == 0 ? "equal" : "different");
     start_order(&again);
     competing(&again);
+    branch(&again);
     /* without a unit: the image is read, checked and written by the call */
     memcpy(image, saved, sizeof image);
     printf("s1 releases r on o0, on an image: %d\n", circmon_request(image, sizeof image, release, sizeof release));

@@ -4,7 +4,7 @@ mod shared;
 
 use circtool::input::{form, Form};
 use load::Random;
-use shared::{circtool, ended, err, folder, out};
+use shared::{circtool, ended, err, out};
 
 const SCRIPT: &str = "subject 1 class 3 needs {0,1}\ns1 create o0\ns1 get r o0\n";
 const MARK: &str = "\u{feff}";

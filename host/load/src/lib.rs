@@ -233,7 +233,7 @@ pub fn bytes(random: &mut Random, shape: Shape, monitor: &Monitor) -> Vec<u8> {
 pub fn rich(seed: u64, objects: usize, requests: usize) -> Monitor {
     let random = &mut Random::new(seed);
     let objects = objects.min(OBJECTS);
-    let shape = Shape { objects, subjects: SUBJECTS, classes: 4, needs: 2, companies: 2, parents: 3, damaged: 50 };
+    let shape = Shape { objects, subjects: SUBJECTS, classes: 4, needs: 2, companies: 2, parents: 2, damaged: 50 };
     let mut monitor = Monitor::from_table(&table(random, shape)).expect("a table that was written");
     for _ in 0..requests {
         let bytes = bytes(random, shape, &monitor);

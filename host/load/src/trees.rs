@@ -44,13 +44,13 @@ pub fn beside_parent(random: &mut Random, monitor: &Monitor, object: usize, leve
     }
 }
 
-/// A delete of a child is, every other time, one of its parent, mostly by the owner of that: so deletes that take children are as
-/// frequent as others.
+/// A delete of a child is, every third time, one of its parent, mostly by the owner of that: so deletes that take children are
+/// frequent.
 pub fn moved_up(random: &mut Random, monitor: &Monitor, request: Request) -> Request {
     let parent = live(monitor, request.object).and_then(|it| it.parent).filter(|_| request.kind == Kind::Delete);
     let above = parent.and_then(|parent| Some((parent, live(monitor, parent)?.owner)));
     match above {
-        Some((object, owner)) if random.once_in(2) => {
+        Some((object, owner)) if random.once_in(3) => {
             let actor = if random.once_in(6) { request.actor } else { owner };
             Request { actor, object, ..request }
         }

@@ -129,6 +129,31 @@ static void companies(const uint8_t *image, circmon_size length) {
     printf(" %02x %02x\n", unit.row[128][6], unit.row[129][6]);
 }
 
+/* Subject 1 creates object 1 under object 0, object 2 under object 3, which is not live, and object 2 under itself; it changes the
+ * level of object 0 to class 1, and of object 1 to class 0, which does not dominate it; and it deletes object 0. */
+static const uint8_t tree[6][CIRCMON_REQUEST_BYTES] = {{0x50, 0x80, 0x08, 0, 0, 0x10}, {0x50, 0x80, 0x10, 0, 0, 0x40}, {0x50, 0x80, 0x10, 0, 0, 0x30},
+                                                       {0x70, 0x80, 0, 0x10, 0, 0},    {0x70, 0x80, 0x08, 0, 0, 0},    {0x60, 0x80, 0, 0, 0, 0}};
+
+/* Each on a unit and on an image; the parent of object 1 in the unit; then object 1 is gone too, and there is nothing to take back. */
+static void parents(const uint8_t *image, circmon_size length) {
+    circmon_unit unit;
+    uint8_t copy[CIRCMON_IMAGE_BYTES], saved[CIRCMON_IMAGE_BYTES];
+    circmon_open(&unit, image, length);
+    memcpy(copy, image, sizeof copy);
+    printf("parents");
+    for (int i = 0; i < 6; i++) {
+        printf(" %d", circmon_ask(&unit, tree[i], sizeof tree[i]));
+        printf(" %d", circmon_request(copy, sizeof copy, tree[i], sizeof tree[i]));
+        if (i == 4) {
+            printf(" (%d)", unit.row[129][8]);
+        }
+    }
+    printf(" %d %d", unit.row[128][0], unit.row[129][0]);
+    printf(" %d", circmon_take_back(&unit));
+    circmon_save(&unit, saved, sizeof saved);
+    printf(" %d\n", memcmp(saved, copy, sizeof saved) == 0);
+}
+
 /* Under a profile of two subjects and one object, class 3 and the needs 0 and 1: table W has a third subject and is refused with 11,
  * and with needs 0 alone 16 comes for subject 1. Without its third subject it is accepted. */
 static void profiles(void) {
@@ -173,6 +198,7 @@ int main(void) {
     taken_back(image, sizeof image);
     start_orders(image, sizeof image);
     companies(image, sizeof image);
+    parents(image, sizeof image);
     profiles();
     printf("replay %d\n", circmon_replay(table, sizeof table, requests[0], sizeof requests, replies, sizeof replies));
     printf("replies %d %d %d %d\n", replies[0], replies[1], replies[2], replies[3]);

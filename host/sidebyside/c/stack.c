@@ -1,6 +1,7 @@
 /* The stack that each function of the header needs: it is called by a thread on a stack of known content, and the deepest byte
  * that was changed is looked for. What lies above the call is taken off. The end of the thread needs some tens of bytes in
- * the same place, so a function that needs fewer is measured with these. Prints one line for each function. */
+ * the same place, so a function that needs fewer is measured with these. A delete goes down from parent to child: where a request
+ * may be one, that of a chain of all objects is measured by itself. Prints one line for each, its parts with a tab between. */
 #include "circmon.h"
 #include <pthread.h>
 #include <stdio.h>
@@ -20,6 +21,9 @@ static uint8_t told[CIRCMON_DISTINGUISH_BYTES];
 static uint8_t text[CIRCMON_PAGE_BYTES];
 static uint8_t made[PIECES * CIRCMON_REQUEST_BYTES];
 static uint8_t wanted[PIECES][CIRCMON_REQUEST_BYTES];
+static uint8_t chain[OBJECTS + 1][CIRCMON_REQUEST_BYTES];
+static circmon_unit linked;
+static uint8_t linked_image[CIRCMON_IMAGE_BYTES];
 static volatile uint8_t answer;
 
 /* The six bytes of a request: kind 4 bits, actor 5, other 5, object 7, mode 3, class 4, needs 16, spare 4. */
@@ -31,12 +35,14 @@ static void request(uint8_t *to, uint64_t kind, uint64_t actor, uint64_t other, 
 }
 
 /* All kinds in turn on every object: the first four times all objects become live, labelled, those of four companies, and written
- * by their owner. */
+ * by their owner. Every other object is under the one before it; in the end these go first, so that no delete takes a child. */
 static void draw(void) {
     for (int i = 0; i < PIECES; i++) {
-        uint64_t object = (uint64_t)(i % OBJECTS), actor = object % SUBJECTS, last = (actor + 1) % SUBJECTS;
-        switch (i / OBJECTS % 10) {
-        case 0: request(requests[i], 5, actor, 0, object, 4, 0); break;
+        int step = i / OBJECTS % 10;
+        uint64_t object = (uint64_t)(step == 9 ? OBJECTS - 1 - i % OBJECTS : i % OBJECTS);
+        uint64_t actor = object % SUBJECTS, last = (actor + 1) % SUBJECTS;
+        switch (step) {
+        case 0: request(requests[i], 5, actor, 0, object, 4, object % 2 ? object : 0); break;
         case 1: request(requests[i], 7, actor, 0, object, 0, 0x30001); break;
         case 2: request(requests[i], 8, actor, 0, object, 0, 0x1234); break;
         case 3: request(requests[i], 1, actor, 0, object, 2, 0); break;
@@ -48,6 +54,20 @@ static void draw(void) {
         default: request(requests[i], 6, actor, 0, object, 0, 0); break;
         }
     }
+}
+
+/* Creates that put each object under the one before it, the field of the parent being its number plus one, and behind them a delete of
+ * the first, which takes all. */
+static void draw_chain(void) {
+    for (int i = 0; i < OBJECTS; i++) {
+        request(chain[i], 5, 0, 0, (uint64_t)i, 4, (uint64_t)i);
+    }
+    request(chain[OBJECTS], 6, 0, 0, 0, 0, 0);
+    circmon_start(&linked, table, sizeof table);
+    for (int i = 0; i < OBJECTS; i++) {
+        circmon_ask(&linked, chain[i], CIRCMON_REQUEST_BYTES);
+    }
+    circmon_save(&linked, linked_image, sizeof linked_image);
 }
 
 /* Gets of one subject on objects that it writes, which are granted alone and agree: so every pair is looked at. */
@@ -62,6 +82,7 @@ static void fill(void) {
     memset(table, 0xFF, sizeof table);
     draw();
     draw_gets();
+    draw_chain();
     circmon_start(&unit, table, sizeof table);
     for (int i = 0; i < FULL; i++) {
         circmon_ask(&unit, requests[i], CIRCMON_REQUEST_BYTES);
@@ -94,6 +115,9 @@ static void *on_image(void *unused) {
 static void *replay(void *unused) { answer = circmon_replay(table, sizeof table, requests[0], sizeof requests, replies, sizeof replies); return unused; }
 static void *distinguish(void *unused) { answer = circmon_distinguish(image, sizeof image, other, sizeof other, told, sizeof told); return unused; }
 static void *distinguish_in(void *unused) { answer = circmon_distinguish_in(SUBJECTS, OBJECTS, 15, 0xFFFF, image, sizeof image, other, sizeof other, told, sizeof told); return unused; }
+static void *chain_asked(void *unused) { answer = circmon_ask(&linked, chain[OBJECTS], CIRCMON_REQUEST_BYTES); return unused; }
+static void *chain_requested(void *unused) { answer = circmon_request(linked_image, sizeof linked_image, chain[OBJECTS], CIRCMON_REQUEST_BYTES); return unused; }
+static void *chain_replayed(void *unused) { answer = circmon_replay(table, sizeof table, chain[0], sizeof chain, replies, sizeof replies); return unused; }
 static void *compare(void *unused) { answer = circmon_compare(2, 0x0001, 1, 0x0003); return unused; }
 static void *load(void *unused) { answer = (uint8_t)circmon_load(1, made, sizeof made); return unused; }
 
@@ -128,15 +152,17 @@ static size_t depth(void *(*work)(void *)) {
 int main(void) {
     const struct { const char *name; void *(*work)(void *); } rows[] = {
         {"circmon_open", open_unit}, {"circmon_start", start}, {"circmon_open_in", open_in}, {"circmon_start_in", start_in}, {"circmon_ask", ask},
-        {"circmon_take_back", take_back}, {"circmon_save", save},
+        {"circmon_ask, a delete of 64 objects in a chain", chain_asked}, {"circmon_take_back", take_back},
+        {"circmon_save", save},
         {"circmon_page", page}, {"circmon_clash", clash}, {"circmon_begin", begin}, {"circmon_read", reading},
-        {"circmon_request", on_image}, {"circmon_replay", replay}, {"circmon_distinguish", distinguish},
+        {"circmon_request", on_image}, {"circmon_request, a delete of 64 objects in a chain", chain_requested},
+        {"circmon_replay", replay}, {"circmon_replay, a delete of 64 objects in a chain", chain_replayed}, {"circmon_distinguish", distinguish},
         {"circmon_distinguish_in", distinguish_in}, {"circmon_compare", compare}, {"circmon_load", load}};
     depth(nothing);
     for (size_t i = 0; i < sizeof rows / sizeof *rows; i++) {
         fill();
-        printf("%s %zu", rows[i].name, depth(rows[i].work));
-        printf(" %d\n", answer);
+        printf("%s\t%zu", rows[i].name, depth(rows[i].work));
+        printf("\t%d\n", answer);
     }
     return 0;
 }

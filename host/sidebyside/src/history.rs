@@ -4,7 +4,7 @@
 use crate::orders::{is_granted, Met};
 use crate::{image, profiles};
 use circmon::Unit;
-use reference::{Journaled, Kind, Monitor, Object, Request, CONFLICT_CLASSES};
+use reference::{Journaled, Kind, Monitor, Object, Request, CONFLICT_CLASSES, OBJECTS, TABLE_BYTES};
 use std::collections::VecDeque;
 
 /// "A journal of up to 32 entries".
@@ -52,22 +52,32 @@ impl Followed {
         let reply = self.second.request(bytes);
         assert_eq!(self.unit.ask(bytes), reply, "{bytes:02x?}");
         if reply == 0 {
-            self.enter(Request::decode(bytes).expect("a request that is granted"), met);
+            self.changed(Request::decode(bytes).expect("a request that is granted"), met);
         } else if !self.past.is_empty() {
             met.note(if is_granted(reply) { "1 between" } else { "refused between" });
         }
         reply
     }
 
-    fn enter(&mut self, request: Request, met: &mut Met) {
+    /// "A deletion that took children empties the journal": it is no entry either. Any other request with reply 0 is one.
+    fn changed(&mut self, request: Request, met: &mut Met) {
+        let image = std::mem::replace(&mut self.present, image(&self.second.monitor));
+        assert_ne!(image, self.present, "{request:?} changed nothing");
+        if live(&image) > live(&self.present) + 1 {
+            met.note(if self.past.is_empty() { "an empty journal emptied by a delete" } else { "emptied by a delete" });
+            self.past.clear();
+        } else {
+            self.enter(Past { image, request }, met);
+        }
+        self.check_images();
+    }
+
+    fn enter(&mut self, past: Past, met: &mut Met) {
         if self.past.len() == MOST {
             self.past.pop_front();
             met.note("an entry gave way");
         }
-        let image = std::mem::replace(&mut self.present, image(&self.second.monitor));
-        assert_ne!(image, self.present, "{request:?} changed nothing");
-        self.past.push_back(Past { image, request });
-        self.check_images();
+        self.past.push_back(past);
     }
 
     /// The number of both, which is the one that the history says, and so is the state; with 17 every byte of the unit is left.
@@ -107,6 +117,9 @@ impl Followed {
             met.note(if none { "first companies taken back" } else { "other companies restored" });
             assert!(restored.is_some_and(|it| it.companies != set), "{request:?}");
         }
+        if request.kind == Kind::Delete && restored.is_some_and(|it| it.parent.is_some()) {
+            met.note("a delete of a child");
+        }
         if request.kind == Kind::Delete && restored.is_some_and(|it| it.companies != [0; CONFLICT_CLASSES]) {
             met.note("a delete with companies");
         }
@@ -115,6 +128,12 @@ impl Followed {
             met.note(if ended { "a label ended" } else { "a label lowered" });
         }
     }
+}
+
+/// How many objects an image says are live: the first of the 177 bits of each record.
+fn live(image: &[u8]) -> usize {
+    let is_set = |bit: &usize| image[bit / 8] & 0x80 >> (bit % 8) != 0;
+    (0..OBJECTS).map(|object| 8 * TABLE_BYTES + 177 * object).filter(is_set).count()
 }
 
 /// Whether others than the owner have rights on the object, and accesses.

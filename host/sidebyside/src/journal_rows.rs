@@ -70,10 +70,17 @@ pub fn taken_back(before: &Rows) -> Option<Rows> {
     Some(rows)
 }
 
-/// The rest of a record as it is stored: whether it is live, the owner, the label, the companies, and zeros.
+/// The rows with every entry gone, as after a delete that took children.
+pub fn emptied(before: &Rows) -> Rows {
+    let mut rows = *before;
+    rows[RING][1] = 0;
+    rows
+}
+
+/// The rest of a record as it is stored: whether it is live, the owner, the label, the companies, the parent, and zeros.
 fn rest_stored(rest: &[u8; ROW_BYTES]) -> [u8; ROW_BYTES] {
     let mut stored = level_row(level_in(rest));
     stored[..2].copy_from_slice(&[u8::from(rest[0] == 1), rest[1]]);
-    stored[6..8].copy_from_slice(&rest[6..8]);
+    stored[6..9].copy_from_slice(&rest[6..9]);
     stored
 }

@@ -1,5 +1,5 @@
-//! What the tests share: both monitors on one run, dominance, pairs of modes, the wall, orders of requests, profiles, the fields of a request, what
-//! the rows of a unit say, what can be taken back, the program `circmon`, C programs over the header, and a program with bytes on its standard input.
+//! What the tests share: both monitors on one run, dominance, pairs of modes, the wall, parents and children, orders of requests, requests that
+//! tell two images apart, profiles, the fields of a request, what the rows of a unit say, what can be taken back, the program `circmon`, C programs over the header, and a program with bytes on its standard input.
 
 mod fields;
 pub mod history;
@@ -12,6 +12,8 @@ pub mod profiles;
 pub mod rights_lists;
 pub mod rows;
 pub mod start_order;
+pub mod telling;
+pub mod tree;
 pub mod wall;
 
 pub use fields::fields;
@@ -37,13 +39,14 @@ pub fn image(monitor: &Monitor) -> Vec<u8> {
     image
 }
 
-/// Shapes of runs: few objects and subjects and many conflicts, many objects, few levels, many levels, few companies, many, none.
+/// Shapes of runs: few objects and subjects and many conflicts, many objects, few levels, many levels, few companies, many, none,
+/// few parents, none: a delete that takes children leaves less for what is looked at here, and `tree_runs` has more of them.
 pub const SHAPES: [Shape; 5] = [
-    Shape { objects: 2, subjects: 3, classes: 3, needs: 2, companies: 2, parents: 4, damaged: 9 },
-    Shape { objects: 5, subjects: 4, classes: 2, needs: 3, companies: 2, parents: 6, damaged: 20 },
-    Shape { objects: 16, subjects: 6, classes: 4, needs: 2, companies: 0, parents: 6, damaged: 30 },
-    Shape { objects: 64, subjects: 16, classes: 3, needs: 1, companies: 2, parents: 3, damaged: 50 },
-    Shape { objects: 64, subjects: 16, classes: 16, needs: 16, companies: 15, parents: 4, damaged: 40 },
+    Shape { objects: 2, subjects: 3, classes: 3, needs: 2, companies: 2, parents: 0, damaged: 9 },
+    Shape { objects: 5, subjects: 4, classes: 2, needs: 3, companies: 2, parents: 2, damaged: 20 },
+    Shape { objects: 16, subjects: 6, classes: 4, needs: 2, companies: 0, parents: 3, damaged: 30 },
+    Shape { objects: 64, subjects: 16, classes: 3, needs: 1, companies: 2, parents: 1, damaged: 50 },
+    Shape { objects: 64, subjects: 16, classes: 16, needs: 16, companies: 15, parents: 2, damaged: 40 },
 ];
 
 /// The long runs: so many seeds from 0 on, each with a shape and so many requests.

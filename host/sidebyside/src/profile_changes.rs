@@ -38,7 +38,7 @@ fn live<'a>(random: &mut Random, monitor: &'a mut Monitor) -> Option<&'a mut Obj
 /// One thing that is changed in a state, after which it may be one that no monitor of its profile has. Nothing where it cannot be.
 pub type Change = fn(&mut Random, &mut Monitor) -> Option<()>;
 
-pub const CHANGES: [(&str, Change); 14] = [
+pub const CHANGES: [(&str, Change); 18] = [
     ("a clearance outside", |random, it| {
         let level = level_outside(random, it.profile)?;
         it.subjects[enrolled(random, it)?] = Some(level);
@@ -105,6 +105,32 @@ pub const CHANGES: [(&str, Change); 14] = [
         }
         Some(())
     }),
+    ("any parent", |random, it| {
+        live(random, it)?.parent = Some(random.below(127));
+        Some(())
+    }),
+    ("a parent beyond", |random, it| {
+        let parent = object_beyond(random, it.profile)?;
+        live(random, it)?.parent = Some(parent);
+        Some(())
+    }),
+    ("two objects under each other", |_, it| {
+        let mut live = (0..OBJECTS).filter(|&object| it.objects[object].is_some());
+        let (one, other) = (live.next()?, live.next()?);
+        it.objects[one].as_mut()?.parent = Some(other);
+        it.objects[other].as_mut()?.parent = Some(one);
+        Some(())
+    }),
+    ("a label under one that it does not dominate", |_, it| {
+        let mut live = (0..OBJECTS).filter(|&object| it.objects[object].is_some());
+        let (above, below) = (live.next()?, live.next()?);
+        let levels = [None, Some(top(it.profile)), Some(Level { class: 0, needs: 0 })];
+        for (object, parent, label) in [(above, None, levels[below % 2]), (below, Some(above), levels[2])] {
+            let object = it.objects[object].as_mut()?;
+            (object.parent, object.label, object.held) = (parent, label, [0; SUBJECTS]);
+        }
+        Some(())
+    }),
     ("a read at the top beside an append at the bottom", |random, it| {
         let (subject, highest) = (enrolled(random, it)?, top(it.profile));
         it.subjects[subject] = Some(highest);
@@ -123,7 +149,7 @@ pub const CHANGES: [(&str, Change); 14] = [
 pub fn first_bit_beyond(random: &mut Random, profile: Profile, bytes: &mut [u8]) -> Option<&'static str> {
     let (bit, name) = match (subject_beyond(random, profile), object_beyond(random, profile)) {
         (Some(subject), _) if random.once_in(2) => (21 * subject, "the enrolled bit beyond"),
-        (_, Some(object)) => (8 * TABLE_BYTES + 170 * object, "the live bit beyond"),
+        (_, Some(object)) => (8 * TABLE_BYTES + 177 * object, "the live bit beyond"),
         _ => return None,
     };
     *bytes.get_mut(bit / 8)? |= 0x80 >> (bit % 8);

@@ -40,7 +40,7 @@ pub fn shape(profile: Profile, most_objects: usize) -> Shape {
         classes: usize::from(profile.highest_class) + 1,
         needs: 16,
         companies: 2,
-        parents: 4,
+        parents: 2,
         damaged: 25,
     }
 }

@@ -1,5 +1,6 @@
 //! What the rows of a unit say, from docs/FORMATS.md: byte 0 of the rest of an object's record is 1 where it is live, byte 1 is
-//! its owner, byte 2 is 1 where a level stands in bytes 3 to 5, and bytes 6 and 7 have the companies of the four conflict classes.
+//! its owner, byte 2 is 1 where a level stands in bytes 3 to 5, bytes 6 and 7 have the companies of the four conflict classes, and
+//! byte 8 is the number of its parent plus one, or 0.
 //! The last row of the monitor has the numbers of subjects and objects of
 //! the profile in the first two bytes, and its highest class and needs as a level. The journal is behind it (`journal_rows`).
 
@@ -20,6 +21,11 @@ pub fn level_in(row: &[u8; 16]) -> Option<Level> {
 /// Two numbers in each byte, the first class highest.
 pub fn companies_in(row: &[u8; 16]) -> Companies {
     [row[6] / 16, row[6] % 16, row[7] / 16, row[7] % 16]
+}
+
+/// Any number, also one above those of the objects.
+pub fn parent_in(row: &[u8; 16]) -> Option<usize> {
+    usize::from(row[8]).checked_sub(1)
 }
 
 pub fn is_live(rows: &Rows, object: usize) -> bool {
@@ -47,6 +53,7 @@ pub fn monitor_said(rows: &Rows) -> Monitor {
             companies: companies_in(rest),
             rights: rows[object],
             held: rows[HELD + object],
+            parent: parent_in(rest),
             ..Object::new(rest[1].into())
         };
         *place = (rest[0] == 1).then_some(said);
@@ -68,7 +75,8 @@ pub fn of(monitor: &Monitor) -> Rows {
             rows[REST + slot] = level_row(object.label);
             rows[REST + slot][..2].copy_from_slice(&[1, object.owner as u8]);
             let [first, second, third, fourth] = object.companies;
-            rows[REST + slot][6..8].copy_from_slice(&[16 * first + second, 16 * third + fourth]);
+            let parent = object.parent.map_or(0, |parent| parent as u8 + 1);
+            rows[REST + slot][6..9].copy_from_slice(&[16 * first + second, 16 * third + fourth, parent]);
         }
     }
     for (subject, clearance) in monitor.subjects.iter().enumerate() {

@@ -8,16 +8,17 @@ use std::process::Command;
 
 const FOLDER: &str = env!("CARGO_TARGET_TMPDIR");
 
-/// What `smoke` prints before its loads. The line of `telling`: subject 1 releases r on object 0, which is live in the first
-/// image only, and a byte that is left.
+/// What `smoke` prints before its loads. The line of `telling`: subject 1 deletes object 0, which is live in the first image only,
+/// and a byte that is left.
 const SMOKE: &str = "start 0\nask 0\nask 7\nask 0\nshort 13\nsave 0\nopen 0\nask 1\n\
     page 2 4 13 0\n01 rwa- ---- 0\nto 00 00 00 00 00\nee\n\
     begin 0\nrequest 0\nrequest 7\nrequest 0\nread 0\nshort 13\nthe same image 1\nraised 0 0\nlowered 14 14\n\
     raised 0, deleted 0, gone 4, taken back 0 14 0 17\nas opened 1 1\n\
     second 0 0\nclash 0:0:0 1:0:2 2:2:0 2:0:0 3:0:0 1\n\
     companies 0 0 0 1:0:1 0 0 18 18 10 20\n\
+    parents 0 0 19 19 19 19 0 0 20 20 (1) 0 0 0 0 17 1\n\
     start_in 11 16 16 0\nprofile 2 1 3 0 3\nask 0 2 0\nopen_in 11 0 1\ndistinguish_in 16 0\n\
-    replay 0\nreplies 0 7 0 238\nbegin 0\ndistinguish 1\ntelling 20 80 01 00 00 00 ee\n\
+    replay 0\nreplies 0 7 0 238\nbegin 0\ndistinguish 1\ntelling 60 80 00 00 00 00 ee\n\
     compare 0 1 2 3\n";
 
 /// What `smoke` prints, with its loads of two seeds into 13 bytes, as the second implementation makes them.

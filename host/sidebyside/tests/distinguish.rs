@@ -1,48 +1,11 @@
 //! The requests that tell two images apart, carried out on both by the proved monitor and by the second implementation.
 
-use circmon::{distinguish, DISTINGUISH_BYTES, REQUEST_BYTES};
+use circmon::{distinguish, DISTINGUISH_BYTES};
 use load::Random;
 use reference::{Kind, Monitor, Object, Request, CONFLICT_CLASSES, IMAGE_BYTES, OBJECTS, SUBJECTS, TABLE_BYTES};
+use sidebyside::telling::{tells, told};
+use sidebyside::tree::parent_at;
 use sidebyside::{image, Count, SHAPES};
-
-const LEFT: u8 = 0xEE;
-
-/// The requests that tell image a from image b; bytes behind them are left.
-fn told(a: &[u8], b: &[u8], what: &str) -> Vec<Vec<u8>> {
-    let mut buffer = [LEFT; DISTINGUISH_BYTES + 7];
-    let number = usize::from(distinguish(a, b, &mut buffer));
-    assert!(number <= 4, "{what}: {number}");
-    let end = number * REQUEST_BYTES;
-    assert!(buffer[end..].iter().all(|&byte| byte == LEFT), "{what}: later bytes are left");
-    let mut exact = [LEFT; DISTINGUISH_BYTES];
-    assert_eq!(usize::from(distinguish(a, b, &mut exact)), number, "{what}: a buffer of 24 bytes");
-    assert_eq!(exact, buffer[..DISTINGUISH_BYTES], "{what}: a buffer of 24 bytes");
-    buffer[..end].chunks(REQUEST_BYTES).map(<[u8]>::to_vec).collect()
-}
-
-/// The replies of the proved monitor, from an image.
-fn proved_replies(image: &[u8], requests: &[Vec<u8>]) -> Vec<u8> {
-    let mut image = image.to_vec();
-    requests.iter().map(|request| circmon::request(&mut image, request)).collect()
-}
-
-/// The replies of the second implementation, from an image.
-fn second_replies(image: &[u8], requests: &[Vec<u8>], what: &str) -> Vec<u8> {
-    let mut monitor = Monitor::from_image(image).unwrap_or_else(|n| panic!("{what}: refused with {n}"));
-    requests.iter().map(|request| monitor.request(request)).collect()
-}
-
-/// Two different images get different replies to the requests that tell them apart, the same from both implementations.
-/// How many requests these are.
-fn tells(a: &[u8], b: &[u8], what: &str) -> usize {
-    assert_ne!(a, b, "{what}: the images differ");
-    let requests = told(a, b, what);
-    let (here, there) = (proved_replies(a, &requests), proved_replies(b, &requests));
-    assert_ne!(here, there, "{what}: {requests:02x?}");
-    assert_eq!(here, second_replies(a, &requests, what), "{what}: {requests:02x?}");
-    assert_eq!(there, second_replies(b, &requests, what), "{what}: {requests:02x?}");
-    requests.len()
-}
 
 /// A state that a run reaches.
 fn reached(random: &mut Random, requests: usize) -> Monitor {
@@ -118,6 +81,7 @@ enum Thing {
     Enrolment,
     Life,
     Owner,
+    Parent,
     Label,
     Companies,
     Right,
@@ -125,10 +89,22 @@ enum Thing {
     Clearance,
 }
 
-const THINGS: [Thing; 8] = {
+const THINGS: [Thing; 9] = {
     use Thing::*;
-    [Enrolment, Life, Owner, Label, Companies, Right, Access, Clearance]
+    [Enrolment, Life, Owner, Parent, Label, Companies, Right, Access, Clearance]
 };
+
+impl Thing {
+    /// How many requests tell it: a parent a delete and a create, a clearance a reading of a new object, which takes three, or four
+    /// where no slot is free, any other thing one.
+    fn requests(self, all_live: bool) -> usize {
+        match self {
+            Thing::Parent => 2,
+            Thing::Clearance => 3 + usize::from(all_live),
+            _ => 1,
+        }
+    }
+}
 
 /// The state with one thing changed, where that leaves another accepted state.
 fn change(random: &mut Random, monitor: &Monitor, thing: Thing) -> Option<Monitor> {
@@ -149,6 +125,11 @@ fn change(random: &mut Random, monitor: &Monitor, thing: Thing) -> Option<Monito
             }
         }
         Thing::Owner => other.objects[slot].as_mut()?.owner = subject,
+        Thing::Parent => {
+            let live: Vec<usize> = (0..OBJECTS).filter(|&it| monitor.objects[it].is_some()).collect();
+            let parent = live.get(random.below(live.len() + 1)).copied();
+            other.objects[*live.get(random.below(live.len().max(1)))?].as_mut()?.parent = parent;
+        }
         Thing::Label => {
             let label = &mut other.objects[slot].as_mut()?.label;
             *label = if label.is_some() && random.once_in(2) { None } else { Some(level) };
@@ -167,8 +148,8 @@ fn change(random: &mut Random, monitor: &Monitor, thing: Thing) -> Option<Monito
 
 /// Of states from seeds, with every slot live or as the run left them, each thing changed alone, where that gives an accepted
 /// state: for each thing, how often how many requests told.
-fn one_thing(seeds: std::ops::Range<u64>, all_live: bool) -> [[usize; 5]; 8] {
-    let mut seen = [[0usize; 5]; 8];
+fn one_thing(seeds: std::ops::Range<u64>, all_live: bool) -> [[usize; 5]; 9] {
+    let mut seen = [[0usize; 5]; 9];
     for seed in seeds {
         let random = &mut Random::new(seed);
         let requests = random.below(500);
@@ -198,13 +179,10 @@ fn images_that_differ_in_one_thing() {
     for (row, thing) in seen.iter().zip(&THINGS) {
         let pairs: usize = row.iter().sum();
         assert!(pairs > 200, "{thing:?} was changed in {pairs} pairs: {seen:?}");
-        // a clearance takes a reading, any other thing one request
-        if *thing == Thing::Clearance {
-            assert_eq!(row[3] + row[4], pairs, "{thing:?}: {seen:?}");
-            assert!(row[3] > 100, "{thing:?}: {seen:?}");
-        } else {
-            assert_eq!(row[1], pairs, "{thing:?}: {seen:?}");
-        }
+        // in some states no slot is free
+        let told = row[thing.requests(false)];
+        assert!(told > 100, "{thing:?}: {seen:?}");
+        assert_eq!(told + if *thing == Thing::Clearance { row[4] } else { 0 }, pairs, "{thing:?}: {seen:?}");
     }
 }
 
@@ -215,8 +193,7 @@ fn images_with_every_slot_live_that_differ_in_one_thing() {
         let pairs: usize = row.iter().sum();
         assert!(pairs > 100, "{thing:?} was changed in {pairs} pairs: {seen:?}");
         // where no slot is free, the reading has a delete before it
-        let requests = if *thing == Thing::Clearance { 4 } else { 1 };
-        assert_eq!(row[requests], pairs, "{thing:?}: {seen:?}");
+        assert_eq!(row[thing.requests(true)], pairs, "{thing:?}: {seen:?}");
     }
 }
 
@@ -245,7 +222,7 @@ fn equal_images_and_short_buffers() {
     }
 }
 
-/// The image with a few bits, a company number or its length changed.
+/// The image with a few bits, a company number, a parent or its length changed.
 fn damaged(random: &mut Random, image: &[u8]) -> Vec<u8> {
     let mut bytes = image.to_vec();
     match random.below(8) {
@@ -253,9 +230,10 @@ fn damaged(random: &mut Random, image: &[u8]) -> Vec<u8> {
         1 => bytes.truncate(IMAGE_BYTES - 1),
         way => {
             for _ in 0..1 + random.below(2) {
-                // the companies stand 26 bits behind the start of a record
-                let company = 8 * TABLE_BYTES + 170 * random.below(8) + 26 + random.below(16);
-                let bit = if way < 4 { company } else { random.below(8 * IMAGE_BYTES) };
+                // the companies stand 26 bits behind the start of a record, and the parent in the last seven
+                let company = 8 * TABLE_BYTES + 177 * random.below(8) + 26 + random.below(16);
+                let parent = parent_at(random.below(8)) + random.below(7);
+                let bit = [parent, company, random.below(8 * IMAGE_BYTES)][(way - 2) / 2 % 3];
                 bytes[bit / 8] ^= 0x80 >> (bit % 8);
             }
         }
@@ -291,7 +269,7 @@ fn refused_images_give_their_number_and_leave_every_byte() {
             tells(&one, &good, &format!("seed {seed}"));
         }
     }
-    for number in [6, 8, 10, 11, 12, 18] {
+    for number in [6, 8, 10, 11, 12, 18, 19, 20] {
         assert!(first.of(number) > 0, "{number} was not met: {first:?}");
     }
     assert!(second.numbers() >= 3, "{second:?}");

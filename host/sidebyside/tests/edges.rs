@@ -1,6 +1,6 @@
 //! The edges of every range and length, the last that is allowed and the first that is not, given to both implementations:
 //! subject 15 and 16, object 63 and 64, mode 4 and 5, requests of 5, 6 and 7 bytes, tables of 41, 42 and 43, and buffers of
-//! 1,401 and 1,402, for a page of 257 and 258.
+//! 1,457 and 1,458, for a page of 257 and 258.
 
 use circmon::REQUEST_BYTES;
 use reference::{reply, Level, Monitor, IMAGE_BYTES, OBJECTS, SUBJECTS, TABLE_BYTES};
@@ -77,17 +77,17 @@ fn tables_of_41_42_and_43_bytes() {
 }
 
 #[test]
-fn buffers_of_1401_and_1402_bytes() {
+fn buffers_of_1457_and_1458_bytes() {
     let both = everyone();
     let table = both.monitor.table();
-    for (length, number) in [(1274, reply::SHORT_BUFFER), (1401, reply::SHORT_BUFFER), (1402, 0), (1403, 0)] {
+    for (length, number) in [(1402, reply::SHORT_BUFFER), (1457, reply::SHORT_BUFFER), (1458, 0), (1459, 0)] {
         let (mut proved, mut second) = (vec![LEFT; length], vec![LEFT; length]);
         assert_eq!(circmon::begin(&table, &mut proved), number, "{length} bytes");
         assert_eq!(both.monitor.write_image(&mut second), number, "{length} bytes");
         assert_eq!(proved, second, "{length} bytes");
         let kept = if number == 0 { IMAGE_BYTES } else { 0 };
         assert!(proved[kept..].iter().all(|&byte| byte == LEFT), "{length} bytes: what is left");
-        let read = if length == 1402 { 0 } else { reply::LENGTH };
+        let read = if length == 1458 { 0 } else { reply::LENGTH };
         assert_eq!(circmon::read(&proved), read, "{length} bytes");
         assert_eq!(Monitor::from_image(&second).err().unwrap_or(0), read, "{length} bytes");
     }

@@ -43,11 +43,12 @@ fn image_said(rows: &Rows) -> Vec<u8> {
             bits.number(4, (*rights).into());
             bits.number(4, (*held).into());
         }
+        bits.number(7, rest[8].into());
     }
     bits.bytes()
 }
 
-/// Most subjects are enrolled, and where an object is not live the bytes say no owner, label, company, right or access.
+/// Most subjects are enrolled, and where an object is not live the bytes say no owner, label, company, right, access or parent.
 fn rows_of_a_monitor(random: &mut Random) -> Rows {
     let mut rows = rows_with_subjects(random);
     for object in 0..OBJECTS {
@@ -55,7 +56,7 @@ fn rows_of_a_monitor(random: &mut Random) -> Rows {
         if rest[0] != 1 {
             rest[1] = 0;
             rest[2] = rest[2].max(2) * u8::from(random.once_in(2));
-            rest[6..8].fill(0);
+            rest[6..9].fill(0);
             rows[object] = [0; SUBJECTS];
             rows[HELD + object] = [0; SUBJECTS];
         }

@@ -1,13 +1,13 @@
 //! Every byte of a unit when it is asked and takes back: of units that were begun, and of units with any bytes in them. What the rows
 //! of the journal become is computed from their layout (`sidebyside::journal_rows`).
 
-use circmon::{Rows, Unit, MONITOR_ROWS};
+use circmon::{Rows, Unit, MONITOR_ROWS, OBJECTS};
 use load::Random;
 use reference::{Journaled, Monitor, Request};
 use sidebyside::history::EMPTY;
-use sidebyside::journal_rows::{count, entered, latest, object, record, taken_back, RING};
+use sidebyside::journal_rows::{count, emptied, entered, latest, object, record, taken_back, RING};
 use sidebyside::orders::Met;
-use sidebyside::rows::{self, monitor_said, REST};
+use sidebyside::rows::{self, is_live, monitor_said, REST};
 use sidebyside::{random_rows, rows_with_subjects, shape};
 
 /// Takes back, and every byte is as the layout says.
@@ -20,8 +20,14 @@ fn check_taken_back(unit: &mut Unit, what: &str) -> u8 {
     number
 }
 
-/// Asks, and every byte of the journal is as the layout says; of the monitor only the record of the object may change.
-fn check_asked(unit: &mut Unit, request: &[u8], what: &str) -> u8 {
+/// The objects that are live before and not after.
+fn gone(before: &Rows, after: &Rows) -> Vec<usize> {
+    (0..OBJECTS).filter(|&object| is_live(before, object) && !is_live(after, object)).collect()
+}
+
+/// Asks, and every byte of the journal is as the layout says; of the monitor only the record of the object may change, and those
+/// that a delete took with it.
+fn check_asked(unit: &mut Unit, request: &[u8], what: &str, met: &mut Met) -> u8 {
     let before = *unit.rows();
     let reply = unit.ask(request);
     let what = format!("{what}: {request:02x?} gets {reply}");
@@ -31,9 +37,14 @@ fn check_asked(unit: &mut Unit, request: &[u8], what: &str) -> u8 {
         return reply;
     }
     let object = Request::decode(request).expect("a request that is granted").object;
-    let mut expected = entered(&before, object);
-    for row in record(object) {
+    let gone = gone(&before, unit.rows());
+    let mut expected = if gone.len() > 1 { emptied(&before) } else { entered(&before, object) };
+    for row in gone.iter().chain([&object]).flat_map(|&object| record(object)) {
         expected[row] = unit.rows()[row];
+    }
+    if gone.len() > 1 {
+        met.note("emptied by a delete");
+        assert!(gone.iter().flat_map(|&object| record(object)).all(|row| unit.rows()[row] == [0; 16]), "{what}");
     }
     assert!(*unit.rows() == expected, "{what}, and a byte is not as it should be");
     reply
@@ -96,12 +107,14 @@ fn asking_and_taking_back_on_any_bytes() {
                 met.note(format!("number {}", check_taken_back(&mut unit, &what)));
             } else {
                 let request = load::bytes(random, shape(seed), &monitor_said(unit.rows()));
-                met.note(format!("reply {}", check_asked(&mut unit, &request, &what).min(2)));
+                let reply = check_asked(&mut unit, &request, &what, &mut met);
+                met.note(format!("reply {}", reply.min(2)));
             }
         }
     }
     println!("{met:#?}");
     met.check(1000, &["number 0", "number 17", "reply 0", "reply 1", "reply 2"]);
+    met.check(100, &["emptied by a delete"]);
 }
 
 #[test]
@@ -121,10 +134,13 @@ fn every_byte_of_a_unit_that_was_begun() {
                 met.note(format!("number {number}"));
             } else {
                 let request = load::bytes(random, shape, &second.monitor);
-                let reply = unit.ask(&request);
+                let (reply, before) = (unit.ask(&request), expected);
                 assert_eq!(second.request(&request), reply, "seed {seed}, step {at}");
-                if reply == 0 {
-                    expected = entered(&expected, Request::decode(&request).expect("it is granted").object);
+                if gone(&before, unit.rows()).len() > 1 {
+                    expected = emptied(&before);
+                    met.note("emptied by a delete");
+                } else if reply == 0 {
+                    expected = entered(&before, Request::decode(&request).expect("it is granted").object);
                 }
                 met.note(format!("ring {}", count(&expected)));
             }
@@ -134,6 +150,7 @@ fn every_byte_of_a_unit_that_was_begun() {
     }
     println!("{met:#?}");
     met.check(200, &["number 0", "number 17", "ring 0", "ring 1", "ring 31", "ring 32"]);
+    met.check(100, &["emptied by a delete"]);
 }
 
 #[test]

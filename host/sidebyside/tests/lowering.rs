@@ -35,12 +35,12 @@ impl Asked {
     }
 
     /// In a secure state nobody reads or writes what has no label, and the label that is there breaks nothing: only a raise
-    /// may be refused with 8 or 9, where somebody holds something.
+    /// may be refused with 8 or 9, where somebody holds something. A first label or a raise may break the rule of parent and child.
     fn replies(self) -> &'static [u8] {
         match self {
-            Asked::First => &[reply::CHANGED],
+            Asked::First => &[reply::CHANGED, reply::PARENT_LABEL],
             Asked::Same => &[reply::ALREADY],
-            Asked::Raised => &[reply::CHANGED, reply::SIMPLE, reply::STAR],
+            Asked::Raised => &[reply::CHANGED, reply::SIMPLE, reply::STAR, reply::PARENT_LABEL],
             Asked::Below | Asked::Apart => &[reply::LOWERED],
         }
     }

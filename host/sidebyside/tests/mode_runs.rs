@@ -20,7 +20,7 @@ fn accesses(monitor: &Monitor, subject: usize) -> Vec<(usize, Mode)> {
 #[test]
 fn what_is_held_already_is_granted_whatever_else_is_held() {
     let mut beside = Met::default();
-    for seed in 0..40 {
+    for seed in 0..200 {
         let (table, list) = drawn(seed, shape(seed), 500);
         let mut both = Both::new(Monitor::from_table(&table).unwrap());
         both.monitor.star = Star::Tabled;

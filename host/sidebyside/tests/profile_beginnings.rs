@@ -71,7 +71,7 @@ fn note_levels(monitor: &Monitor, met: &mut Met) {
 #[test]
 fn images_under_profiles() {
     let mut met = Met::default();
-    for seed in 0..6000 {
+    for seed in 0..9000 {
         let random = &mut Random::new(seed);
         let profile = profiles::drawn(random);
         let mut monitor = profiles::reached(random, profile, 250);
@@ -93,7 +93,7 @@ fn images_under_profiles() {
         50,
         &["the enrolled bit beyond", "the live bit beyond", "16 by a clearance alone", "16 by a label alone"],
     );
-    let numbers = [0, 10, 11, 16, 12, 6, 7, 8, 9, 18].map(|number| format!("image {number}"));
+    let numbers = [0, 10, 11, 16, 12, 6, 7, 8, 9, 18, 19, 20].map(|number| format!("image {number}"));
     met.check(30, &numbers.each_ref().map(String::as_str));
 }
 
@@ -189,6 +189,11 @@ fn the_order_of_the_checks() {
     let (read, append) = (Mode::Read.bit(), Mode::Append.bit());
     // each fault comes before those that were made earlier
     fault(&|it| {
+        it.objects[4].as_mut().unwrap().label = Some(Level { class: 0, needs: 0 });
+        it.objects[4].as_mut().unwrap().parent = Some(3);
+    });
+    fault(&|it| it.objects[3].as_mut().unwrap().parent = Some(5));
+    fault(&|it| {
         for (object, company) in [(2, 1), (3, 15)] {
             on(it, object, 1, read, read);
             it.objects[object].as_mut().unwrap().companies[1] = company;
@@ -205,7 +210,7 @@ fn the_order_of_the_checks() {
     fault(&|it| on(it, 3, 15, read, 0));
     fault(&|it| it.objects[2].as_mut().unwrap().label = Some(Level { class: 2, needs: 1 }));
     fault(&|it| it.objects[63] = Some(Object::new(0)));
-    assert_eq!(numbers, [0, 18, 9, 8, 7, 6, 12, 16, 11]);
+    assert_eq!(numbers, [0, 20, 19, 18, 9, 8, 7, 6, 12, 16, 11]);
     assert_eq!(opened(random, profile, &image(&monitor)[..IMAGE_BYTES - 1], "another length"), reply::LENGTH);
     let mut table = monitor.table();
     assert_eq!(started(random, profile, &table, "the clearances are inside"), 0);

@@ -49,7 +49,7 @@ fn changed(random: &mut Random, monitor: &Monitor) -> Option<(&'static str, Moni
     let Profile { subjects, objects, highest_class, needs } = monitor.profile;
     let level = load::inside(monitor.profile, Level { class: random.below(16) as u8, needs: random.number() as u16 });
     let (subject, slot) = (random.below(subjects.into()), random.below(objects.into()));
-    let name = match random.below(7) {
+    let name = match random.below(8) {
         0 => {
             other.subjects[subject] = if monitor.subjects[subject].is_some() { None } else { Some(level) };
             "enrolment"
@@ -74,6 +74,11 @@ fn changed(random: &mut Random, monitor: &Monitor) -> Option<(&'static str, Moni
         5 => {
             other.objects[slot].as_mut()?.rights[subject] ^= random.mode().bit();
             "right"
+        }
+        6 => {
+            let parent = random.below(usize::from(objects) + 1).checked_sub(1);
+            other.objects[slot].as_mut()?.parent = parent;
+            "parent"
         }
         _ => {
             let object = other.objects[slot].as_mut()?;
@@ -110,14 +115,15 @@ fn states_of_one_profile_that_differ_in_one_thing() {
             let what = format!("seed {seed}, {name}, {profile:?}");
             for (a, b) in [(&monitor, &other), (&other, &monitor)] {
                 let count = check(a, b, &what);
+                assert_eq!(count == 2, name == "parent", "{what}: {count} requests");
                 met.note(name);
                 met.note(format!("{count} requests"));
             }
         }
     }
     println!("{met:#?}");
-    met.check(200, &["enrolment", "clearance", "life", "owner", "label", "right", "access"]);
-    met.check(200, &["1 requests", "3 requests", "4 requests"]);
+    met.check(200, &["enrolment", "clearance", "life", "owner", "label", "right", "access", "parent"]);
+    met.check(200, &["1 requests", "2 requests", "3 requests", "4 requests"]);
     profiles::check_narrow(&met, 50);
 }
 

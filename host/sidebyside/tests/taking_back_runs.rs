@@ -74,12 +74,13 @@ fn check(met: &Met, often: usize) {
     met.check(often, &["a delete with rights and accesses of others", "a label lowered", "a label ended"]);
     met.check(often, &["first companies taken back", "other companies restored", "a delete with companies"]);
     met.check(often, &["a journal emptied", "a full journal emptied"]);
+    met.check(often / 3, &["emptied by a delete", "a delete of a child"]);
     met.check(often, &["17 after a beginning from an image of a monitor with entries"]);
 }
 
-/// Every number up to 18 counts, also those that no request gets.
+/// Every number up to 20 counts, also those that no request gets.
 fn requests(met: &Met) -> usize {
-    (0..=reply::WALL).map(|number| met.of(&format!("reply {number}"))).sum()
+    (0..=reply::PARENT_LABEL).map(|number| met.of(&format!("reply {number}"))).sum()
 }
 
 #[test]

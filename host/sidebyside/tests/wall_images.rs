@@ -1,16 +1,17 @@
 //! Images with companies: refused with 18 by each rule, with 11 where a number stands in a record that is not live, accepted without a
 //! label; by both implementations, and told apart by companies.
 
-use circmon::{distinguish_in, DISTINGUISH_BYTES, REQUEST_BYTES};
 use load::{Random, Shape};
 use reference::{Kind, Monitor, Profile, Request, CONFLICT_CLASSES, IMAGE_BYTES, OBJECTS, SUBJECTS};
 use sidebyside::orders::Met;
+use sidebyside::telling::told_in;
+use sidebyside::tree::parent_at;
 use sidebyside::wall::{broken, Broken, NAMES};
 use sidebyside::{image, profiles};
 
 /// Where the companies of an object begin, in bits.
 fn companies_at(object: usize) -> usize {
-    8 * 42 + 170 * object + 26
+    8 * 42 + 177 * object + 26
 }
 
 /// A state of few levels, so that the wall and not the star property decides.
@@ -89,34 +90,31 @@ fn numbers_changed_in_images() {
 }
 
 #[test]
-fn images_of_the_former_size_are_refused_by_their_length() {
+fn images_of_former_sizes_are_refused_by_their_length() {
     for seed in 0..50 {
         let bytes = image(&reached(&mut Random::new(seed)));
-        assert_eq!((bytes.len(), IMAGE_BYTES), (1402, 1402));
-        for length in [1274, 1273, 1275, 1401] {
+        assert_eq!((bytes.len(), IMAGE_BYTES), (1458, 1458));
+        for length in [1274, 1273, 1275, 1401, 1402, 1403, 1457] {
             assert_eq!(number(&bytes[..length], &format!("seed {seed}")), 10, "{length} bytes");
         }
-        // as it was written before: without the sixteen bits of each record
-        let bit = |place: usize| bytes[place / 8] >> (7 - place % 8) & 1;
-        let without: Vec<u8> = (0..8 * IMAGE_BYTES)
-            .filter(|place| {
-                (0..OBJECTS).all(|object| !(companies_at(object)..companies_at(object) + 16).contains(place))
-            })
-            .map(bit)
-            .collect();
-        let former: Vec<u8> = without.chunks(8).map(|bits| bits.iter().fold(0, |byte, bit| byte << 1 | bit)).collect();
-        assert_eq!((former.len(), number(&former, &format!("seed {seed}"))), (1274, 10));
+        // as it was written before: without the seven bits of the parent, and without the sixteen of the companies too
+        let companies = |object| companies_at(object)..companies_at(object) + 16;
+        let parent = |object| parent_at(object)..parent_at(object) + 7;
+        let no_parent = without(&bytes, |place| (0..OBJECTS).any(|object| parent(object).contains(&place)));
+        let neither = without(&bytes, |place| {
+            (0..OBJECTS).any(|object| parent(object).contains(&place) || companies(object).contains(&place))
+        });
+        for (former, length) in [(no_parent, 1402), (neither, 1274)] {
+            assert_eq!((former.len(), number(&former, &format!("seed {seed}"))), (length, 10));
+        }
     }
 }
 
-/// The requests that tell two states apart under their profile.
-fn told(a: &Monitor, b: &Monitor, what: &str) -> Vec<Request> {
-    let profile = profiles::proved(a.profile).expect("a profile in its ranges");
-    let mut buffer = [0; DISTINGUISH_BYTES];
-    let count = usize::from(distinguish_in(profile, &image(a), &image(b), &mut buffer));
-    assert!(count <= 4, "{what}: {count}");
-    let requests = buffer[..count * REQUEST_BYTES].chunks(REQUEST_BYTES);
-    requests.map(|it| a.decode(it).unwrap_or_else(|| panic!("{what}: {it:02x?} is malformed"))).collect()
+/// The bytes without some of their bits.
+fn without(bytes: &[u8], left_out: impl Fn(usize) -> bool) -> Vec<u8> {
+    let bit = |place: usize| bytes[place / 8] >> (7 - place % 8) & 1;
+    let bits: Vec<u8> = (0..8 * bytes.len()).filter(|&place| !left_out(place)).map(bit).collect();
+    bits.chunks(8).map(|bits| bits.iter().fold(0, |byte, bit| byte << 1 | bit)).collect()
 }
 
 /// States that differ in companies alone are told apart by one request of the owner, with the numbers of the first: 1 in it, and
@@ -125,7 +123,7 @@ fn told_by_companies(a: &Monitor, b: &Monitor, what: &str, met: &mut Met) {
     let object = (0..OBJECTS).find(|&object| a.objects[object] != b.objects[object]).expect("they differ");
     let it = a.objects[object].as_ref().expect("it is live");
     let expected = Request { actor: it.owner, object, kind: Kind::SetCompanies(it.companies) };
-    assert_eq!(told(a, b, what), [expected], "{what}");
+    assert_eq!(told_in(a, b, what), [expected], "{what}");
     let replies = (a.clone().step(expected), b.clone().step(expected));
     assert!(matches!(replies, (1, 0) | (1, 18)), "{what}: {replies:?}");
     met.note(format!("told by companies, {} in the other", replies.1));
@@ -159,7 +157,7 @@ fn images_that_differ_in_companies_alone() {
             let Some(other) = other_companies(random, &monitor) else { continue };
             told_by_companies(&monitor, &other, &what, &mut met);
             told_by_companies(&other, &monitor, &what, &mut met);
-            assert!(told(&other, &other, &what).is_empty(), "{what}: equal images");
+            assert!(told_in(&other, &other, &what).is_empty(), "{what}: equal images");
             // a label before it is told first, and a right behind it is not
             let differing = (0..OBJECTS).find(|&object| monitor.objects[object] != other.objects[object]);
             let object = other.objects[differing.expect("they differ")].clone().expect("it is live");
@@ -167,7 +165,7 @@ fn images_that_differ_in_companies_alone() {
             let it = given.objects[differing.expect("they differ")].as_mut().expect("it is live");
             it.rights[object.owner] ^= 0b0001 & !it.held[object.owner];
             if given.fault().is_none() && given != other {
-                let first = told(&monitor, &given, &what);
+                let first = told_in(&monitor, &given, &what);
                 assert!(matches!(first[..], [Request { kind: Kind::SetCompanies(_), .. }]), "{what}: {first:?}");
                 met.note("companies before rights");
             }
