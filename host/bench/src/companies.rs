@@ -7,9 +7,9 @@ use reference::{Companies, Kind, Level, Mode, Monitor, Profile, Request, OBJECTS
 const TOP: Level = Level { class: 15, needs: u16::MAX };
 
 /// A load that is being drawn: the state that its requests have made.
-struct Drawing {
-    monitor: Monitor,
-    requests: Vec<u8>,
+pub struct Drawing {
+    pub monitor: Monitor,
+    pub requests: Vec<u8>,
 }
 
 impl Drawing {
@@ -29,13 +29,13 @@ impl Drawing {
         it
     }
 
-    fn ask(&mut self, actor: usize, object: usize, kind: Kind) {
+    pub fn ask(&mut self, actor: usize, object: usize, kind: Kind) {
         let bytes = Request { actor, object, kind }.encode();
         self.monitor.request(&bytes);
         self.requests.extend(bytes);
     }
 
-    fn load(self, name: &str) -> Load {
+    pub fn load(self, name: &str) -> Load {
         let Drawing { monitor, requests } = self;
         Load { name: name.to_string(), profile: Profile::WIDEST, table: monitor.table(), requests }
     }

@@ -1,7 +1,7 @@
 //! The loads: each a table and requests, of one kind or mixed, on few or many objects; a test load from a seed; one under a
-//! narrow profile; and those with companies (`companies`).
+//! narrow profile; those with companies (`companies`) and those with objects under objects (`trees`).
 
-use crate::companies;
+use crate::{companies, trees};
 use load::{Random, Shape};
 use reference::{Kind, Level, Monitor, Profile, Request, REQUEST_BYTES, SUBJECTS};
 
@@ -121,6 +121,7 @@ pub fn loads() -> Vec<Load> {
     loads.push(from_seed(1));
     loads.push(small_plant());
     loads.extend(companies::loads());
+    loads.extend(trees::loads());
     loads
 }
 

@@ -13,6 +13,7 @@ mod loads;
 mod orders;
 mod requests;
 mod timing;
+mod trees;
 
 fn main() {
     match std::env::args().nth(1).as_deref() {

@@ -21,8 +21,9 @@ fn create(parent: Option<usize>) -> Kind {
     Kind::Create { execute: true, parent }
 }
 
-/// So many requests with reply 0 on o40.
-fn changes(followed: &mut Followed, met: &mut Met, count: usize) {
+/// So many requests with reply 0 on o40; the images before the first of them and after each.
+fn changes(followed: &mut Followed, met: &mut Met, count: usize) -> Vec<Vec<u8>> {
+    let mut images = vec![followed.present.clone()];
     for _ in 0..count {
         let kind = match live(&followed.second.monitor, 40).map(|it| it.rights[1]) {
             None => create(None),
@@ -30,7 +31,9 @@ fn changes(followed: &mut Followed, met: &mut Met, count: usize) {
             Some(_) => Kind::Rescind(1, Mode::Read),
         };
         granted(followed, met, 0, 40, kind);
+        images.push(followed.present.clone());
     }
+    images
 }
 
 #[test]
@@ -45,13 +48,13 @@ fn takings_back_are_counted_from_the_delete_on() {
         }
         granted(&mut followed, &mut met, 2, 0, Kind::Delete);
         assert_eq!(followed.entries(), 0);
-        let from_there = followed.present.clone();
-        changes(&mut followed, &mut met, behind);
+        let images = changes(&mut followed, &mut met, behind);
         // `Followed` compares the state after each taking-back with the history
         for at in 0..behind.min(MOST) {
             assert_eq!(followed.take_back(&mut met), 0, "{at} of {behind}, {before} before");
         }
-        assert_eq!(followed.present == from_there, behind <= MOST, "{behind} behind, {before} before");
+        // the state after the delete, or that after those whose entries gave way
+        assert_eq!(followed.present, images[behind.saturating_sub(MOST)], "{behind} behind, {before} before");
         for _ in 0..2 {
             assert_eq!(followed.take_back(&mut met), EMPTY, "{behind} behind, {before} before");
         }
