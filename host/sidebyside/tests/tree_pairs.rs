@@ -1,5 +1,5 @@
-//! Images that differ in a parent are told apart by deletions and creations alone, at most two, whatever else differs but enrolment, life
-//! and owners; equal images by nothing.
+//! Images that differ in a parent are told apart by deletions and creations alone, at most two, whatever else differs; equal images by
+//! nothing.
 
 use load::Random;
 use reference::{Kind, Monitor, Profile, Request, OBJECTS};
@@ -47,15 +47,19 @@ fn other_parents(random: &mut Random, monitor: &Monitor) -> Option<Monitor> {
     (other.fault().is_none() && other != *monitor).then_some(other)
 }
 
-/// Something else changed too that comes behind the parents: a right, a label or companies.
+/// Something else changed too: a right, a label, companies, an owner, a clearance, or who is enrolled.
 fn and_more(random: &mut Random, state: &Monitor) -> Option<Monitor> {
     let mut other = state.clone();
     let objects: Vec<usize> = (0..OBJECTS).filter(|&object| live(state, object).is_some()).collect();
     let object = other.objects[*objects.get(random.below(objects.len().max(1)))?].as_mut()?;
-    match random.below(3) {
+    let subject = random.below(usize::from(state.profile.subjects));
+    match random.below(6) {
         0 => object.rights[object.owner] ^= random.mode().bit() & !object.held[object.owner],
         1 => object.label = None,
-        _ => object.companies[0] = random.below(16) as u8,
+        2 => object.companies[0] = random.below(16) as u8,
+        3 => object.owner = subject,
+        4 => other.subjects[subject] = state.subjects[subject].map(|_| profiles::top(state.profile)),
+        _ => other.subjects[subject] = state.subjects[subject].is_none().then(|| profiles::top(state.profile)),
     }
     (other.fault().is_none() && other != *state).then_some(other)
 }
@@ -110,6 +114,32 @@ fn pairs_that_differ_in_a_parent() {
     );
 }
 
+/// The numbers in the parent bits, 0 where an object is not live.
+fn parents(monitor: &Monitor) -> Vec<usize> {
+    (0..OBJECTS).map(|object| live(monitor, object).and_then(|it| it.parent).map_or(0, |parent| parent + 1)).collect()
+}
+
+/// Any two states of one profile: who is enrolled, what is live and who owns it may differ too.
+#[test]
+fn strangers_that_differ_in_a_parent() {
+    let mut met = Met::default();
+    for seed in 0..4000 {
+        let random = &mut Random::new(seed ^ 0x57A6);
+        let profile = if seed % 2 == 0 { Profile::WIDEST } else { profiles::drawn(random) };
+        let (a, b) = (profiles::reached(random, profile, 150), profiles::reached(random, profile, 150));
+        let what = format!("seed {seed}");
+        if parents(&a) == parents(&b) {
+            met.note("the same parents");
+            continue;
+        }
+        told_by_parents(&a, &b, &what, &mut met);
+        let enrolled = |monitor: &Monitor| monitor.subjects.map(|it| it.is_some());
+        met.note(if enrolled(&a) == enrolled(&b) { "the same are enrolled" } else { "others are enrolled" });
+    }
+    println!("{met:#?}");
+    met.check(100, &["the same parents", "others are enrolled", "the same are enrolled"]);
+}
+
 /// Two chains of the same three objects at the places of a longer one, each order of the three under each other one.
 #[test]
 fn each_two_orders_of_a_chain() {
@@ -135,6 +165,5 @@ fn each_two_orders_of_a_chain() {
             }
         }
     }
-    // an object that nobody is under, and one that is under none, are told by the same two kinds
-    println!("{met:#?}");
+    met.check(100, &["2 requests"]);
 }
