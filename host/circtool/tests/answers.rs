@@ -7,8 +7,8 @@ use circmon::{Profile, Unit};
 use circtool::explain::step;
 use circtool::fault;
 use load::Random;
-use reference::{Comparison, Kind, Level, Monitor, Request};
-use sidebyside::{image, with_effect, SHAPES};
+use reference::{Comparison, Kind, Level, Monitor, Request, OBJECTS};
+use sidebyside::{image, profiles, with_effect, with_or_without_parents, SHAPES};
 use std::collections::BTreeMap;
 
 /// How often each answer was said with what is missing, by number.
@@ -123,7 +123,7 @@ fn check(number: u8, reason: &str, state: &Monitor, said: &mut Said) {
 fn requests_refused_with_14_8_9_or_20() {
     let mut said = Said::new();
     for seed in 0..300 {
-        let run = shared::run(seed, SHAPES[seed as usize % SHAPES.len()], 1000);
+        let run = shared::run(seed, with_or_without_parents(seed), 1000);
         let mut unit = Unit::from_table(&run.table).unwrap();
         let mut monitor = Monitor::from_table(&run.table).unwrap();
         for bytes in &run.requests {
@@ -144,7 +144,7 @@ fn requests_refused_with_14_8_9_or_20() {
 }
 
 /// A state in which some labels are drawn anew; for every other seed the old ones dominate them, which keeps the simple
-/// property.
+/// property. For every fourth nobody holds anything, and half of the objects are under one with a lower number.
 fn relabelled(seed: u64) -> Monitor {
     let random = &mut Random::new(seed);
     let mut monitor = load::rich(seed, 40, 3000);
@@ -153,6 +153,14 @@ fn relabelled(seed: u64) -> Monitor {
         let lower = Level { class: label.class.min(drawn.class), needs: label.needs & drawn.needs };
         if random.once_in(4) {
             *label = if seed % 2 == 0 { lower } else { drawn };
+        }
+    }
+    if seed % 4 == 3 {
+        monitor = profiles::released(&monitor);
+        let live: Vec<usize> = (0..OBJECTS).filter(|&slot| monitor.objects[slot].is_some()).collect();
+        for at in 0..live.len() {
+            let parent = (at > 0 && random.once_in(2)).then(|| live[random.below(at)]);
+            monitor.objects[live[at]].as_mut().unwrap().parent = parent;
         }
     }
     monitor

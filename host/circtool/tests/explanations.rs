@@ -16,7 +16,7 @@ use circtool::wall::Breach;
 use reference::{Kind, Monitor, Request, OBJECTS};
 use shared::second;
 use shared::trees::unruly_is_so;
-use sidebyside::{with_effect, Count, REPLIES, SHAPES};
+use sidebyside::{with_effect, with_or_without_parents, Count, REPLIES};
 
 /// That both levels are there and the first does not dominate the second, by the second implementation.
 fn not_dominated(level: Option<Level>, other: Option<Level>) {
@@ -138,7 +138,7 @@ fn taken_words(before: &Monitor, bytes: &[u8]) -> Option<String> {
 
 /// One run; counts the replies.
 fn explain_run(seed: u64, length: usize, count: &mut Count) {
-    let run = shared::run(seed, SHAPES[seed as usize % SHAPES.len()], length);
+    let run = shared::run(seed, with_or_without_parents(seed), length);
     let mut unit = Unit::from_table(&run.table).unwrap();
     let mut monitor = Monitor::from_table(&run.table).unwrap();
     for (at, bytes) in run.requests.iter().enumerate() {

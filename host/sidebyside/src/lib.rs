@@ -49,6 +49,16 @@ pub const SHAPES: [Shape; 5] = [
     Shape { objects: 64, subjects: 16, classes: 16, needs: 16, companies: 15, parents: 2, damaged: 40 },
 ];
 
+/// The shape of the run with this seed in turn as it is, and with most creates under a parent.
+pub fn with_or_without_parents(seed: u64) -> Shape {
+    let it = SHAPES[seed as usize / 2 % SHAPES.len()];
+    if seed % 2 == 0 {
+        it
+    } else {
+        Shape { parents: 7, ..it }
+    }
+}
+
 /// The long runs: so many seeds from 0 on, each with a shape and so many requests.
 pub const RUNS: u64 = 500;
 pub const RUN_REQUESTS: usize = 2200;
