@@ -11,6 +11,7 @@ use crate::properties::{self, Holding, Pair};
 use crate::tree::{self, Unruly, Wrong};
 use crate::view::{View, OBJECTS, SUBJECTS};
 use crate::wall::{self, Breach};
+use crate::words::count;
 use circmon::{IMAGE_BYTES, TABLE_BYTES};
 use std::fmt;
 
@@ -172,12 +173,7 @@ impl Fault {
 impl fmt::Display for Fault {
     fn fmt(&self, out: &mut fmt::Formatter) -> fmt::Result {
         match self {
-            Fault::Length { found: 1, expected } => write!(out, "1 byte, not {expected}"),
-            Fault::Length { found, expected } => {
-                let former = former_image(*found).filter(|_| *expected == IMAGE_BYTES);
-                let words = former.map_or(String::new(), |lacks| format!(": the size of images {lacks}"));
-                write!(out, "{found} bytes, not {expected}{words}")
-            }
+            Fault::Length { found, expected } => write!(out, "{}", length_words(*found, *expected)),
             Fault::Stray { absent, bits } => write!(out, "{absent}, and {}", stray_words(bits)),
             Fault::Outside { record, level, profile } => {
                 let whose = match record {
@@ -213,7 +209,14 @@ impl fmt::Display for Fault {
     }
 }
 
-/// What images of this size lack, which were written before; nothing of another size.
+/// Of the size of an image that was written before, that too.
+fn length_words(found: usize, expected: usize) -> String {
+    let former = former_image(found).filter(|_| expected == IMAGE_BYTES);
+    let words = former.map_or(String::new(), |from| format!(": the size of images {from}"));
+    format!("{}, not {expected}{words}", count(found, "byte", "bytes"))
+}
+
+/// What images of this size are called, which were written before; nothing of another size.
 pub fn former_image(bytes: usize) -> Option<&'static str> {
     match bytes {
         BYTES_WITHOUT_PARENTS => Some("from before objects had parents"),

@@ -200,14 +200,6 @@ fn messages_name_the_check_and_the_place() {
         "a.img: image refused with 11 (a bit is set in what is absent)\n  \
          object record 63 is not live, and the bit at byte 1457, mask 0x01 (parent) is set\n"
     );
-    for (length, more) in [
-        (1457, ""),
-        (1402, ": the size of images from before objects had parents"),
-        (1274, ": the size of images from before objects had companies and parents"),
-    ] {
-        let expected = format!("a.img: image refused with 10 (another length)\n  {length} bytes, not 1458{more}\n");
-        assert_eq!(message(&empty[..length]), expected);
-    }
     let live = flipped(&empty, 42 * 8);
     assert_eq!(
         message(&live),
@@ -217,6 +209,19 @@ fn messages_name_the_check_and_the_place() {
     let label = flipped(&flipped(&flipped(&empty, 0), 42 * 8), 42 * 8 + 5 + 4);
     assert!(matches!(fault::of_image(WIDEST, &label)[..], [Fault::Stray { absent: Absent::LabelOf(0), .. }]));
     assert!(message(&label).contains("object record 0 has no label, and the bit at byte 43, mask 0x40 (class) is set"));
+}
+
+#[test]
+fn messages_name_the_size() {
+    let empty = vec![0; IMAGE_BYTES];
+    for (length, more) in [
+        (1457, ""),
+        (1402, ": the size of images from before objects had parents"),
+        (1274, ": the size of images from before objects had companies and parents"),
+    ] {
+        let expected = format!("a.img: image refused with 10 (another length)\n  {length} bytes, not 1458{more}\n");
+        assert_eq!(message(&empty[..length]), expected);
+    }
 }
 
 #[test]

@@ -212,6 +212,14 @@ fn the_order_of_the_checks() {
     fault(&|it| it.objects[63] = Some(Object::new(0)));
     assert_eq!(numbers, [0, 20, 19, 18, 9, 8, 7, 6, 12, 16, 11]);
     assert_eq!(opened(random, profile, &image(&monitor)[..IMAGE_BYTES - 1], "another length"), reply::LENGTH);
+}
+
+#[test]
+fn the_order_of_the_checks_of_a_table() {
+    let profile = Profile { subjects: 3, objects: 5, highest_class: 2, needs: 0b110 };
+    let random = &mut Random::new(1);
+    let mut monitor = Monitor::begin_in(profile, [None; SUBJECTS]);
+    monitor.subjects[..3].fill(Some(top(profile)));
     let mut table = monitor.table();
     assert_eq!(started(random, profile, &table, "the clearances are inside"), 0);
     table[0] |= 0x78;

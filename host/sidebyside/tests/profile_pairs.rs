@@ -46,7 +46,7 @@ fn check(a: &Monitor, b: &Monitor, what: &str) -> usize {
 /// The state with one thing changed, where that leaves another accepted state of the profile.
 fn changed(random: &mut Random, monitor: &Monitor) -> Option<(&'static str, Monitor)> {
     let mut other = monitor.clone();
-    let Profile { subjects, objects, highest_class, needs } = monitor.profile;
+    let Profile { subjects, objects, .. } = monitor.profile;
     let level = load::inside(monitor.profile, Level { class: random.below(16) as u8, needs: random.number() as u16 });
     let (subject, slot) = (random.below(subjects.into()), random.below(objects.into()));
     let name = match random.below(8) {
@@ -62,32 +62,42 @@ fn changed(random: &mut Random, monitor: &Monitor) -> Option<(&'static str, Moni
             other.objects[slot] = monitor.objects[slot].is_none().then(|| Object::new(subject));
             "life"
         }
-        3 => {
-            other.objects[slot].as_mut()?.owner = subject;
-            "owner"
-        }
-        4 => {
-            let top = Level { class: highest_class, needs };
-            other.objects[slot].as_mut()?.label = [None, Some(level), Some(top)][random.below(3)];
-            "label"
-        }
-        5 => {
-            other.objects[slot].as_mut()?.rights[subject] ^= random.mode().bit();
-            "right"
-        }
-        6 => {
-            let parent = random.below(usize::from(objects) + 1).checked_sub(1);
-            other.objects[slot].as_mut()?.parent = parent;
-            "parent"
-        }
-        _ => {
-            let object = other.objects[slot].as_mut()?;
-            object.held[subject] ^= object.rights[subject] & random.mode().bit();
-            "access"
-        }
+        _ => changed_record(random, monitor.profile, other.objects[slot].as_mut()?, subject, level),
     };
     let accepted = Monitor::from_image_in(other.profile, &image(&other)).is_ok();
     (accepted && other != *monitor).then_some((name, other))
+}
+
+/// One thing of a live object, and its name.
+fn changed_record(
+    random: &mut Random,
+    profile: Profile,
+    object: &mut Object,
+    subject: usize,
+    level: Level,
+) -> &'static str {
+    match random.below(5) {
+        0 => {
+            object.owner = subject;
+            "owner"
+        }
+        1 => {
+            object.label = [None, Some(level), Some(profiles::top(profile))][random.below(3)];
+            "label"
+        }
+        2 => {
+            object.rights[subject] ^= random.mode().bit();
+            "right"
+        }
+        3 => {
+            object.parent = random.below(usize::from(profile.objects) + 1).checked_sub(1);
+            "parent"
+        }
+        _ => {
+            object.held[subject] ^= object.rights[subject] & random.mode().bit();
+            "access"
+        }
+    }
 }
 
 /// Every slot of the profile gets an object, where somebody is enrolled.
