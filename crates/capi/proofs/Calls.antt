@@ -76,7 +76,7 @@ calls-from-image a ha A bs =
     subst (λ (x : List ℕ). (numbers bs x ≡ replies bs (readImage widest a .monitor)) × (bytesLeft bs x ≡ imageOf (after bs (readImage widest a .monitor))))
     (written-back widest a ha A) (calls-image bs (readImage widest a .monitor) (sound-begun (image widest a) A) (begun-profile (image widest a) A))
 
--- the same in a buffer of 1,402 bytes into which `circmon_begin` wrote
+-- the same in a buffer of 1,458 bytes into which `circmon_begin` wrote
 pub calls-from-table : (t buffer : List ℕ) → length buffer ≡ imageSize → Accepted (table widest t) → (bs : List (List ℕ))
     → (numbers bs (beginBytes t buffer) ≡ replies bs (readTable widest t .monitor)) × (bytesLeft bs (beginBytes t buffer) ≡ imageOf (after bs (readTable widest t .monitor)))
 calls-from-table t buffer size A bs =

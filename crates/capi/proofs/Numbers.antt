@@ -49,13 +49,13 @@ pub begin-table-refused : (t buffer : List ℕ) → 2 ≤ number (readTable wide
     → (beginNumber t buffer ≡ number (readTable widest t .decision)) × (beginBytes t buffer ≡ buffer)
 begin-table-refused t buffer h = turned (begin-refused t buffer (readTable widest t .decision) refl (refusing (readTable widest t .decision) h) _ refl)
 
--- an accepted one and a buffer under 1,402 bytes: 13, and every byte left
+-- an accepted one and a buffer under 1,458 bytes: 13, and every byte left
 pub begin-13 : (t buffer : List ℕ) → Accepted (table widest t) → length buffer < imageSize → (beginNumber t buffer ≡ 13) × (beginBytes t buffer ≡ buffer)
 begin-13 t buffer A h =
     let p = turned (begin-written t buffer (readTable widest t .decision) refl (ap refuses A) _ (writing buffer) refl refl _ refl) in
     (p .0 ∙ write-13-exactly buffer .1 h, p .1 ∙ write-13-leaves _ buffer h)
 
--- else 0: the image of the monitor begun from the table in the first 1,402 bytes, and any later byte left
+-- else 0: the image of the monitor begun from the table in the first 1,458 bytes, and any later byte left
 pub begin-0 : (t buffer : List ℕ) → Accepted (table widest t) → imageSize ≤ length buffer
     → (beginNumber t buffer ≡ 0) × (beginBytes t buffer ≡ imageOf (readTable widest t .monitor) ++ drop imageSize buffer)
 begin-0 t buffer A h =

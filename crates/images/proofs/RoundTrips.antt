@@ -75,7 +75,7 @@ pub write-13-leaves : (m : Monitor) (buffer : List ℕ) → length buffer < imag
 unfolding written
 write-13-leaves m buffer h = filled-short imageSize imageSize (imageOf m) buffer h
 
--- 0 fills the first 1,402 bytes of the lent buffer "and leaves any later byte", and there are as many bytes as before
+-- 0 fills the first 1,458 bytes of the lent buffer "and leaves any later byte", and there are as many bytes as before
 pub write-0-fills : (m : Monitor) (buffer : List ℕ) → imageSize ≤ length buffer → written m buffer ≡ imageOf m ++ drop imageSize buffer
 unfolding written
 write-0-fills m buffer h = filled-front imageSize imageSize (imageOf m) buffer h
