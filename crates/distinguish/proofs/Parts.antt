@@ -10,7 +10,7 @@ use Rattle.model.specs.declared.Label.the-variants.{Absent, Present}
 use Rattle.model.specs.declared.Monitor.{Monitor}
 use Rattle.model.specs.declared.Request.{Request}
 use Rattle.model.specs.State.{clearance, object}
-use Rattle.telling.specs.Distinguish.{orElse, search, searchModes, byEnrolment, byLife, byOwner, byLifeAndOwner, byParent, byStanding, byLabel, byCompanies, byRight, byAccess, byObject, freeBelow, readAt, toClearance, byClearance, distinguish}
+use Rattle.telling.specs.Distinguish.{orElse, search, searchModes, byEnrolment, byLife, byOwner, byLifeAndOwner, byStanding, byLabel, byCompanies, byRight, byAccess, byObject, freeBelow, readAt, toClearance, byClearance, distinguish}
 use Rattle.differences.specs.declared.sequence.Sequence.{Sequence}
 use Rattle.differences.specs.Sequences.{found, readingAt, requestsOf}
 use Rattle.differences.specs.Records.{lifeApart, ownerApart, standingApart, standingsApart, parentsApart, companiesApart, modeApart, setApart, rowApart, objectApart, objectsApart, enrolmentApart, enrolmentsApart, freePlace, levelApart, clearanceApart, clearancesApart}

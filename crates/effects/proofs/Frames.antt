@@ -3,7 +3,7 @@
 use Prim.Native.Nat.{ℕ, _<_}
 use mathlib.Core.Path.{_≡_, refl, sym, ap, _∙_, subst}
 use mathlib.Core.Logic.{_≢_, _⊎_, inl, inr}
-use mathlib.Core.Bool.{Bool, true, false, not}
+use mathlib.Core.Bool.{true, false, not}
 use mathlib.Core.List.{List, [], _∷_}
 use lib.ListN.{getD, set}
 use Rattle.model.specs.declared.Object.{Object}
@@ -12,13 +12,11 @@ use Rattle.model.specs.declared.Mode.{Mode}
 use Rattle.model.specs.declared.Creation.{Creation}
 use Rattle.model.specs.declared.Request.{Request}
 use Rattle.model.specs.declared.Request.the-variants.{Get, Release, Give, Rescind, Create, Delete, ChangeLevel, SetCompanies}
-use Rattle.model.specs.declared.Decoded.the-variants.{Says}
 use Rattle.model.specs.declared.Decision.the-variants.{Granted}
 use Rattle.model.specs.declared.Response.{Response}
 use Rattle.model.specs.Modes.{has, add, remove}
 use Rattle.model.specs.State.{objectCount, noObject, objectAt, object, rightsOf, heldBy, WellFormed}
-use Rattle.model.specs.Hierarchy.{parentAt, Below, below}
-use Rattle.model.specs.Requests.{decode}
+use Rattle.model.specs.Hierarchy.{parentAt, below}
 use Rattle.model.specs.Rules.{target, changed, spared, checks, created, step}
 use Rattle.model.specs.Runs.{respond, after}
 use Rattle.model.proofs.Tests.{set-all, cond-all, split, apart, clash, not-on, and-both, or-right}

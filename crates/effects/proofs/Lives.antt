@@ -2,7 +2,7 @@
 -- leaves is gone exactly if it is the object or below it.
 -- Assumes nothing.
 use Prim.Native.Nat.{ℕ, _<_}
-use mathlib.Core.Path.{_≡_, refl, sym, ap, _∙_, subst}
+use mathlib.Core.Path.{_≡_, refl, ap, _∙_, subst}
 use mathlib.Core.Logic.{_⊎_, inl, inr, ⊎-elim, _↔_}
 use mathlib.Core.Bool.{Bool, true, false}
 use mathlib.Core.List.{List}
@@ -22,7 +22,7 @@ use Rattle.model.specs.Runs.{respond, reply}
 use Rattle.model.specs.Beginnings.{Reached}
 use Rattle.model.proofs.Tests.{apart}
 use Rattle.model.proofs.Requests.{decode-range}
-use Rattle.invariants.proofs.Hierarchy.{Goes, goes, goes-or-stays, child-goes}
+use Rattle.invariants.proofs.Hierarchy.{Goes, goes, goes-or-stays}
 use Rattle.invariants.proofs.Steps.{respond-all, step-granted}
 use Rattle.invariants.proofs.Outcomes.{reply-granted}
 use Rattle.images.proofs.Reached.{sound-reached, respond-says}

@@ -19,7 +19,7 @@ use Rattle.model.specs.Writing.{writing, written}
 use Rattle.model.specs.Beginnings.{Beginning, Accepted, left, Reached, AllBytes}
 use Rattle.model.proofs.Packing.{pack-bytes}
 use Rattle.model.proofs.Equal.{state-same}
-use Rattle.telling.specs.Distinguish.{orElse, search, byEnrolment, byLifeAndOwner, byParent, byStanding, byObject, byClearance, distinguish}
+use Rattle.telling.specs.Distinguish.{search, byEnrolment, byLifeAndOwner, byParent, byStanding, byObject, byClearance, distinguish}
 use Rattle.invariants.specs.Sound.{Sound}
 use Rattle.images.proofs.Trips.{image-tells}
 use Rattle.images.specs.Tables.{beginningProfile}

@@ -4,7 +4,7 @@
 use Prim.Native.Nat.{ℕ, zero, suc, _<_, _≤_}
 use native.Mathlib.Omega.{arith}
 use mathlib.Core.Path.{_≡_, refl, sym, ap, _∙_, subst}
-use mathlib.Core.Logic.{_≢_, _↔_, inl, inr, ⊎-elim}
+use mathlib.Core.Logic.{_≢_, _↔_, inr, ⊎-elim}
 use mathlib.Core.Bool.{Bool, true, false, cond, not, _&&_}
 use mathlib.Core.List.{List, [], _∷_}
 use lib.ListN.{length}
@@ -20,7 +20,7 @@ use Rattle.model.specs.State.{enrolled, object}
 use Rattle.model.specs.Hierarchy.{parentAt, Meets, here, Below, below, parentLive}
 use Rattle.model.specs.Requests.{creation}
 use Rattle.model.specs.Rules.{afterwards, checks}
-use Rattle.model.proofs.Tests.{split, clash, cond-all, pass, stop, distinct}
+use Rattle.model.proofs.Tests.{split, cond-all, pass, stop, distinct}
 use Rattle.model.proofs.Tests as tests
 use Rattle.model.proofs.Hierarchy.{live-in, meets-decides}
 use Rattle.model.proofs.Chains.{below-below, meets-first, meets-none, not-below-itself}

@@ -5,13 +5,13 @@ use Prim.Native.Nat.{ℕ, zero, suc, _<_, _≤_}
 use native.Mathlib.Omega.{arith}
 use mathlib.Core.Path.{_≡_, refl, sym, ap, _∙_, subst}
 use mathlib.Core.Logic.{_≢_}
-use mathlib.Core.Bool.{Bool, true, false, cond, _&&_}
+use mathlib.Core.Bool.{Bool, true, false, _&&_}
 use mathlib.Core.List.{List, [], _∷_, map}
 use lib.ListN.{length}
 use lib.Dec.{eqb}
 use Rattle.model.specs.declared.Monitor.{Monitor}
 use Rattle.model.specs.declared.Request.{Request}
-use Rattle.model.specs.declared.Request.the-variants.{Get, Release, Give, Rescind, Create, Delete, ChangeLevel, SetCompanies}
+use Rattle.model.specs.declared.Request.the-variants.{Create, Delete}
 use Rattle.model.specs.State.{object}
 use Rattle.model.specs.Hierarchy.{below}
 use Rattle.model.specs.Requests.{creation, encode}
@@ -21,9 +21,9 @@ use Rattle.model.proofs.Tests.{cond-all}
 use Rattle.telling.specs.Distinguish.{orElse, search, when, differ, byEnrolment, byLife, byOwner, byLifeAndOwner, byBelow, toParent, byParent, byStanding, distinguish}
 use Rattle.invariants.specs.Sound.{Sound}
 use Rattle.images.proofs.Reached.{sound-reached}
-use Rattle.equal_images.specs.Inputs.{AllFormed, DeletesOrCreates, OnlyThese}
+use Rattle.equal_images.specs.Inputs.{OnlyThese}
 use Rattle.equal_images.proofs.Probes.{Differs, alike, apart}
-use Rattle.equal_images.proofs.Demand3.{Standing, probe-standing}
+use Rattle.equal_images.proofs.Demand3.{probe-standing}
 
 -- ---- a list of at most two deletions and creations, on every two monitors
 

@@ -1,17 +1,14 @@
 -- The rows after a deletion say the state after it, and have no byte without a meaning that was not there before.
 -- Assumes nothing.
-use Prim.Native.Nat.{ℕ, _≤_, _<_}
+use Prim.Native.Nat.{ℕ, _<_}
 use native.Mathlib.Omega.{arith}
-use mathlib.Core.Path.{_≡_, refl, sym, ap, ap₂, _∙_}
+use mathlib.Core.Path.{_≡_, sym, ap, _∙_}
 use mathlib.Core.Logic.{⊎-elim, _≢_}
-use mathlib.Core.Bool.{Bool, true, false, cond, _||_}
-use mathlib.Core.List.{List}
+use mathlib.Core.Bool.{Bool, cond, _||_}
 use lib.ListN.{length, set, length-set}
 use lib.Seq.{getD-set-same, getD-set-other, ext-getD}
 use lib.Dec.{eqb}
 use borrow.Author.Tests.{eq-eqb, ne-eqb}
-use Rattle.model.specs.declared.Object.{Object}
-use Rattle.model.specs.declared.Subject.{Subject}
 use Rattle.model.specs.declared.Request.the-variants.{Delete}
 use Rattle.model.specs.State.{nobody, noObject, objectAt}
 use Rattle.model.specs.Hierarchy.{below, withoutBelow}
@@ -19,12 +16,12 @@ use Rattle.model.specs.Rules.{changed, afterwards}
 use Rattle.model.proofs.Tests.{split, or-left}
 use Rattle.model.proofs.Equal.{monitor-ext}
 use Rattle.model.proofs.Hierarchy.{without-length, below-gone}
-use Rattle.unit.specs.Rows.{Rows, rowCount, restRow, clearanceRow, profileRow, rowAt, labelIn, profileIn, subjectIn, subjectsIn, objectsIn, stateIn}
+use Rattle.unit.specs.Rows.{Rows, rowCount, clearanceRow, profileRow, rowAt, labelIn, profileIn, subjectIn, objectsIn, stateIn}
 use Rattle.unit.proofs.Tabulated.{tabulate-same, same-or-not}
 use Rattle.unit.proofs.Plain.{Plain}
 use Rattle.hierarchy.specs.Removed.{gone, removed}
 use Rattle.hierarchy.proofs.Upward.{objects-length}
-use Rattle.hierarchy.proofs.Rowed.{trio, same-object, cleared-object, no-rest, removed-behind, removed-gone, removed-kept}
+use Rattle.hierarchy.proofs.Rowed.{same-object, cleared-object, no-rest, removed-behind, removed-gone, removed-kept}
 
 module _ (u : Rows) (n : length u ≡ rowCount) (o : ℕ) (h : o < 64) where
   object-left : (y : ℕ) → y < 64 → objectAt (objectsIn (removed u o)) y ≡ cond (gone (objectsIn u) o y) noObject (objectAt (objectsIn u) y)

@@ -6,14 +6,13 @@ use native.Mathlib.Omega.{arith}
 use mathlib.Core.Path.{_≡_, refl, sym, ap, _∙_, subst}
 use mathlib.Core.Logic.{_⊎_, inl, inr, ⊎-elim, _≢_}
 use mathlib.Core.Bool.{Bool, true, false, cond}
-use mathlib.Core.List.{List}
 use lib.ListN.{length}
 use lib.Dec.{eqb}
 use borrow.Author.Tests.{eqb-true, eq-eqb}
 use Rattle.model.specs.declared.Object.{Object}
 use Rattle.model.specs.State.{noObject, objectAt}
 use Rattle.model.specs.Hierarchy.{parentAt, Meets, here, further, Below}
-use Rattle.model.proofs.Tests.{split, clash, apart, and-both, and-left, and-right, le-or-lt, cond-true}
+use Rattle.model.proofs.Tests.{split, apart, and-both, and-left, and-right, le-or-lt, cond-true}
 use Rattle.model.proofs.Hierarchy.{live-in}
 use Rattle.unit.specs.Rows.{Rows, rowCount, rowAt, objectsIn}
 use Rattle.unit.specs.Stored.{setObject}

@@ -4,7 +4,7 @@ use Prim.Native.Nat.{ℕ, zero, suc, _+_, _≤_, _<_}
 use native.Mathlib.Omega.{arith}
 use mathlib.Core.Path.{_≡_, refl, sym, ap, _∙_, subst}
 use mathlib.Core.Logic.{_⊎_, inl, inr, ⊎-elim}
-use mathlib.Core.Bool.{Bool, true, false, cond, _||_}
+use mathlib.Core.Bool.{Bool, true, false}
 use mathlib.Core.List.{List, [], _∷_}
 use lib.ListN.{length}
 use lib.Dec.{eqb}
@@ -13,7 +13,7 @@ use Rattle.bits.specs.Bits.{bit}
 use Rattle.model.specs.declared.Object.{Object}
 use Rattle.model.specs.State.{objectAt}
 use Rattle.model.specs.Hierarchy.{parentAt, Meets, here, further, Below, below}
-use Rattle.model.proofs.Tests.{split, clash, apart, or-cases, or-left, or-right, cond-false}
+use Rattle.model.proofs.Tests.{split, clash, or-cases, or-left, or-right, cond-false}
 use Rattle.model.proofs.Hierarchy.{meets-decides}
 use Rattle.hierarchy.specs.Removed.{gone}
 

@@ -1,21 +1,20 @@
 -- The three rows of an object, and those that a deletion leaves.
 -- Assumes nothing.
-use Prim.Native.Nat.{ℕ, _*_, _%_, _≤_, _<_}
+use Prim.Native.Nat.{ℕ, _%_, _≤_, _<_}
 use native.Mathlib.Omega.{arith}
 use mathlib.Core.Path.{_≡_, refl, sym, ap, _∙_}
 use mathlib.Core.Logic.{_≢_}
 use mathlib.Core.Bool.{Bool, true, false, cond, _&&_}
-use mathlib.Core.List.{List, [], _∷_}
+use mathlib.Core.List.{[], _∷_}
 use lib.ListN.{length}
 use lib.Seq.{ext-getD}
 use borrow.Author.Tests.{lt-ltb, le-ltb}
 use Rattle.model.specs.declared.Object.{Object}
 use Rattle.model.specs.State.{noModes, noObject, objectAt}
-use Rattle.model.proofs.Tests.{cond-true, cond-false}
 use Rattle.unit.specs.Rows.{Rows, rowCount, heldRow, restRow, clearanceRow, profileRow, rowAt, labelIn, objectOf, objectIn, objectsIn}
 use Rattle.unit.specs.Stored.{labelBytes, rowOf, restOf, setRows, setObject}
 use Rattle.unit.proofs.Tabulated.{tabulate-length, tabulate-at}
-use Rattle.unit.proofs.Stores.{object-length, object-others, object-rights, object-held, object-rest}
+use Rattle.unit.proofs.Stores.{object-others, object-rights, object-held, object-rest}
 use Rattle.unit.proofs.Units.{in-parts}
 use Rattle.hierarchy.specs.Removed.{gone, rowLeft, removed}
 

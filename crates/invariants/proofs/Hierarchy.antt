@@ -6,10 +6,10 @@ use native.Mathlib.Omega.{arith}
 use native.Mathlib.Decide.{ℕ-discrete}
 use mathlib.Core.Path.{_≡_, refl, sym, ap, _∙_, subst}
 use mathlib.Core.Logic.{_⊎_, inl, inr, ⊎-elim, _≢_}
-use mathlib.Core.Bool.{Bool, true, false, cond}
+use mathlib.Core.Bool.{true, false, cond}
 use mathlib.Core.List.{List}
-use lib.Seq.{getD-set-same, getD-set-other}
-use lib.ListN.{length, set}
+use lib.Seq.{getD-set-other}
+use lib.ListN.{set}
 use Rattle.model.specs.declared.Object.{Object}
 use Rattle.model.specs.declared.Monitor.{Monitor}
 use Rattle.model.specs.declared.Creation.{Creation}
@@ -17,15 +17,15 @@ use Rattle.model.specs.declared.Label.{Label}
 use Rattle.model.specs.declared.Request.{Request}
 use Rattle.model.specs.declared.Request.the-variants.{Get, Release, Give, Rescind, Create, Delete, ChangeLevel, SetCompanies}
 use Rattle.model.specs.declared.Decision.the-variants.{Granted}
-use Rattle.model.specs.Levels.{Dominates, dominates, present}
-use Rattle.model.specs.State.{objectCount, noObject, objectAt, object, ObjectShape, WellFormed}
+use Rattle.model.specs.Levels.{Dominates, present}
+use Rattle.model.specs.State.{noObject, objectAt, object, ObjectShape, WellFormed}
 use Rattle.model.specs.Hierarchy.{parentAt, Meets, here, further, Ends, none, onward, Below, below, withoutBelow, parentLive, labelUnder, labelsRise, Hierarchy}
 use Rattle.model.specs.Requests.{InRange}
 use Rattle.model.specs.Rules.{target, changed, created, spared, afterwards, checks}
-use Rattle.model.proofs.Tests.{split, clash, apart, cond-true, cond-false, not-on, set-all, implies-out, implies-in, all-out, all-in}
+use Rattle.model.proofs.Tests.{split, apart, cond-true, cond-false, not-on, set-all, implies-out, implies-in, all-out, all-in}
 use Rattle.model.proofs.Levels.{dominates-decides}
 use Rattle.model.proofs.Hierarchy.{meets-decides, below-gone}
-use Rattle.model.proofs.After.{target-below, object-there, spared-length, objects-after}
+use Rattle.model.proofs.After.{object-there}
 use Rattle.invariants.proofs.Granted.{granted-create, granted-change}
 
 -- ---- the parent of an object

@@ -1,8 +1,8 @@
 -- Where no object has another as its parent, nothing is below that one, and a request that takes no children changes one record (change request §11).
 -- Assumes nothing.
 use Prim.Native.Nat.{ℕ, zero, suc}
-use mathlib.Core.Path.{_≡_, refl, sym, ap, _∙_, subst}
-use mathlib.Core.Bool.{Bool, true, false, cond, _&&_, _||_}
+use mathlib.Core.Path.{_≡_, refl, sym, ap, _∙_}
+use mathlib.Core.Bool.{Bool, true, false, _&&_, _||_}
 use mathlib.Core.List.{List, [], _∷_}
 use native.Mathlib.Omega.{arith}
 use lib.ListN.{set}
@@ -12,8 +12,8 @@ use Rattle.model.specs.declared.Object.{Object}
 use Rattle.model.specs.declared.Monitor.{Monitor}
 use Rattle.model.specs.declared.Request.{Request}
 use Rattle.model.specs.declared.Request.the-variants.{Get, Release, Give, Rescind, Create, Delete, ChangeLevel, SetCompanies}
-use Rattle.model.specs.State.{objectCount, noObject, objectAt, object, withObject}
-use Rattle.model.specs.Hierarchy.{parentAt, meets, below, without, withoutBelow, hasChild}
+use Rattle.model.specs.State.{objectCount, noObject, object, withObject}
+use Rattle.model.specs.Hierarchy.{parentAt, meets, below, without, hasChild}
 use Rattle.model.specs.Rules.{target, changed, already, spared, afterwards}
 use Rattle.model.specs.Journal.{takesChildren}
 use Rattle.model.proofs.Tests.{split, clash, apart, and-left, and-right, and-both, or-cases, or-left, or-right, cond-true, cond-false}

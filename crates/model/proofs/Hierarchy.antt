@@ -5,7 +5,7 @@ use Prim.Native.Nat.{ℕ, zero, suc, _+_, _<_, _≤_}
 use native.Mathlib.Omega.{arith}
 use mathlib.Core.Path.{_≡_, refl, sym, ap, _∙_, subst}
 use mathlib.Core.Logic.{_↔_, ⊎-elim}
-use mathlib.Core.Bool.{Bool, true, false, cond, _||_}
+use mathlib.Core.Bool.{Bool, true, false, cond}
 use mathlib.Core.List.{List, [], _∷_}
 use lib.ListN.{length, getD, set, replicate}
 use lib.Seq.{getD-set-other}
@@ -13,8 +13,8 @@ use lib.Dec.{eqb}
 use borrow.Author.Tests.{eqb-true, eq-eqb}
 use Rattle.model.specs.declared.Object.{Object}
 use Rattle.model.specs.State.{objectCount, noObject, objectAt}
-use Rattle.model.specs.Hierarchy.{parentAt, Meets, here, further, Ends, none, onward, meets, ends, Below, below, without, withoutBelow}
-use Rattle.model.proofs.Tests.{split, clash, apart, or-cases, or-left, or-right, or-false, beyond, le-or-lt, cond-false}
+use Rattle.model.specs.Hierarchy.{parentAt, Meets, here, further, Ends, none, onward, meets, ends, below, without, withoutBelow}
+use Rattle.model.proofs.Tests.{split, clash, apart, or-cases, or-left, or-right, or-false, beyond, le-or-lt}
 
 -- ---- what is left
 

@@ -2,23 +2,22 @@
 -- Assumes nothing.
 use Prim.Native.Nat.{ℕ, zero, suc, _+_}
 use mathlib.Core.Path.{_≡_, refl}
-use mathlib.Core.Bool.{Bool, true, false}
-use mathlib.Core.List.{List, [], _∷_, _++_, map}
-use lib.ListN.{set, replicate, take}
+use mathlib.Core.Bool.{true, false}
+use mathlib.Core.List.{List, [], _∷_, map}
+use lib.ListN.{set}
 use Rattle.bits.specs.Bits.{odd, toBits, fromBits, bytesToBits, field}
 use Rattle.model.specs.declared.Label.{Label}
 use Rattle.model.specs.declared.Label.the-variants.{Absent, Present}
 use Rattle.model.specs.declared.Object.{Object}
-use Rattle.model.specs.declared.Monitor.{Monitor}
 use Rattle.model.specs.declared.Request.the-variants.{Create, Delete}
 use Rattle.model.specs.declared.Decoded.the-variants.{Malformed, Says}
 use Rattle.model.specs.Tests.{implies}
 use Rattle.model.specs.Levels.{compare, levelDominates, dominates}
-use Rattle.model.specs.State.{widest, noObject, nobody, fresh, withOwner, withParent, withLabel}
+use Rattle.model.specs.State.{widest, noObject, withOwner, withParent, withLabel}
 use Rattle.model.specs.Profiles.{site}
 use Rattle.model.specs.Hierarchy.{meets, ends, below, without, withoutBelow, hasChild, parentLive, parentsHold, labelUnder, labelsRise}
 use Rattle.model.specs.Requests.{fields, modeAllowed, unusedZero, parentWithin, fieldsFormed, within, wellFormed, request, creation, decodeFields, decode}
-use Rattle.model.specs.Rules.{changed, spared, afterwards}
+use Rattle.model.specs.Rules.{changed, afterwards}
 
 -- an object of subject 0 under another, "number plus one or 0"
 abbrev under : ℕ → Object

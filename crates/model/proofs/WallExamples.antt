@@ -18,7 +18,7 @@ use Rattle.model.specs.Tests.{implies, unless}
 use Rattle.model.specs.Levels.{dominates, levelDominates, compare}
 use Rattle.model.specs.Modes.{has, add}
 use Rattle.model.specs.Companies.{company, compatible, confined}
-use Rattle.model.specs.State.{noObject, nobody, object, withOwner, withLabel, withCompanies, withRows, withObject, fresh, widest}
+use Rattle.model.specs.State.{noObject, nobody, withOwner, withLabel, withCompanies, withRows, withObject, fresh, widest}
 use Rattle.model.specs.Requests.{creation}
 use Rattle.model.specs.Hierarchy.{parentLive, labelUnder, labelsRise}
 use Rattle.model.specs.Rules.{created, changed, already, checks, answer, step, starPair, starFrom, starFor, wallPair, wallFrom, wallFor, wallAll}

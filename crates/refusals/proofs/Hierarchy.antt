@@ -1,12 +1,11 @@
 -- 19 and 20 (change request §11): the tests of parents and of labels under them fail exactly where a parent is missing or a label is below.
 -- Assumes nothing.
-use Prim.Native.Nat.{ℕ, zero, suc, _<_, _≤_}
+use Prim.Native.Nat.{ℕ, zero, suc, _<_}
 use native.Mathlib.Omega.{arith}
 use native.Mathlib.Decide.{ℕ-discrete}
 use mathlib.Core.Path.{_≡_, refl, sym, ap, _∙_, subst}
 use mathlib.Core.Logic.{_⊎_, inl, inr, ⊎-elim, _≢_}
 use mathlib.Core.Bool.{Bool, true, false}
-use mathlib.Core.List.{List}
 use lib.Seq.{getD-set-other}
 use Rattle.model.specs.declared.Level.{Level}
 use Rattle.model.specs.declared.Label.{Label}
@@ -14,12 +13,12 @@ use Rattle.model.specs.declared.Label.the-variants.{Absent}
 use Rattle.model.specs.declared.Object.{Object}
 use Rattle.model.specs.declared.Monitor.{Monitor}
 use Rattle.model.specs.declared.Request.the-variants.{ChangeLevel}
-use Rattle.model.specs.Tests.{allOf, implies}
+use Rattle.model.specs.Tests.{allOf}
 use Rattle.model.specs.Levels.{Dominates, dominates, present}
-use Rattle.model.specs.State.{objectCount, noObject, objectAt, object}
-use Rattle.model.specs.Hierarchy.{Ends, ends, parentLive, parentsHold, labelUnder, labelsRise}
-use Rattle.model.specs.Rules.{changed, afterwards}
-use Rattle.model.proofs.Tests.{split, clash, apart, and-false, and-left, and-both, all-out, all-in, all-false, below-false, implies-false}
+use Rattle.model.specs.State.{objectCount, noObject, object}
+use Rattle.model.specs.Hierarchy.{ends, parentLive, parentsHold, labelUnder, labelsRise}
+use Rattle.model.specs.Rules.{afterwards}
+use Rattle.model.proofs.Tests.{split, clash, apart, and-false, all-out, all-false, below-false, implies-false}
 use Rattle.model.proofs.Levels.{absent, dominates-decides}
 use Rattle.model.proofs.Hierarchy.{live-in, ends-decides}
 use Rattle.invariants.specs.Sound.{Sound}

@@ -1,20 +1,17 @@
 -- A run with objects under objects (change request §11), by computation from bytes: "A riser contains flats, and a flat contains meters".
 -- Assumes nothing.
-use Prim.Native.Nat.{ℕ, zero, suc}
+use Prim.Native.Nat.{ℕ}
 use mathlib.Core.Path.{_≡_, refl}
 use mathlib.Core.Bool.{true, false}
 use mathlib.Core.List.{List, [], _∷_, _++_, map}
-use lib.ListN.{replicate}
 use Rattle.bits.specs.Bits.{odd, toBits, fromBits, bytesToBits, bitsToBytes, field, cut, allZero}
-use Rattle.model.specs.declared.Label.the-variants.{Present}
-use Rattle.model.specs.declared.Mode.the-variants.{Read, Append}
 use Rattle.model.specs.declared.Object.{Object}
 use Rattle.model.specs.declared.Request.{Request}
-use Rattle.model.specs.declared.Request.the-variants.{Get, Give, Create, Delete, ChangeLevel}
+use Rattle.model.specs.declared.Request.the-variants.{Create, Delete, ChangeLevel}
 use Rattle.model.specs.Tests.{implies, unless}
 use Rattle.model.specs.Levels.{compare, levelDominates, dominates, sameLabel}
 use Rattle.model.specs.Modes.{has, add}
-use Rattle.model.specs.State.{widest, object, rightsOf, heldBy}
+use Rattle.model.specs.State.{widest, object}
 use Rattle.model.specs.Profiles.{profileFits, labelInside, absentBeyond, levelsInside}
 use Rattle.model.specs.Hierarchy.{meets, without, hasChild, parentLive, labelUnder, labelsRise}
 use Rattle.model.specs.Requests.{fields, modeAllowed, unusedZero, parentWithin, fieldsFormed, within, wellFormed, request, creation, decodeFields, decode, pack, encode}
@@ -23,7 +20,7 @@ use Rattle.model.specs.Rules.{simpleAll, starPair, starFrom, starFor, starAll, 
 use Rattle.model.specs.Runs.{respond}
 use Rattle.model.specs.Journal.{Journaled, entered, withoutEntries, ask, restored, takeBack, takingBack, Act, asks, takesBack, acted, answers}
 use Rattle.model.specs.Reading.{labelFrom, labelForm, tableFrom, tableForm, tableChecks, begin, readTable}
-use Rattle.model.specs.Beginnings.{table, begun, left}
+use Rattle.model.specs.Beginnings.{table, begun}
 use Rattle.runs.specs.MarkedRun.{level, tableW}
 
 abbrev W : Journaled

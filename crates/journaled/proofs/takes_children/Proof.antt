@@ -1,6 +1,6 @@
 -- `journaled::takes_children` meets its contract.
 -- Assumes nothing.
-use mathlib.Core.Path.{_≡_, sym, ap, _∙_}
+use mathlib.Core.Path.{sym, ap, _∙_}
 use mathlib.Core.Bool.{Bool, _&&_}
 use Rattle.model.specs.Hierarchy.{hasChild}
 use Rattle.unit.specs.Rows.{objectsIn}

@@ -1,8 +1,7 @@
 -- `hierarchy::chains::above` meets its contract.
 -- Assumes nothing.
-use Prim.Native.Nat.{ℕ}
 use mathlib.Core.Path.{sym, ap, _∙_}
-use mathlib.Core.Bool.{Bool, cond}
+use mathlib.Core.Bool.{cond}
 use Rattle.model.specs.declared.Object.{Object}
 use Rattle.model.specs.State.{objectAt}
 use Rattle.model.proofs.Tests.{cond-true, cond-false}

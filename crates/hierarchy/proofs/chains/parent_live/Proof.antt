@@ -1,8 +1,7 @@
 -- `hierarchy::chains::parent_live` meets its contract.
 -- Assumes nothing.
 use native.Mathlib.Omega.{arith}
-use mathlib.Core.Path.{_≡_, sym, ap, _∙_}
-use Prim.Native.Nat.{ℕ}
+use mathlib.Core.Path.{sym, ap, _∙_}
 use Rattle.model.specs.declared.Object.{Object}
 use Rattle.model.specs.Hierarchy.{parentLive}
 use Rattle.unit.specs.Rows.{objectsIn}

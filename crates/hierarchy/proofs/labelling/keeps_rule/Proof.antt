@@ -1,7 +1,7 @@
 -- `hierarchy::labelling::keeps_rule` meets its contract.
 -- Assumes nothing.
 use native.Mathlib.Omega.{arith}
-use mathlib.Core.Path.{_≡_, sym, ap, ap₂, _∙_}
+use mathlib.Core.Path.{sym, ap, ap₂, _∙_}
 use Prim.Native.Nat.{ℕ, _-_}
 use Rattle.model.specs.Tests.{implies}
 use Rattle.model.specs.Levels.{present, dominates}

@@ -1,6 +1,5 @@
 -- `hierarchy::labelling::label_at` meets its contract.
 -- Assumes nothing.
-use native.Mathlib.Omega.{arith}
 use mathlib.Core.Path.{sym, ap}
 use Rattle.model.specs.declared.Object.{Object}
 use Rattle.hierarchy.proofs.Upward.{none-beyond}
