@@ -2,7 +2,7 @@
 //! the rights, the accesses held and the rest of the record of an object as they were; then there is a byte for the object of each
 //! slot, and a row with the slot that the next entry takes and with the number of entries.
 
-use crate::rows::{level_in, level_row, HELD, REST};
+use crate::rows::{is_live, level_in, level_row, parent_in, HELD, REST};
 use circmon::{Rows, MONITOR_ROWS, OBJECTS, ROW_BYTES};
 
 const SLOTS: usize = 32;
@@ -70,11 +70,17 @@ pub fn taken_back(before: &Rows) -> Option<Rows> {
     Some(rows)
 }
 
-/// The rows with every entry gone, as after a delete that took children.
+/// The rows with every byte of the journal 0, as after a delete that took children.
 pub fn emptied(before: &Rows) -> Rows {
     let mut rows = *before;
-    rows[RING][1] = 0;
+    rows[MONITOR_ROWS..].fill([0; ROW_BYTES]);
     rows
+}
+
+/// Whether a delete of the object takes children: a live object has it as its parent. In a unit with any bytes that may be the
+/// object itself.
+pub fn has_child(rows: &Rows, object: usize) -> bool {
+    (0..OBJECTS).any(|slot| is_live(rows, slot) && parent_in(&rows[REST + slot]) == Some(object))
 }
 
 /// The rest of a record as it is stored: whether it is live, the owner, the label, the companies, the parent, and zeros.

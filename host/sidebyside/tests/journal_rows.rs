@@ -3,9 +3,9 @@
 
 use circmon::{Rows, Unit, MONITOR_ROWS, OBJECTS};
 use load::Random;
-use reference::{Journaled, Monitor, Request};
+use reference::{Journaled, Kind, Monitor, Request};
 use sidebyside::history::EMPTY;
-use sidebyside::journal_rows::{count, emptied, entered, latest, object, record, taken_back, RING};
+use sidebyside::journal_rows::{count, emptied, entered, has_child, latest, object, record, taken_back, RING};
 use sidebyside::orders::Met;
 use sidebyside::rows::{self, is_live, monitor_said, REST};
 use sidebyside::{random_rows, rows_with_subjects, shape};
@@ -36,14 +36,14 @@ fn check_asked(unit: &mut Unit, request: &[u8], what: &str, met: &mut Met) -> u8
         assert!(reply == 1 || *unit.rows() == before, "{what}, and a byte is changed");
         return reply;
     }
-    let object = Request::decode(request).expect("a request that is granted").object;
-    let gone = gone(&before, unit.rows());
-    let mut expected = if gone.len() > 1 { emptied(&before) } else { entered(&before, object) };
+    let Request { object, kind, .. } = Request::decode(request).expect("a request that is granted");
+    let (gone, took) = (gone(&before, unit.rows()), kind == Kind::Delete && has_child(&before, object));
+    let mut expected = if took { emptied(&before) } else { entered(&before, object) };
     for row in gone.iter().chain([&object]).flat_map(|&object| record(object)) {
         expected[row] = unit.rows()[row];
     }
-    if gone.len() > 1 {
-        met.note("emptied by a delete");
+    if took {
+        met.note(if gone.len() > 1 { "emptied by a delete" } else { "emptied by a delete of its own parent" });
         assert!(gone.iter().flat_map(|&object| record(object)).all(|row| unit.rows()[row] == [0; 16]), "{what}");
     }
     assert!(*unit.rows() == expected, "{what}, and a byte is not as it should be");
