@@ -11,13 +11,13 @@ use unit::is_live;
 use unit::parent_of;
 use unit::set_rows;
 
-// Whether object c is live and has o as its parent.
+// Whether object c is live and has o as its parent. Few objects have it, so the parent is looked at first.
 fn is_child(unit: &[[u8; 16]], c: u8, o: u8) -> bool
     requires { do ⌜ (← ⟦unit.len()⟧) ≡ rowCount ⌝ }
     requires { ⌜ (c < objectCount) × (o < objectCount) ⌝ }
     ensures { λ r. ⌜ r ≡ childOf (objectAt (objectsIn (now (unit .entry))) c) o ⌝ }
 {
-    is_live(unit, c) & (parent_of(unit, c) == o + 1)
+    (parent_of(unit, c) == o + 1) & is_live(unit, c)
 }
 
 // Whether some live object has o as its parent.
