@@ -1,4 +1,5 @@
-// A sequence of requests that two states answer differently, as a value: no request, one, two that make an object anew, or those that end in a reading.
+// A sequence of requests that two states answer differently, as a value: no request, one, two that make an object anew, or those that
+// end in a reading.
 ghost use mathlib.Core.Path.{_≡_};
 ghost use Rattle.telling.specs.Distinguish.{orElse, when, differ};
 ghost use Rattle.differences.specs.Sequences.{found, readingAt, requestsOf};
@@ -12,8 +13,9 @@ pub struct Place {
     pub object: u8,
 }
 
-// Remaking: the owner of an object deletes it and creates another; the numbers are the owner, the one, the other. Reading: the subject creates the object, gives it the level and asks to read it. Replacing: the owner of a live object deletes it,
-// and then the subject does this; the numbers are the owner, the object, the subject.
+// Remaking: the owner of an object deletes it and creates another; the numbers are the owner, the one, the other. Reading: the subject
+// creates the object, gives it the level and asks to read it. Replacing: the owner of a live object deletes it, and then the subject does
+// this; the numbers are the owner, the object, the subject.
 pub enum Sequence {
     Nothing,
     One(Request),

@@ -4,14 +4,15 @@
 use Prim.Native.Nat.{ℕ, zero, suc, _<_, _≤_}
 use native.Mathlib.Omega.{arith}
 use mathlib.Core.Path.{_≡_, refl, sym, ap, _∙_, subst}
-use mathlib.Core.Logic.{_≢_}
+use mathlib.Core.Logic.{_≢_, _⊎_, inl, inr}
 use mathlib.Core.Bool.{Bool, true, false, _&&_}
 use mathlib.Core.List.{List, [], _∷_, map}
 use lib.ListN.{length}
 use lib.Dec.{eqb}
 use Rattle.model.specs.declared.Monitor.{Monitor}
 use Rattle.model.specs.declared.Request.{Request}
-use Rattle.model.specs.declared.Request.the-variants.{Create, Delete}
+use Rattle.model.specs.declared.Creation.{Creation}
+use Rattle.model.specs.declared.Request.the-variants.{Get, Release, Give, Rescind, Create, Delete, ChangeLevel, SetCompanies}
 use Rattle.model.specs.State.{object}
 use Rattle.model.specs.Hierarchy.{below}
 use Rattle.model.specs.Requests.{creation, encode}
@@ -21,9 +22,24 @@ use Rattle.model.proofs.Tests.{cond-all}
 use Rattle.telling.specs.Distinguish.{orElse, search, when, differ, byEnrolment, byLife, byOwner, byLifeAndOwner, byBelow, toParent, byParent, byStanding, distinguish}
 use Rattle.invariants.specs.Sound.{Sound}
 use Rattle.images.proofs.Reached.{sound-reached}
-use Rattle.equal_images.specs.Inputs.{OnlyThese}
+use Rattle.equal_images.specs.Inputs.{DeletesOrCreates, OnlyThese}
 use Rattle.equal_images.proofs.Probes.{Differs, alike, apart}
 use Rattle.equal_images.proofs.Demand3.{probe-standing}
+
+-- ---- deletions and creations: no other kind is one, and each of such a list is one
+
+pub delete-or-create : (q : Request) → DeletesOrCreates q → ((s : ℕ) × (o : ℕ) × (q ≡ Delete s o)) ⊎ ((s : ℕ) × (o : ℕ) × (c : Creation) × (q ≡ Create s o c))
+delete-or-create (Get s o x) h = absurd h
+delete-or-create (Release s o x) h = absurd h
+delete-or-create (Give s t o x) h = absurd h
+delete-or-create (Rescind s t o x) h = absurd h
+delete-or-create (Create s o c) h = inr (s, o, c, refl)
+delete-or-create (Delete s o) h = inl (s, o, refl)
+delete-or-create (ChangeLevel s o l) h = absurd h
+delete-or-create (SetCompanies s o n) h = absurd h
+
+pub each-of-these : (q : Request) (qs : List Request) → OnlyThese (q ∷ qs) → DeletesOrCreates q × OnlyThese qs
+each-of-these q qs h = h
 
 -- ---- a list of at most two deletions and creations, on every two monitors
 

@@ -11,7 +11,7 @@ use unit::is_live;
 use unit::parent_of;
 use unit::set_rows;
 
-// Whether object c is live and has o as its parent. Few objects have it, so the parent is looked at first.
+// Whether object c is live and has o as its parent. The parent stands first, since few objects have it.
 fn is_child(unit: &[[u8; 16]], c: u8, o: u8) -> bool
     requires { do ⌜ (← ⟦unit.len()⟧) ≡ rowCount ⌝ }
     requires { ⌜ (c < objectCount) × (o < objectCount) ⌝ }

@@ -1,4 +1,5 @@
--- The checks as the scope has them, the wall (change request §10) and parents (change request §11), where there is no profile (change request §8): no definition here reads one.
+-- The checks as the scope has them, the wall (change request §10) and parents (change request §11), where there is no profile (change
+-- request §8): no definition here reads one.
 -- Assumes nothing.
 use Prim.Native.Nat.{ℕ}
 use mathlib.Core.Bool.{Bool, cond}

@@ -1,5 +1,5 @@
--- What is said of takings-back (change request §9): which requests took children, how many requests changed the state, a state that requests alone reach, and a history of whole
--- states.
+-- What is said of takings-back (change request §9): which requests took children, how many requests changed the state, a state that
+-- requests alone reach, and a history of whole states.
 -- Assumes nothing.
 use Prim.Native.Nat.{ℕ, suc}
 use mathlib.Core.Path.{_≡_}

@@ -74,9 +74,9 @@ every-size = (refl, refl, refl, refl, refl, refl)
 -- 15 has r, a and e and holds e; object 41 is its parent
 abbrev trace : Object
 trace =
-    withRows (withCompanies (withLabel (withParent (withOwner noObject 5) 42) (Present (level 9 0x1234))) 0x50C3)
+    withOwner (withParent (withRows (withCompanies (withLabel noObject (Present (level 9 0x1234))) 0x50C3)
     (12 ∷ 6 ∷ 0 ∷ 0 ∷ 0 ∷ 15 ∷ 0 ∷ 0 ∷ 0 ∷ 0 ∷ 0 ∷ 0 ∷ 0 ∷ 0 ∷ 0 ∷ 11 ∷ [])
-    (8 ∷ 2 ∷ 0 ∷ 0 ∷ 0 ∷ 4 ∷ 0 ∷ 0 ∷ 0 ∷ 0 ∷ 0 ∷ 0 ∷ 0 ∷ 0 ∷ 0 ∷ 1 ∷ [])
+    (8 ∷ 2 ∷ 0 ∷ 0 ∷ 0 ∷ 4 ∷ 0 ∷ 0 ∷ 0 ∷ 0 ∷ 0 ∷ 0 ∷ 0 ∷ 0 ∷ 0 ∷ 1 ∷ [])) 42) 5
 
 -- "live 1, owner 4, label present 1, class 4, needs 16", the company numbers "after the needs" in 16, "then for subjects 0 to 15 four right
 -- bits and four access bits, each r, w, a, e": 1 0101 1 1001 0001001000110100, 0101000011000011, then 1100 1000, 0110 0010, three times 0, 1111 0100, nine times 0, 1011 0001, the parent "number plus one", 0101010, and seven bits behind it

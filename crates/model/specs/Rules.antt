@@ -1,4 +1,5 @@
--- The eight rules ("Requests" in the scope, the last in change request §10): the checks of each kind in order, the record after it, and when the state was so already.
+-- The eight rules ("Requests" in the scope, the last in change request §10): the checks of each kind in order, the record after it, what a
+-- delete takes along, and when the state was so already.
 -- Assumes nothing.
 use Prim.Native.Nat.{ℕ}
 use mathlib.Core.Bool.{Bool, false, cond, not, _&&_}

@@ -1,4 +1,5 @@
-// Where the rows of a unit stand, and what one row of bytes says: a label in bytes 2 to 5, two numbers before it, one in two bytes and one in one byte behind it.
+// Where the rows of a unit stand, and what one row of bytes says: a label in bytes 2 to 5, two numbers before it, one in two bytes and one
+// in one byte behind it.
 ghost use mathlib.Core.Path.{_≡_};
 ghost use Prim.Native.Nat.{_+_, _*_, _/_, _%_};
 ghost use Rattle.bits.specs.Bits.{bit};
