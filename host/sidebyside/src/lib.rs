@@ -81,6 +81,23 @@ pub fn drawn(seed: u64, shape: Shape, requests: usize) -> ([u8; TABLE_BYTES], Ve
     (table, (0..requests).map(draw).collect())
 }
 
+/// A state that requests of the shape reach.
+pub fn reached_in(random: &mut Random, shape: Shape, requests: usize) -> Monitor {
+    let table = load::table(random, shape);
+    let mut monitor = Monitor::from_table(&table).expect("a table that was written");
+    for _ in 0..requests {
+        let bytes = load::bytes(random, shape, &monitor);
+        monitor.request(&bytes);
+    }
+    monitor
+}
+
+/// A state that a run of one of the shapes reaches.
+pub fn reached(random: &mut Random, requests: usize) -> Monitor {
+    let shape = SHAPES[random.below(SHAPES.len())];
+    reached_in(random, shape, requests)
+}
+
 /// Every access that is held.
 pub fn held(monitor: &Monitor) -> Vec<Get> {
     let of = |actor| (0..OBJECTS).flat_map(move |object| Mode::ALL.map(|mode| Get { actor, object, mode }));

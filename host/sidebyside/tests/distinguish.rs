@@ -5,19 +5,7 @@ use load::Random;
 use reference::{Kind, Monitor, Object, Request, CONFLICT_CLASSES, IMAGE_BYTES, OBJECTS, SUBJECTS, TABLE_BYTES};
 use sidebyside::telling::{tells, told};
 use sidebyside::tree::parent_at;
-use sidebyside::{image, Count, SHAPES};
-
-/// A state that a run reaches.
-fn reached(random: &mut Random, requests: usize) -> Monitor {
-    let shape = SHAPES[random.below(SHAPES.len())];
-    let table = load::table(random, shape);
-    let mut monitor = Monitor::from_table(&table).expect("a table that was written");
-    for _ in 0..requests {
-        let bytes = load::bytes(random, shape, &monitor);
-        monitor.request(&bytes);
-    }
-    monitor
-}
+use sidebyside::{image, reached, Count, SHAPES};
 
 /// A subject that is enrolled, where there is one.
 fn anyone(random: &mut Random, monitor: &Monitor) -> Option<usize> {

@@ -6,7 +6,7 @@ use load::Random;
 use reference::{Level, Monitor, Object, Profile, IMAGE_BYTES, OBJECTS};
 use sidebyside::orders::Met;
 use sidebyside::tree::{broken_rule, parent_at, with_parent_bits, wrong_parent};
-use sidebyside::{image, profiles, SHAPES};
+use sidebyside::{image, profiles, reached};
 
 /// The number of both, under a profile.
 fn number_in(profile: Profile, bytes: &[u8], what: &str) -> u8 {
@@ -132,17 +132,6 @@ fn rings_of_each_length_with_objects_below_them() {
     }
 }
 
-/// A state that a run reaches.
-fn reached(random: &mut Random) -> Monitor {
-    let shape = SHAPES[random.below(SHAPES.len())];
-    let mut monitor = Monitor::from_table(&load::table(random, shape)).expect("a table that was written");
-    for _ in 0..400 {
-        let bytes = load::bytes(random, shape, &monitor);
-        monitor.request(&bytes);
-    }
-    monitor
-}
-
 /// Parents and labels of some objects drawn anew. Nobody holds anything, so that no check before 19 is in the way.
 fn changed(random: &mut Random, monitor: &Monitor) -> Monitor {
     let mut state = profiles::released(monitor);
@@ -168,7 +157,7 @@ fn states_with_other_parents_and_labels() {
     let mut met = Met::default();
     for seed in 0..2500 {
         let random = &mut Random::new(seed);
-        let monitor = reached(random);
+        let monitor = reached(random, 400);
         for round in 0..12 {
             let (state, what) = (changed(random, &monitor), format!("seed {seed}, round {round}"));
             let (found, said) = (number(&image(&state), &what), expected(&state));
@@ -188,7 +177,7 @@ fn bits_of_parents_flipped_in_images_of_runs() {
     let mut met = Met::default();
     for seed in 0..1500 {
         let random = &mut Random::new(seed ^ 0xF11B);
-        let monitor = reached(random);
+        let monitor = reached(random, 400);
         for round in 0..20 {
             let mut bytes = image(&monitor);
             for _ in 0..1 + random.below(3) {

@@ -6,7 +6,7 @@ use reference::{Kind, Monitor, Profile, Request, OBJECTS};
 use sidebyside::orders::Met;
 use sidebyside::telling::{replies, tells, told_in};
 use sidebyside::tree::{chain, live};
-use sidebyside::{image, profiles, Both, SHAPES};
+use sidebyside::{image, profiles, Both};
 
 /// A state that a run reaches, under the widest profile or under a drawn one.
 fn reached(random: &mut Random) -> Monitor {
@@ -14,13 +14,7 @@ fn reached(random: &mut Random) -> Monitor {
         let profile = profiles::drawn(random);
         return profiles::reached(random, profile, 300);
     }
-    let shape = SHAPES[random.below(SHAPES.len())];
-    let mut monitor = Monitor::from_table(&load::table(random, shape)).expect("a table that was written");
-    for _ in 0..300 {
-        let bytes = load::bytes(random, shape, &monitor);
-        monitor.request(&bytes);
-    }
-    monitor
+    sidebyside::reached(random, 300)
 }
 
 /// The state with other parents for some objects, or for all of them, where it is accepted and another one.

@@ -7,7 +7,7 @@ use sidebyside::orders::Met;
 use sidebyside::telling::told_in;
 use sidebyside::tree::parent_at;
 use sidebyside::wall::{broken, Broken, NAMES};
-use sidebyside::{image, profiles};
+use sidebyside::{image, profiles, reached_in};
 
 /// Where the companies of an object begin, in bits.
 fn companies_at(object: usize) -> usize {
@@ -18,13 +18,7 @@ fn companies_at(object: usize) -> usize {
 fn reached(random: &mut Random) -> Monitor {
     let objects = [2, 5, 20, 64][random.below(4)];
     let shape = Shape { objects, subjects: 5, classes: 1, needs: 1, companies: 2, parents: 0, damaged: 1000 };
-    let table = load::table(random, shape);
-    let mut monitor = Monitor::from_table(&table).expect("a table that was written");
-    for _ in 0..20 * objects {
-        let bytes = load::bytes(random, shape, &monitor);
-        monitor.request(&bytes);
-    }
-    monitor
+    reached_in(random, shape, 20 * objects)
 }
 
 /// The number of both.
