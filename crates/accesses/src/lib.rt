@@ -1,10 +1,13 @@
 // The kinds of request about the accesses that a subject holds, on a unit: get and release. The checks of a kind are in the scope's order, then
 // stands what it stores. Each returns the number of its answer; a refusal leaves every byte. Get stores first, and puts the old set
 // back where star or the wall refuses.
+
+#![tactic(auto)]
+
 ghost use Rattle.std.specs.Prelude.{◌≡◌, ◌<◌, length};
-ghost use Rattle.model.specs.State.{subjectCount, objectCount};
-ghost use Rattle.unit.specs.Rows.{rowCount, stateIn};
-ghost use Rattle.kinds.specs.Stages.{beforeStar, afterGet};
+ghost use Rattle.model.specs.State.{subject_count, object_count};
+ghost use Rattle.unit.specs.Rows.{row_count, state_in};
+ghost use Rattle.kinds.specs.Stages.{before_star, after_get};
 ghost use Rattle.kinds.specs.Carried.{Does};
 
 use labels::{check, dominates, implies, is_present, number, refuses};
@@ -16,8 +19,8 @@ use wall::breaks_wall;
 
 // 1: the actor then holds the access. Star and the wall are asked of the state with the access in it.
 pub fn get(unit: &mut [[u8; 16]], s: u8, o: u8, x: Mode) -> u8
-    requires* do_value { do ⌜ (← ⟦unit.len()⟧) ≡ rowCount ⌝ }
-    requires s_lt_subject_count { (s < subjectCount) × (o < objectCount) }
+    requires unit_len { length unit.old ≡ row_count }
+    requires s_lt_subject_count { (s < subject_count) × (o < object_count) }
     ensures { Does (Request.Get s o x) unit.old unit.new result }
 {
     let d = may_get(unit, s, o, x);
@@ -37,9 +40,9 @@ pub fn get(unit: &mut [[u8; 16]], s: u8, o: u8, x: Mode) -> u8
 
 // Checks 9 and 18 of the actor, after the access was stored. Star is asked of r, w and a, the wall of e too.
 fn access_fits(unit: &[[u8; 16]], s: u8, x: Mode) -> Decision
-    requires unit_len { length unit.now ≡ rowCount }
-    requires s_lt_subject_count { s < subjectCount }
-    ensures { result ≡ afterGet s x (stateIn unit.now) }
+    requires unit_len { length unit.now ≡ row_count }
+    requires s_lt_subject_count { s < subject_count }
+    ensures { result ≡ after_get s x (state_in unit.now) }
 {
     let i = s as usize;
     if needs_label(x) {
@@ -53,9 +56,9 @@ fn access_fits(unit: &[[u8; 16]], s: u8, x: Mode) -> Decision
 
 // The checks of get but star and the wall: 3, 4, 6, 7, 8.
 fn may_get(unit: &[[u8; 16]], s: u8, o: u8, x: Mode) -> Decision
-    requires unit_len { length unit.now ≡ rowCount }
-    requires s_lt_subject_count { (s < subjectCount) × (o < objectCount) }
-    ensures { result ≡ beforeStar s o x (stateIn unit.now) }
+    requires unit_len { length unit.now ≡ row_count }
+    requires s_lt_subject_count { (s < subject_count) × (o < object_count) }
+    ensures { result ≡ before_star s o x (state_in unit.now) }
 {
     let clearance = clearance_of(unit, s);
     let label = label_of(unit, o);
@@ -74,8 +77,8 @@ fn may_get(unit: &[[u8; 16]], s: u8, o: u8, x: Mode) -> Decision
 
 // 2: the actor's access is dropped, held or not.
 pub fn release(unit: &mut [[u8; 16]], s: u8, o: u8, x: Mode) -> u8
-    requires* do_value { do ⌜ (← ⟦unit.len()⟧) ≡ rowCount ⌝ }
-    requires s_lt_subject_count { (s < subjectCount) × (o < objectCount) }
+    requires unit_len { length unit.old ≡ row_count }
+    requires s_lt_subject_count { (s < subject_count) × (o < object_count) }
     ensures { Does (Request.Release s o x) unit.old unit.new result }
 {
     let live = check(is_live(unit, o), Decision::NotLive, Decision::Granted);

@@ -8,15 +8,15 @@ use Rattle.model.specs.declared.Decoded.{Decoded}
 use Rattle.model.specs.declared.Decoded.TheVariants.{Malformed, Says}
 use Rattle.model.specs.Requests.{decode}
 use Rattle.model.proofs.Requests.{decode-range}
-use Rattle.unit.specs.Rows.{Rows, rowCount, stateIn}
+use Rattle.unit.specs.Rows.{Rows, row_count, state_in}
 use Rattle.unit.proofs.Plain.{Plain}
 use Rattle.kinds.proofs.Plain.{carried-plain}
-use Rattle.asking.specs.Asked.{askedSaid, asked}
+use Rattle.asking.specs.Asked.{asked_said, asked}
 
-pub asked-plain : (b : List ℕ) (u : Rows) → length u ≡ rowCount → Plain u → Plain (asked b u)
+pub asked-plain : (b : List ℕ) (u : Rows) → length u ≡ row_count → Plain u → Plain (asked b u)
 unfolding asked
-asked-plain b u n F = go (decode (stateIn u).profile b) refl
+asked-plain b u n F = go (decode (state_in u).profile b) refl
   where
-    go : (d : Decoded) → decode (stateIn u).profile b ≡ d → Plain (askedSaid d u)
+    go : (d : Decoded) → decode (state_in u).profile b ≡ d → Plain (asked_said d u)
     go Malformed e = F
-    go (Says q) e = carried-plain q u n (decode-range (stateIn u).profile b q e) F
+    go (Says q) e = carried-plain q u n (decode-range (state_in u).profile b q e) F

@@ -1,8 +1,11 @@
 // One request on a unit: six bytes are decoded, and the kind that they say is carried out.
+
+#![tactic(auto)]
+
 ghost use Rattle.std.specs.Prelude.{◌≡◌};
 ghost use Rattle.model.specs.Requests.{InRange};
 ghost use Rattle.model.specs.Runs.{reply};
-ghost use Rattle.unit.specs.Rows.{rowCount, stateIn};
+ghost use Rattle.unit.specs.Rows.{row_count, state_in};
 ghost use Rattle.kinds.specs.Carried.{Does};
 ghost use Rattle.asking.specs.Asked.{asked};
 
@@ -17,7 +20,7 @@ use rights::{give, rescind};
 use unit::profile_of;
 
 fn carry_out(unit: &mut [[u8; 16]], q: Request) -> u8
-    requires* do_value { do ⌜ (← ⟦unit.len()⟧) ≡ rowCount ⌝ }
+    requires unit_len { length unit.old ≡ row_count }
     requires in_range { InRange q }
     ensures { Does q unit.old unit.new result }
 {
@@ -35,8 +38,8 @@ fn carry_out(unit: &mut [[u8; 16]], q: Request) -> u8
 
 // The reply to a byte string of any length and content; the unit is the state after it.
 pub fn ask(unit: &mut [[u8; 16]], bytes: &[u8]) -> u8
-    requires* { do ⌜ (← ⟦unit.len()⟧) ≡ rowCount ⌝ }
-    ensures { (result ≡ reply bytes.now (stateIn unit.old)) × (unit.new ≡ asked bytes.now unit.old) }
+    requires unit_len { length unit.old ≡ row_count }
+    ensures { (result ≡ reply bytes.now (state_in unit.old)) × (unit.new ≡ asked bytes.now unit.old) }
 {
     let profile = profile_of(unit);
     let said = decode(profile, bytes);

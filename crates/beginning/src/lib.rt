@@ -1,8 +1,11 @@
 // The image of a monitor that is begun from a table under the widest profile. No object is live in it: so it is the bytes of the table, and zeros behind them.
+
+#![tactic(auto)]
+
 ghost use Rattle.std.specs.Prelude.{◌≡◌, false};
 ghost use Rattle.model.specs.State.{widest};
 ghost use Rattle.model.specs.Decisions.{refuses};
-ghost use Rattle.model.specs.Reading.{readTable};
+ghost use Rattle.model.specs.Reading.{read_table};
 ghost use Rattle.model.specs.Writing.{writing, written};
 
 use bytes::copy;
@@ -12,7 +15,7 @@ use model::{Decision, Monitor};
 
 // Checks 10 and 11 of a table; the widest profile refuses nothing that passes them.
 pub fn check_table(table: &[u8]) -> Decision
-    ensures { result ≡ (readTable widest table.now).decision }
+    ensures { result ≡ (read_table widest table.now).decision }
 {
     let read = read_subjects(table);
     let formed = check(read.formed, Decision::StrayBits, Decision::Granted);
@@ -25,8 +28,8 @@ pub fn check_table(table: &[u8]) -> Decision
 
 // The image into the first bytes of out, from a table that was checked; a shorter buffer is left as it is.
 pub fn write_begun(table: &[u8], out: &mut [u8]) -> Decision
-    requires { refuses (readTable widest table.now).decision ≡ false }
-    ensures { (result ≡ writing out.old) × (out.new ≡ written (readTable widest table.now).monitor out.old) }
+    requires { refuses (read_table widest table.now).decision ≡ false }
+    ensures { (result ≡ writing out.old) × (out.new ≡ written (read_table widest table.now).monitor out.old) }
 {
     if out.len() < Monitor::IMAGE_BYTES {
         return Decision::ShortBuffer;

@@ -17,23 +17,23 @@ to_bits zero x = []
 to_bits (suc w) x = odd (x / 2 ^ w) ∷ to_bits w x
 
 -- the number that bits are, the highest first
-unfoldable pub fromBits : List Bool → ℕ
-fromBits [] = 0
-fromBits (b ∷ bs) = bit b * 2 ^ length bs + fromBits bs
+unfoldable pub from_bits : List Bool → ℕ
+from_bits [] = 0
+from_bits (b ∷ bs) = bit b * 2 ^ length bs + from_bits bs
 
 -- the bits of bytes
-unfoldable pub bytesToBits : List ℕ → List Bool
-bytesToBits [] = []
-bytesToBits (b ∷ bs) = to_bits 8 b ++ bytesToBits bs
+unfoldable pub bytes_to_bits : List ℕ → List Bool
+bytes_to_bits [] = []
+bytes_to_bits (b ∷ bs) = to_bits 8 b ++ bytes_to_bits bs
 
 -- the n bytes that bits are
-unfoldable pub bitsToBytes : ℕ → List Bool → List ℕ
-bitsToBytes zero b = []
-bitsToBytes (suc n) b = fromBits (take 8 b) ∷ bitsToBytes n (drop 8 b)
+unfoldable pub bits_to_bytes : ℕ → List Bool → List ℕ
+bits_to_bytes zero b = []
+bits_to_bytes (suc n) b = from_bits (take 8 b) ∷ bits_to_bytes n (drop 8 b)
 
 -- the number in the field of w bits from bit at on; bits past the end are 0
 unfoldable pub field : List ℕ → ℕ → ℕ → ℕ
-field s at w = fromBits (take w (drop at (bytesToBits s ++ replicate (at + w) false)))
+field s at w = from_bits (take w (drop at (bytes_to_bits s ++ replicate (at + w) false)))
 
 -- n records of w elements, one after the other
 unfoldable pub cut : {A : Type 0} → ℕ → ℕ → List A → List (List A)
@@ -50,10 +50,10 @@ abbrev pub first : List Bool → Bool
 first b = get_or b 0 false
 
 -- no bit is set
-unfoldable pub allZero : List Bool → Bool
-allZero [] = true
-allZero (true ∷ b) = false
-allZero (false ∷ b) = allZero b
+unfoldable pub all_zero : List Bool → Bool
+all_zero [] = true
+all_zero (true ∷ b) = false
+all_zero (false ∷ b) = all_zero b
 
 -- every element is a byte (past the end get_or gives 0)
 abbrev pub Bytes : List ℕ → Type 0

@@ -4,8 +4,8 @@ use Rattle.std.specs.Prelude.{◌≡◌, ℕ, zero, suc, ◌+◌, ◌-◌, ◌*�
 use Rattle.std.proofs.Common.{sym, ap, ◌∙◌, append_assoc, append-nil, add_comm, zero-add, arith, length-append, length-drop, drop_at, length-take-le, drop-drop, take-add, take_all}
 use Rattle.std.proofs.Math.Pow.{high, low}
 use Rattle.std.proofs.lemmas.List.{length-replicate, replicate-append-replicate, take-append-le, drop-append-le}
-use Rattle.bits.specs.Bits.{to_bits, fromBits, bytesToBits, field}
-use Rattle.bits.specs.Laws.{length-toBits, fromBits-toBits-mod, fromBits-take, fromBits-append, fromBits-zeros, toBits-fromBits-at, length-bytesToBits}
+use Rattle.bits.specs.Bits.{to_bits, from_bits, bytes_to_bits, field}
+use Rattle.bits.specs.Laws.{length-to_bits, from_bits-to_bits-mod, from_bits-take, from_bits-append, from_bits-zeros, to_bits-from_bits-at, length-bytes_to_bits}
 
 -- ---- bits past the end
 
@@ -16,11 +16,11 @@ field-front p r at w h =
 
 -- the bits of bytes with m zeros behind them
 padded : List ℕ → ℕ → List Bool
-padded s m = bytesToBits s ++ replicate m false
+padded s m = bytes_to_bits s ++ replicate m false
 
 length-padded : (s : List ℕ) (m : ℕ) → length (padded s m) ≡ 8 * length s + m
 unfolding padded
-length-padded s m = rw (length-append, length-bytesToBits s, length-replicate)
+length-padded s m = rw (length-append, length-bytes_to_bits s, length-replicate)
 
 padded-more : (s : List ℕ) (m n : ℕ) → padded s m ++ replicate n false ≡ padded s (m + n)
 unfolding padded
@@ -33,25 +33,25 @@ enough s m n at w hm hn =
     ∙ ap (λ (l : List Bool). take w (drop at l)) (padded-more s m n ∙ ap (padded s) (add_comm m n) ∙ sym (padded-more s n m))
     ∙ field-front (padded s n) (replicate m false) at w (rw (length-padded s n) hn)
 
-field-padded : (s : List ℕ) (m at w : ℕ) → at + w ≤ 8 * length s + m → field s at w ≡ fromBits (take w (drop at (padded s m)))
+field-padded : (s : List ℕ) (m at w : ℕ) → at + w ≤ 8 * length s + m → field s at w ≡ from_bits (take w (drop at (padded s m)))
 unfolding field padded
-field-padded s m at w h = ap fromBits (enough s (at + w) m at w (omega arith) h)
+field-padded s m at w h = ap from_bits (enough s (at + w) m at w (omega arith) h)
 
 -- a field inside the bytes
-pub field-within : (s : List ℕ) (at w : ℕ) → at + w ≤ 8 * length s → field s at w ≡ fromBits (take w (drop at (bytesToBits s)))
+pub field-within : (s : List ℕ) (at w : ℕ) → at + w ≤ 8 * length s → field s at w ≡ from_bits (take w (drop at (bytes_to_bits s)))
 unfolding padded
 field-within s at w h =
-    field-padded s 0 at w (omega arith) ∙ ap (λ (l : List Bool). fromBits (take w (drop at l))) (append-nil (bytesToBits s))
+    field-padded s 0 at w (omega arith) ∙ ap (λ (l : List Bool). from_bits (take w (drop at l))) (append-nil (bytes_to_bits s))
 
 pub field_lt : (s : List ℕ) (at w : ℕ) → field s at w < 2 ^ w
 unfolding field
-field_lt s at w = fromBits-take w (drop at (bytesToBits s ++ replicate (at + w) false))
+field_lt s at w = from_bits-take w (drop at (bytes_to_bits s ++ replicate (at + w) false))
 
 -- the bits of a field
-pub toBits-field : (s : List ℕ) (at w : ℕ) → at + w ≤ 8 * length s → to_bits w (field s at w) ≡ take w (drop at (bytesToBits s))
-toBits-field s at w h =
+pub to_bits-field : (s : List ℕ) (at w : ℕ) → at + w ≤ 8 * length s → to_bits w (field s at w) ≡ take w (drop at (bytes_to_bits s))
+to_bits-field s at w h =
     rw (field-within s at w h)
-    (toBits-fromBits-at w (take w (drop at (bytesToBits s))) (length-take-le w (drop at (bytesToBits s)) (rw (length-drop at (bytesToBits s), length-bytesToBits s) (omega arith))))
+    (to_bits-from_bits-at w (take w (drop at (bytes_to_bits s))) (length-take-le w (drop at (bytes_to_bits s)) (rw (length-drop at (bytes_to_bits s), length-bytes_to_bits s) (omega arith))))
 
 -- ---- one field in another
 
@@ -63,8 +63,8 @@ field-add s at v w =
     let lower = take w (drop (at + v) p) in
     let l : length lower ≡ w = length-take-le w (drop (at + v) p) (rw (length-drop (at + v) p, length-padded s (at + (v + w))) (omega arith)) in
     field-padded s (at + (v + w)) at (v + w) (omega arith)
-    ∙ ap fromBits (take-add v w (drop at p) ∙ ap (λ (r : List Bool). upper ++ take w r) (drop-drop v at p))
-    ∙ fromBits-append upper lower
+    ∙ ap from_bits (take-add v w (drop at p) ∙ ap (λ (r : List Bool). upper ++ take w r) (drop-drop v at p))
+    ∙ from_bits-append upper lower
     ∙ rw (l, field-padded s (at + (v + w)) at v (omega arith), field-padded s (at + (v + w)) (at + v) w (omega arith))
 
 -- a field inside a longer one
@@ -87,27 +87,27 @@ field-from-byte s n at w h = let e : at ≡ 8 * (at / 8) + at % 8 = omega arith 
 -- ---- a byte
 
 field-nil : (at w : ℕ) → field [] at w ≡ 0
-unfolding field bytesToBits
+unfolding field bytes_to_bits
 field-nil at w =
     rw (
       ← replicate-append-replicate at w false,
       drop_at (replicate at false) (replicate w false) at (length-replicate at false),
     )
-    (ap fromBits (take_all w (replicate w false) (omega (arith, length-replicate w false))) ∙ fromBits-zeros w)
+    (ap from_bits (take_all w (replicate w false) (omega (arith, length-replicate w false))) ∙ from_bits-zeros w)
 
 -- behind the first byte
 field-cons : (b : ℕ) (s : List ℕ) (at w : ℕ) → field (b ∷ s) (8 + at) w ≡ field s at w
-unfolding field bytesToBits padded
+unfolding field bytes_to_bits padded
 field-cons b s at w =
     let n = 8 + at + w in
     let e : drop (8 + at) (padded (b ∷ s) n) ≡ drop at (padded s n) =
-    sym (drop-drop at 8 (padded (b ∷ s) n)) ∙ ap (drop at) (ap (drop 8) (append_assoc (to_bits 8 b) (bytesToBits s) (replicate n false)) ∙ drop_at (to_bits 8 b) (padded s n) 8 (length-toBits 8 b)) in
-    ap (λ (l : List Bool). fromBits (take w l)) e ∙ sym (field-padded s n at w (omega arith))
+    sym (drop-drop at 8 (padded (b ∷ s) n)) ∙ ap (drop at) (ap (drop 8) (append_assoc (to_bits 8 b) (bytes_to_bits s) (replicate n false)) ∙ drop_at (to_bits 8 b) (padded s n) 8 (length-to_bits 8 b)) in
+    ap (λ (l : List Bool). from_bits (take w l)) e ∙ sym (field-padded s n at w (omega arith))
 
 -- the first byte
 field-first : (b : ℕ) (s : List ℕ) → field (b ∷ s) 0 8 ≡ b % 256
-unfolding field bytesToBits to_bits
-field-first b s = fromBits-toBits-mod 8 b
+unfolding field bytes_to_bits to_bits
+field-first b s = from_bits-to_bits-mod 8 b
 
 -- the field of a byte is its number, and past the end 0
 pub field-byte : (s : List ℕ) (k : ℕ) → field s (8 * k) 8 ≡ get_or s k 0 % 256

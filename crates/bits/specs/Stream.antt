@@ -8,12 +8,12 @@ use mathlib.Core.List.{List, [], ◌∷◌, ◌++◌, append_assoc, append-nil}
 use native.Mathlib.Omega.{arith}
 use borrow.Author.Tests.{leb-true, leb-false, le-leb, lt-leb}
 use Rattle.std.proofs.Math.ListN.{length-set}
-use Rattle.bits.specs.Bits.{to_bits, bytesToBits, bitsToBytes, Bytes, joined, waiting, stored}
-use Rattle.bits.specs.Laws.{length-toBits, toBits-split, toBits-join, toBits-low, toBits-mod, bytesToBits-append, bitsToBytes-bytesToBits}
+use Rattle.bits.specs.Bits.{to_bits, bytes_to_bits, bits_to_bytes, Bytes, joined, waiting, stored}
+use Rattle.bits.specs.Laws.{length-to_bits, to_bits-split, to_bits-join, to_bits-low, to_bits-mod, bytes_to_bits-append, bits_to_bytes-bytes_to_bits}
 
 -- the bits of a stream: those of the whole bytes before bit at, and the at % 8 low bits of what waits to be stored
 unfoldable pub written : List ℕ → ℕ → ℕ → List Bool
-written s at acc = bytesToBits (take (at / 8) s) ++ to_bits (at % 8) acc
+written s at acc = bytes_to_bits (take (at / 8) s) ++ to_bits (at % 8) acc
 
 -- the stream s at bit at, with new behind it, is the stream t at bit to; no byte behind it has changed
 pub record Appends (s : List ℕ) (at acc : ℕ) (new : List Bool) (t : List ℕ) (to rest : ℕ) : Type 0 where
@@ -46,18 +46,18 @@ module _ (s : List ℕ) (at acc w x : ℕ) where
   length-stored = length-cond (leb 8 (at % 8 + w)) s (at / 8) (joined acc w x / 2 ^ (at % 8 + w - 8) % 256)
 
 -- a byte more
-bits-set : (s : List ℕ) (k b : ℕ) → k < length s → bytesToBits (take (k + 1) (set s k b)) ≡ bytesToBits (take k s) ++ to_bits 8 b
-unfolding bytesToBits
+bits-set : (s : List ℕ) (k b : ℕ) → k < length s → bytes_to_bits (take (k + 1) (set s k b)) ≡ bytes_to_bits (take k s) ++ to_bits 8 b
+unfolding bytes_to_bits
 bits-set s k b h =
-    rw (add-one k, take-suc-set s k b h) (bytesToBits-append (take k s) (b ∷ []) ∙ rw (append-nil (to_bits 8 b)))
+    rw (add-one k, take-suc-set s k b h) (bytes_to_bits-append (take k s) (b ∷ []) ∙ rw (append-nil (to_bits 8 b)))
 
 module _ (s : List ℕ) (at acc w x : ℕ) (hw : w ≤ 8) (h : at + w ≤ 8 * length s) where
   -- the waiting bits with new ones behind them
   bits-joined : to_bits (at % 8 + w) (joined acc w x) ≡ to_bits (at % 8) acc ++ to_bits w x
   unfolding joined
   bits-joined =
-      toBits-join (at % 8) w (acc % 256) {r = x % 2 ^ w} (mod-lt x (pow_pos w))
-      ∙ ap₂ (λ (a b : List Bool). a ++ b) (toBits-low (at % 8) 8 acc (omega arith)) (toBits-mod w x)
+      to_bits-join (at % 8) w (acc % 256) {r = x % 2 ^ w} (mod-lt x (pow_pos w))
+      ∙ ap₂ (λ (a b : List Bool). a ++ b) (to_bits-low (at % 8) 8 acc (omega arith)) (to_bits-mod w x)
 
   appends-when : (full : Bool) → leb 8 (at % 8 + w) ≡ full
       → Appends s at acc (to_bits w x) (cond full (set s (at / 8) (joined acc w x / 2 ^ (at % 8 + w - 8) % 256)) s) (at + w) (waiting acc w x)
@@ -68,8 +68,8 @@ module _ (s : List ℕ) (at acc w x : ℕ) (hw : w ≤ 8) (h : at + w ≤ 8 * le
       let k : (at + w) / 8 ≡ at / 8 = omega arith in
       let n : (at + w) % 8 ≡ at % 8 + w = omega arith in
       record {
-        bits = rw (k, n, toBits-low (at % 8 + w) 8 v (omega arith), bits-joined) (sym (append_assoc (bytesToBits (take (at / 8) s)) (to_bits (at % 8) acc) (to_bits w x)));
-        moves = rw (length-toBits w x);
+        bits = rw (k, n, to_bits-low (at % 8 + w) 8 v (omega arith), bits-joined) (sym (append_assoc (bytes_to_bits (take (at / 8) s)) (to_bits (at % 8) acc) (to_bits w x)));
+        moves = rw (length-to_bits w x);
         stays = refl;
         size = refl;
         small = omega arith;
@@ -81,20 +81,20 @@ module _ (s : List ℕ) (at acc w x : ℕ) (hw : w ≤ 8) (h : at + w ≤ 8 * le
       let k : (at + w) / 8 ≡ at / 8 + 1 = omega arith in
       let n : (at + w) % 8 ≡ j = omega arith in
       let sum : 8 + j ≡ at % 8 + w = omega arith in
-      let p = bytesToBits (take (at / 8) s) in
+      let p = bytes_to_bits (take (at / 8) s) in
       record {
         bits = rw (
           k,
           n,
           bits-set s (at / 8) (v / 2 ^ j % 256) (omega arith),
-          toBits-low j 8 v (omega arith),
-          toBits-mod 8 (v / 2 ^ j),
+          to_bits-low j 8 v (omega arith),
+          to_bits-mod 8 (v / 2 ^ j),
           append_assoc p (to_bits 8 (v / 2 ^ j)) (to_bits j v),
-          ← toBits-split 8 j v,
+          ← to_bits-split 8 j v,
           sum,
           bits-joined,
         ) (sym (append_assoc p (to_bits (at % 8) acc) (to_bits w x)));
-        moves = rw (length-toBits w x);
+        moves = rw (length-to_bits w x);
         stays = rw k (drop-set-lt (at / 8 + 1) s (at / 8) (v / 2 ^ j % 256) (omega arith));
         size = length-set s (at / 8) (v / 2 ^ j % 256);
         small = omega arith;
@@ -139,16 +139,16 @@ bytes_take (suc n) (x ∷ t) h zero = h 0
 bytes_take (suc n) (x ∷ t) h (suc i) = bytes_take n t (λ j. h (suc j)) i
 
 -- from nothing: the first bytes are those of the bits, the others stay
-pub whole : (n : ℕ) (s t : List ℕ) (b : List Bool) (rest : ℕ) → Bytes t → n ≤ length s → Appends s 0 0 b t (8 * n) rest → t ≡ bitsToBytes n b ++ drop n s
-unfolding written to_bits bytesToBits
+pub whole : (n : ℕ) (s t : List ℕ) (b : List Bool) (rest : ℕ) → Bytes t → n ≤ length s → Appends s 0 0 b t (8 * n) rest → t ≡ bits_to_bytes n b ++ drop n s
+unfolding written to_bits bytes_to_bits
 whole n s t b rest ht hn A =
     let k : 8 * n / 8 ≡ n = omega arith in
     let z : 8 * n % 8 ≡ 0 = omega arith in
-    let front : bytesToBits (take n t) ≡ b =
-    sym (append-nil (bytesToBits (take n t)))
-    ∙ ap₂ (λ (i j : ℕ). bytesToBits (take i t) ++ to_bits j rest) (sym k) (sym z) ∙ A.bits in
+    let front : bytes_to_bits (take n t) ≡ b =
+    sym (append-nil (bytes_to_bits (take n t)))
+    ∙ ap₂ (λ (i j : ℕ). bytes_to_bits (take i t) ++ to_bits j rest) (sym k) (sym z) ∙ A.bits in
     let bytes : (i : ℕ) → get_or (take n t) i 0 < 256 = bytes_take n t ht in
-    let first : take n t ≡ bitsToBytes n b =
-    sym (bitsToBytes-bytesToBits n (take n t) bytes (length-take-le n t (omega (arith, A.size)))) ∙ ap (bitsToBytes n) front in
+    let first : take n t ≡ bits_to_bytes n b =
+    sym (bits_to_bytes-bytes_to_bits n (take n t) bytes (length-take-le n t (omega (arith, A.size)))) ∙ ap (bits_to_bytes n) front in
     let back : drop n t ≡ drop n s = subst (λ (i : ℕ). drop i t ≡ drop i s) k A.stays in
     sym (take-append-drop n t) ∙ ap₂ (λ (x y : List ℕ). x ++ y) first back

@@ -1,4 +1,7 @@
 // Fields of bits in bytes, the most significant bit first, with no padding between them.
+
+#![tactic(auto)]
+
 ghost use Rattle.std.specs.Prelude.{◌≡◌, ◌*◌, ◌/◌, ◌%◌, ◌^◌, ◌<◌, min, set};
 ghost use Rattle.bits.specs.Bits.{field, joined, waiting, stored};
 

@@ -10,48 +10,48 @@ use Rattle.model.specs.declared.Decision.{Decision}
 use Rattle.model.specs.State.{widest}
 use Rattle.model.specs.Decisions.{number, refuses}
 use Rattle.model.specs.Runs.{respond, reply}
-use Rattle.model.specs.Reading.{readTable, readImage}
+use Rattle.model.specs.Reading.{read_table, read_image}
 use Rattle.model.specs.Writing.{writing, written}
 use Rattle.model.proofs.Tests.{cond-true, cond-false}
-use Rattle.unit.specs.Rows.{Rows, rowCount, stateIn}
+use Rattle.unit.specs.Rows.{Rows, row_count, state_in}
 use Rattle.unit.specs.Stored.{unit_of}
 use Rattle.unit.proofs.Units.{unit-length}
 use Rattle.asking.specs.Asked.{asked}
 use Rattle.asking.proofs.Lists.{asked-state}
 use Rattle.images_apart.proofs.Answers.{refusal, opened-says}
-use Rattle.capi.specs.Boundary.{beginNumber, beginBytes, requestNumber, requestBytes}
+use Rattle.capi.specs.Boundary.{begin_number, begin_bytes, request_number, request_bytes}
 
 -- a unit into which an image was read has all its rows
-opened-length : (b : List ℕ) (u : Rows) → u ≡ unit_of (readImage widest b).monitor → length u ≡ rowCount
-opened-length b u f = ap length f ∙ unit-length (readImage widest b).monitor
+opened-length : (b : List ℕ) (u : Rows) → u ≡ unit_of (read_image widest b).monitor → length u ≡ row_count
+opened-length b u f = ap length f ∙ unit-length (read_image widest b).monitor
 
-module _ (table buffer : List ℕ) (d : Decision) (e : d ≡ (readTable widest table).decision) where
-  pub begin-refused : refuses d ≡ true → (n : ℕ) → n ≡ number d → (n ≡ beginNumber table buffer) × (buffer ≡ beginBytes table buffer)
-  unfolding beginNumber beginBytes
+module _ (table buffer : List ℕ) (d : Decision) (e : d ≡ (read_table widest table).decision) where
+  pub begin-refused : refuses d ≡ true → (n : ℕ) → n ≡ number d → (n ≡ begin_number table buffer) × (buffer ≡ begin_bytes table buffer)
+  unfolding begin_number begin_bytes
   begin-refused w n f = (f ∙ ap number e ∙ sym (cond-true _ _ _ (refusal d _ e true w)), sym (cond-true _ _ _ (refusal d _ e true w)))
 
-  pub begin-written : refuses d ≡ false → (n : ℕ) (k : Decision) → n ≡ number k → k ≡ writing buffer → (last : List ℕ) → last ≡ written (readTable widest table).monitor buffer
-      → (n ≡ beginNumber table buffer) × (last ≡ beginBytes table buffer)
-  unfolding beginNumber beginBytes
+  pub begin-written : refuses d ≡ false → (n : ℕ) (k : Decision) → n ≡ number k → k ≡ writing buffer → (last : List ℕ) → last ≡ written (read_table widest table).monitor buffer
+      → (n ≡ begin_number table buffer) × (last ≡ begin_bytes table buffer)
+  unfolding begin_number begin_bytes
   begin-written w n k f g last h = (f ∙ ap number g ∙ sym (cond-false _ _ _ (refusal d _ e false w)), h ∙ sym (cond-false _ _ _ (refusal d _ e false w)))
 
-module _ (buffer bytes : List ℕ) (d : Decision) (e : d ≡ (readImage widest buffer).decision) where
+module _ (buffer bytes : List ℕ) (d : Decision) (e : d ≡ (read_image widest buffer).decision) where
   pub request-refused : refuses d ≡ true → (n : ℕ) → n ≡ number d
-      → (128 + n ≡ requestNumber buffer bytes) × (buffer ≡ requestBytes buffer bytes)
-  unfolding requestNumber requestBytes
+      → (128 + n ≡ request_number buffer bytes) × (buffer ≡ request_bytes buffer bytes)
+  unfolding request_number request_bytes
   request-refused w n f = (
     ap (λ k. 128 + k) (f ∙ ap number e) ∙ sym (cond-true _ _ _ (refusal d _ e true w)),
     sym (cond-true _ _ _ (refusal d _ e true w)),
   )
 
   -- u: the rows of the image, asked the request and then saved
-  pub request-carried : refuses d ≡ false → (u : Rows) → u ≡ unit_of (readImage widest buffer).monitor → (n : ℕ) → n ≡ reply bytes (stateIn u) → (v : Rows) → v ≡ asked bytes u
-      → (last : List ℕ) → last ≡ written (stateIn v) buffer → (n ≡ requestNumber buffer bytes) × (last ≡ requestBytes buffer bytes)
-  unfolding requestNumber requestBytes
+  pub request-carried : refuses d ≡ false → (u : Rows) → u ≡ unit_of (read_image widest buffer).monitor → (n : ℕ) → n ≡ reply bytes (state_in u) → (v : Rows) → v ≡ asked bytes u
+      → (last : List ℕ) → last ≡ written (state_in v) buffer → (n ≡ request_number buffer bytes) × (last ≡ request_bytes buffer bytes)
+  unfolding request_number request_bytes
   request-carried w u f n g v h last k =
       let says = opened-says widest buffer u f in
-      let left : stateIn v ≡ (respond bytes (readImage widest buffer).monitor).monitor =
-      ap stateIn h ∙ asked-state bytes u (opened-length buffer u f) ∙ ap (λ (m : Monitor). (respond bytes m).monitor) says in (
+      let left : state_in v ≡ (respond bytes (read_image widest buffer).monitor).monitor =
+      ap state_in h ∙ asked-state bytes u (opened-length buffer u f) ∙ ap (λ (m : Monitor). (respond bytes m).monitor) says in (
         g ∙ ap (reply bytes) says ∙ sym (cond-false _ _ _ (refusal d _ e false w)),
         k ∙ ap (λ (m : Monitor). written m buffer) left ∙ sym (cond-false _ _ _ (refusal d _ e false w)),
       )

@@ -9,7 +9,7 @@ use Rattle.model.specs.declared.Comparison.{Comparison}
 use Rattle.model.specs.declared.Comparison.TheVariants.{Equal, Above, Below, Apart}
 use Rattle.model.specs.Levels.{LevelDominates, compare}
 use Rattle.model.proofs.Comparisons.{compare-means, equal-exactly}
-use Rattle.numbers.specs.Comparing.{comparisonNumber}
+use Rattle.numbers.specs.Comparing.{comparison_number}
 use Rattle.capi.specs.Comparing.{handed, compared}
 
 -- the answer that a number stands for
@@ -19,13 +19,13 @@ answer_of (suc zero) = Above
 answer_of (suc (suc zero)) = Below
 answer_of (suc (suc (suc n))) = Apart
 
-answer-number : (c : Comparison) → answer_of (comparisonNumber c) ≡ c
+answer-number : (c : Comparison) → answer_of (comparison_number c) ≡ c
 answer-number Equal = refl
 answer-number Above = refl
 answer-number Below = refl
 answer-number Apart = refl
 
-four-numbers : (c : Comparison) → comparisonNumber c < 4
+four-numbers : (c : Comparison) → comparison_number c < 4
 four-numbers Equal = omega arith
 four-numbers Above = omega arith
 four-numbers Below = omega arith
@@ -39,11 +39,11 @@ module _ (class-a needs-a class-b needs-b : ℕ) where
   b = record { class = class-b; needs = needs-b }
 
   -- what one answer means is what its number means
-  numbered : {P : Type 0} (c : Comparison) → (compare a b ≡ c) ↔ P → (compared class-a needs-a class-b needs-b ≡ comparisonNumber c) ↔ P
+  numbered : {P : Type 0} (c : Comparison) → (compare a b ≡ c) ↔ P → (compared class-a needs-a class-b needs-b ≡ comparison_number c) ↔ P
   unfolding compared
   numbered c e = (
     λ n. e.0 (sym (answer-number (compare a b)) ∙ ap answer_of n ∙ answer-number c),
-    λ p. ap comparisonNumber (e.1 p),
+    λ p. ap comparison_number (e.1 p),
   )
 
   -- "equal, above (only A dominates), below (only B does) or apart (neither)"

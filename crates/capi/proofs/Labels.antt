@@ -22,69 +22,69 @@ use Rattle.model.specs.Journal.{Act, asks}
 use Rattle.model.specs.Beginnings.{Beginning, table, Accepted, left}
 use Rattle.images.proofs.Reached.{reached-left}
 use Rattle.effects.proofs.Labels.{label-never-falls, never-published, same-label-replies-1, first-label-replies-0}
-use Rattle.unit.specs.Rows.{stateIn}
-use Rattle.runs.specs.MarkedRun.{level, tableW}
-use Rattle.runs.proofs.Lowering.{bytes, stateAfter, lives-met, labelled-met, raised-met, owner-asks-met}
+use Rattle.unit.specs.Rows.{state_in}
+use Rattle.runs.specs.MarkedRun.{level, table_w}
+use Rattle.runs.proofs.Lowering.{bytes, state_after, lives-met, labelled-met, raised-met, owner-asks-met}
 use Rattle.runs.proofs.Witnesses.{table-met}
-use Rattle.journaled.specs.Units.{actedUnit}
-use Rattle.capi.specs.UnitRuns.{unitAfter, unitAsked}
+use Rattle.journaled.specs.Units.{acted_unit}
+use Rattle.capi.specs.UnitRuns.{unit_after, unit_asked}
 use Rattle.capi.proofs.UnitRuns.{after-says, asked-says}
 
 -- asked the requests of a list after anything else: takings-back may stand before them, and not among them
 module _ (b : Beginning) (l : List Act) (bs : List (List ℕ)) (o i j : ℕ) (h : i ≤ j)
-    (live : (k : ℕ) → i ≤ k → k ≤ j → (object (stateIn (unitAsked (take k bs) (unitAfter b l))) o).live ≡ true)
-    (there : (object (stateIn (unitAsked (take i bs) (unitAfter b l))) o).label ≢ Absent) where
-  labelSaid : ℕ → Label
-  labelSaid k = (object (stateIn (unitAsked (take k bs) (unitAfter b l))) o).label
+    (live : (k : ℕ) → i ≤ k → k ≤ j → (object (state_in (unit_asked (take k bs) (unit_after b l))) o).live ≡ true)
+    (there : (object (state_in (unit_asked (take i bs) (unit_after b l))) o).label ≢ Absent) where
+  label_said : ℕ → Label
+  label_said k = (object (state_in (unit_asked (take k bs) (unit_after b l))) o).label
 
-  said : (k : ℕ) → labelSaid k ≡ (object (after (take k bs) (left b l)) o).label
-  unfolding labelSaid
+  said : (k : ℕ) → label_said k ≡ (object (after (take k bs) (left b l)) o).label
+  unfolding label_said
   said k = ap (λ (m : Monitor). (object m o).label) (asked-says b l (take k bs))
 
   lived : (k : ℕ) → i ≤ k → k ≤ j → (object (after (take k bs) (left b l)) o).live ≡ true
   lived k p q = sym (ap (λ (m : Monitor). (object m o).live) (asked-says b l (take k bs))) ∙ live k p q
 
   -- while the object lives, the label that the unit says after j requests dominates that after i
-  pub unit-label-never-falls : Dominates (object (stateIn (unitAsked (take j bs) (unitAfter b l))) o).label (object (stateIn (unitAsked (take i bs) (unitAfter b l))) o).label
-  unfolding labelSaid
+  pub unit-label-never-falls : Dominates (object (state_in (unit_asked (take j bs) (unit_after b l))) o).label (object (state_in (unit_asked (take i bs) (unit_after b l))) o).label
+  unfolding label_said
   unit-label-never-falls =
       subst₂ Dominates (sym (said j)) (sym (said i)) (label-never-falls (left b l) bs o i j h lived (λ e. there (said i ∙ e)))
 
   -- and who reads the object then, by r or w, has a clearance that dominates the earlier label
-  pub unit-never-published : Accepted b → (s : ℕ) (x : Mode) → Holds (stateIn (unitAsked (take j bs) (unitAfter b l))) s o x → observes x ≡ true
-      → Dominates (clearance (left b l) s) (object (stateIn (unitAsked (take i bs) (unitAfter b l))) o).label
-  unfolding labelSaid
+  pub unit-never-published : Accepted b → (s : ℕ) (x : Mode) → Holds (state_in (unit_asked (take j bs) (unit_after b l))) s o x → observes x ≡ true
+      → Dominates (clearance (left b l) s) (object (state_in (unit_asked (take i bs) (unit_after b l))) o).label
+  unfolding label_said
   unit-never-published e s x held reads =
       subst (Dominates (clearance (left b l) s)) (sym (said i))
       (never-published (left b l) (reached-left b e l) bs o i j h lived (λ w. there (said i ∙ w)) s x
       (subst (λ (m : Monitor). Holds m s o x) (asked-says b l (take j bs)) held) reads)
 
 -- the hypotheses are met by the run without lowering: object 0 is live after 2 to 13 requests, and its label rises from (3, 0001) to (3, 0003)
-saidAfter : (k : ℕ) → stateIn (unitAsked (take k bytes) (unitAfter (table widest tableW) [])) ≡ stateAfter k
-unfolding actedUnit
-saidAfter k = after-says (table widest tableW) (map asks (take k bytes))
+said_after : (k : ℕ) → state_in (unit_asked (take k bytes) (unit_after (table widest table_w) [])) ≡ state_after k
+unfolding acted_unit
+said_after k = after-says (table widest table_w) (map asks (take k bytes))
 
-lives-there : (k : ℕ) → 2 ≤ k → k ≤ 13 → (object (stateIn (unitAsked (take k bytes) (unitAfter (table widest tableW) []))) 0).live ≡ true
-lives-there k p q = ap (λ (m : Monitor). (object m 0).live) (saidAfter k) ∙ lives-met k p q
+lives-there : (k : ℕ) → 2 ≤ k → k ≤ 13 → (object (state_in (unit_asked (take k bytes) (unit_after (table widest table_w) []))) 0).live ≡ true
+lives-there k p q = ap (λ (m : Monitor). (object m 0).live) (said_after k) ∙ lives-met k p q
 
-labelled-there : (object (stateIn (unitAsked (take 2 bytes) (unitAfter (table widest tableW) []))) 0).label ≢ Absent
-labelled-there e = labelled-met (sym (ap (λ (m : Monitor). (object m 0).label) (saidAfter 2)) ∙ e)
+labelled-there : (object (state_in (unit_asked (take 2 bytes) (unit_after (table widest table_w) []))) 0).label ≢ Absent
+labelled-there e = labelled-met (sym (ap (λ (m : Monitor). (object m 0).label) (said_after 2)) ∙ e)
 
-pub raised-there : Dominates (object (stateIn (unitAsked (take 13 bytes) (unitAfter (table widest tableW) []))) 0).label (object (stateIn (unitAsked (take 2 bytes) (unitAfter (table widest tableW) []))) 0).label
-raised-there = unit-label-never-falls (table widest tableW) [] bytes 0 2 13 (omega arith) lives-there labelled-there
+pub raised-there : Dominates (object (state_in (unit_asked (take 13 bytes) (unit_after (table widest table_w) []))) 0).label (object (state_in (unit_asked (take 2 bytes) (unit_after (table widest table_w) []))) 0).label
+raised-there = unit-label-never-falls (table widest table_w) [] bytes 0 2 13 (omega arith) lives-there labelled-there
 
-pub read-there : Dominates (clearance (left (table widest tableW) []) 1) (object (stateIn (unitAsked (take 2 bytes) (unitAfter (table widest tableW) []))) 0).label
+pub read-there : Dominates (clearance (left (table widest table_w) []) 1) (object (state_in (unit_asked (take 2 bytes) (unit_after (table widest table_w) []))) 0).label
 read-there =
-    unit-never-published (table widest tableW) [] bytes 0 2 13 (omega arith) lives-there labelled-there table-met 1 Read
-    (subst (λ (m : Monitor). Holds m 1 0 Read) (sym (saidAfter 13)) raised-met.2) refl
+    unit-never-published (table widest table_w) [] bytes 0 2 13 (omega arith) lives-there labelled-there table-met 1 Read
+    (subst (λ (m : Monitor). Holds m 1 0 Read) (sym (said_after 13)) raised-met.2) refl
 
 -- the owner's first label and the same label again, the second and the third request of that run
-pub first-there : reply (get_or bytes 1 []) (stateAfter 1) ≡ 0
+pub first-there : reply (get_or bytes 1 []) (state_after 1) ≡ 0
 first-there =
-    first-label-replies-0 (stateAfter 1) (reached-left (table widest tableW) table-met (map asks (take 1 bytes))) (get_or bytes 1 []) 0 (level 3 0x0001)
+    first-label-replies-0 (state_after 1) (reached-left (table widest table_w) table-met (map asks (take 1 bytes))) (get_or bytes 1 []) 0 (level 3 0x0001)
     owner-asks-met.0 owner-asks-met.2 owner-asks-met.3 (λ p e. absurd (omega (arith, sym owner-asks-met.4 ∙ e)))
 
-pub same-there : reply (get_or bytes 2 []) (stateAfter 2) ≡ 1
+pub same-there : reply (get_or bytes 2 []) (state_after 2) ≡ 1
 same-there =
-    same-label-replies-1 (stateAfter 2) (reached-left (table widest tableW) table-met (map asks (take 2 bytes))) (get_or bytes 2 []) 0 (level 3 0x0001)
+    same-label-replies-1 (state_after 2) (reached-left (table widest table_w) table-met (map asks (take 2 bytes))) (get_or bytes 2 []) 0 (level 3 0x0001)
     owner-asks-met.1 (lives-met 2 (omega arith) (omega arith)) raised-met.0

@@ -7,25 +7,25 @@ use mathlib.Core.Bool.{Bool, true, false}
 use mathlib.Core.List.Permᴰ
 use mathlib.Core.List.{List, [], ◌∷◌}
 use lib.ListN.{get_or}
-use Rattle.bits.specs.Bits.{odd, to_bits, fromBits, bytesToBits, field, cut, allZero}
+use Rattle.bits.specs.Bits.{odd, to_bits, from_bits, bytes_to_bits, field, cut, all_zero}
 use Rattle.model.specs.declared.Monitor.{Monitor}
 use Rattle.model.specs.declared.Mode.{Mode}
 use Rattle.model.specs.declared.Mode.TheVariants.{Read, Write, Execute}
 use Rattle.model.specs.declared.Request.TheVariants.{Get, Release, Give, Rescind}
 use Rattle.model.specs.declared.Decoded.TheVariants.{Says}
 use Rattle.model.specs.Tests.{implies, unless}
-use Rattle.model.specs.Levels.{compare, levelDominates, dominates, sameLabel}
+use Rattle.model.specs.Levels.{compare, level_dominates, dominates, same_label}
 use Rattle.model.specs.Modes.{has, add, remove}
-use Rattle.model.specs.State.{widest, object, rightsOf}
+use Rattle.model.specs.State.{widest, object, rights_of}
 use Rattle.model.specs.Properties.{Holds}
-use Rattle.model.specs.Profiles.{profileFits, labelInside, absentBeyond, levelsInside}
-use Rattle.model.specs.Hierarchy.{meets, without, parentLive, labelUnder, labelsRise}
-use Rattle.model.specs.Requests.{fields, modeAllowed, unusedZero, parentWithin, fieldsFormed, within, wellFormed, request, decodeFields, decode}
+use Rattle.model.specs.Profiles.{profile_fits, label_inside, absent_beyond, levels_inside}
+use Rattle.model.specs.Hierarchy.{meets, without, parent_live, label_under, labels_rise}
+use Rattle.model.specs.Requests.{fields, mode_allowed, unused_zero, parent_within, fields_formed, within, well_formed, request, decode_fields, decode}
 use Rattle.model.specs.Companies.{company, compatible, confined}
-use Rattle.model.specs.Rules.{simpleAll, starPair, starFrom, starFor, starAll, notLowered, changed, already, checks, answer, step, wallPair, wallFrom, wallFor, wallAll}
+use Rattle.model.specs.Rules.{simple_all, star_pair, star_from, star_for, star_all, not_lowered, changed, already, checks, answer, step, wall_pair, wall_from, wall_for, wall_all}
 use Rattle.model.specs.Runs.{respond, after, replies}
 use Rattle.model.specs.Journal.{ask, acted}
-use Rattle.model.specs.Reading.{labelFrom, labelForm, tableFrom, tableForm, tableChecks, begin, readTable}
+use Rattle.model.specs.Reading.{label_from, label_form, table_from, table_form, table_checks, begin, read_table}
 use Rattle.model.specs.Beginnings.{Reached}
 use Rattle.model.proofs.Tests.{clash, apart}
 use Rattle.images.proofs.Reached.{reached-after}
@@ -33,7 +33,7 @@ use Rattle.orders.specs.Orders.{Each}
 use Rattle.request_orders.specs.AnyOrder.{OrdersAgree, GrantedAt}
 use Rattle.request_orders.specs.RightsLists.{IsGive, IsRelease, NothingElse}
 use Rattle.request_orders.proofs.RightsLists.{two-kinds}
-use Rattle.runs.specs.MarkedRun.{tableW}
+use Rattle.runs.specs.MarkedRun.{table_w}
 use Rattle.start_order.proofs.Examples.{bytes, made, read-1}
 use Rattle.capi.proofs.StartOrders.{there, reached-there}
 
@@ -66,7 +66,7 @@ listed = give-w ∷ give-e ∷ give-w ∷ []
 
 -- whether s2 has a right at o0
 abbrev right : Mode → Monitor → Bool
-right x m = has x (rightsOf (object m 0) 2)
+right x m = has x (rights_of (object m 0) 2)
 
 -- a copy of a give, or of a release, is granted too, with 1 where the first one says 0; a right that the owner has not itself is not given,
 -- whichever comes first, and who is not the owner gives nothing; malformed bytes get 2. The right of a give that is granted is there in the end, and
@@ -80,13 +80,13 @@ pub computed : (replies listed there ≡ 0 ∷ 6 ∷ 1 ∷ [])
     × (right Write (after (give-w ∷ rescind-w ∷ []) there) ≡ false)
     × (right Write (after (rescind-w ∷ give-w ∷ []) there) ≡ true)
     × Holds (after (read-1 ∷ []) there) 1 1 Read
-unfolding there give-w rescind-w give-e give-e-itself give-a-on release-r replies tableW tableFrom tableForm labelForm labelFrom tableChecks profileFits absentBeyond levelsInside labelInside begin readTable allZero cut made read-1 bytesToBits to_bits odd fromBits field decode decodeFields fields wellFormed fieldsFormed within modeAllowed unusedZero request respond step after acted ask checks already changed starAll starFor starFrom starPair wallAll wallFor wallFrom wallPair compatible confined company implies unless answer simpleAll notLowered has add remove sameLabel dominates levelDominates compare parentWithin parentLive labelUnder labelsRise meets without
+unfolding there give-w rescind-w give-e give-e-itself give-a-on release-r replies table_w table_from table_form label_form label_from table_checks profile_fits absent_beyond levels_inside label_inside begin read_table all_zero cut made read-1 bytes_to_bits to_bits odd from_bits field decode decode_fields fields well_formed fields_formed within mode_allowed unused_zero request respond step after acted ask checks already changed star_all star_for star_from star_pair wall_all wall_for wall_from wall_pair compatible confined company implies unless answer simple_all not_lowered has add remove same_label dominates level_dominates compare parent_within parent_live label_under labels_rise meets without
 computed = (refl, refl, refl, refl, refl, refl, refl, refl, refl)
 
 -- what the bytes say
 says : (decode widest give-w ≡ Says (Give 1 2 0 Write)) × (decode widest give-e ≡ Says (Give 1 2 0 Execute)) × (decode widest rescind-w ≡ Says (Rescind 1 2 0 Write))
     × (decode widest release-r ≡ Says (Release 1 1 Read)) × (decode widest read-1 ≡ Says (Get 1 1 Read))
-unfolding give-w give-e rescind-w release-r read-1 bytesToBits to_bits odd fromBits field decode decodeFields fields wellFormed fieldsFormed within modeAllowed unusedZero request parentWithin implies
+unfolding give-w give-e rescind-w release-r read-1 bytes_to_bits to_bits odd from_bits field decode decode_fields fields well_formed fields_formed within mode_allowed unused_zero request parent_within implies
 says = (refl, refl, refl, refl, refl)
 
 -- on a state that a run reaches

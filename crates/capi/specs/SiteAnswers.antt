@@ -3,14 +3,14 @@
 use Rattle.std.specs.Prelude.{ℕ, cond, List}
 use Rattle.model.specs.declared.Profile.{Profile}
 use Rattle.model.specs.declared.Decision.TheVariants.{OutsideProfile}
-use Rattle.model.specs.Profiles.{profileFits}
+use Rattle.model.specs.Profiles.{profile_fits}
 use Rattle.model.specs.Decisions.{number}
-use Rattle.images_apart.specs.Apart.{distinguishNumber, distinguishBytes}
+use Rattle.images_apart.specs.Apart.{distinguish_number, distinguish_bytes}
 
 -- "16, a profile outside these ranges, before anything else is read"
-unfoldable pub apartNumber : Profile → List ℕ → List ℕ → List ℕ → ℕ
-apartNumber p a b buffer = cond (profileFits p) (distinguishNumber p a b buffer) (number OutsideProfile)
+unfoldable pub apart_number : Profile → List ℕ → List ℕ → List ℕ → ℕ
+apart_number p a b buffer = cond (profile_fits p) (distinguish_number p a b buffer) (number OutsideProfile)
 
 -- it leaves every byte
-unfoldable pub apartBytes : Profile → List ℕ → List ℕ → List ℕ → List ℕ
-apartBytes p a b buffer = cond (profileFits p) (distinguishBytes p a b buffer) buffer
+unfoldable pub apart_bytes : Profile → List ℕ → List ℕ → List ℕ → List ℕ
+apart_bytes p a b buffer = cond (profile_fits p) (distinguish_bytes p a b buffer) buffer

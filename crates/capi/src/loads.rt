@@ -1,8 +1,8 @@
 // Test loads from a seed.
 ghost use Rattle.std.specs.Prelude.{◌≡◌};
 ghost use Rattle.model.specs.Decisions.{number};
-ghost use Rattle.test_load.specs.Load.{loading, loadCount, loaded};
-ghost use Rattle.numbers.specs.Counts.{withCount};
+ghost use Rattle.test_load.specs.Load.{loading, load_count, loaded};
+ghost use Rattle.numbers.specs.Counts.{with_count};
 
 use labels::number;
 use numbers::with_count;
@@ -11,7 +11,7 @@ use test_load::fill;
 // As many whole requests from the seed as the buffer has room for.
 #[unsafe(no_mangle)]
 pub extern "C" fn circmon_load(seed: u32, requests: &mut [u8]) -> u64
-    ensures { (result ≡ withCount (number (loading seed)) (loadCount seed requests.old)) × (requests.new ≡ loaded seed requests.old) }
+    ensures { (result ≡ with_count (number (loading seed)) (load_count seed requests.old)) × (requests.new ≡ loaded seed requests.old) }
 {
     let load = fill(seed, requests);
     let decision = load.decision;

@@ -1,10 +1,10 @@
 // Beginnings and comparisons of two images under a profile, which passes as its four numbers.
 ghost use Rattle.std.specs.Prelude.{◌≡◌};
 ghost use Rattle.model.specs.Decisions.{number};
-ghost use Rattle.model.specs.Reading.{readTable, readImage};
+ghost use Rattle.model.specs.Reading.{read_table, read_image};
 ghost use Rattle.model.specs.Profiles.{site};
-ghost use Rattle.journaled.specs.Units.{begunRows};
-ghost use Rattle.capi.specs.SiteAnswers.{apartNumber, apartBytes};
+ghost use Rattle.journaled.specs.Units.{begun_rows};
+ghost use Rattle.capi.specs.SiteAnswers.{apart_number, apart_bytes};
 
 use images_apart::tell;
 use journaled::{ROWS, open, start};
@@ -22,7 +22,7 @@ pub extern "C" fn circmon_start_in(
     needs: u16,
     table: &[u8],
 ) -> u8
-    ensures { (result ≡ number (readTable (site subjects objects class needs) table.now).decision) × (unit.new ≡ begunRows (readTable (site subjects objects class needs) table.now).monitor) }
+    ensures { (result ≡ number (read_table (site subjects objects class needs) table.now).decision) × (unit.new ≡ begun_rows (read_table (site subjects objects class needs) table.now).monitor) }
 {
     let started = start(unit, site(subjects, objects, class, needs), table);
     number(started)
@@ -38,7 +38,7 @@ pub extern "C" fn circmon_open_in(
     needs: u16,
     image: &[u8],
 ) -> u8
-    ensures { (result ≡ number (readImage (site subjects objects class needs) image.now).decision) × (unit.new ≡ begunRows (readImage (site subjects objects class needs) image.now).monitor) }
+    ensures { (result ≡ number (read_image (site subjects objects class needs) image.now).decision) × (unit.new ≡ begun_rows (read_image (site subjects objects class needs) image.now).monitor) }
 {
     let opened = open(unit, site(subjects, objects, class, needs), image);
     number(opened)
@@ -55,7 +55,7 @@ pub extern "C" fn circmon_distinguish_in(
     b: &[u8],
     requests: &mut [u8],
 ) -> u8
-    ensures { (result ≡ apartNumber (site subjects objects class needs) a.now b.now requests.old) × (requests.new ≡ apartBytes (site subjects objects class needs) a.now b.now requests.old) }
+    ensures { (result ≡ apart_number (site subjects objects class needs) a.now b.now requests.old) × (requests.new ≡ apart_bytes (site subjects objects class needs) a.now b.now requests.old) }
 {
     let profile = site(subjects, objects, class, needs);
     if !fits(profile) {

@@ -4,11 +4,11 @@ ghost use Rattle.std.specs.Prelude.{◌≡◌};
 ghost use Rattle.model.specs.State.{widest};
 ghost use Rattle.model.specs.Decisions.{number};
 ghost use Rattle.model.specs.Runs.{reply};
-ghost use Rattle.model.specs.Journal.{takingBack};
-ghost use Rattle.model.specs.Reading.{readTable, readImage};
+ghost use Rattle.model.specs.Journal.{taking_back};
+ghost use Rattle.model.specs.Reading.{read_table, read_image};
 ghost use Rattle.model.specs.Writing.{writing, written};
-ghost use Rattle.unit.specs.Rows.{stateIn};
-ghost use Rattle.journaled.specs.Units.{saidBy, begunRows, askedUnit, takenUnit};
+ghost use Rattle.unit.specs.Rows.{state_in};
+ghost use Rattle.journaled.specs.Units.{said_by, begun_rows, asked_unit, taken_unit};
 ghost use Rattle.page.specs.Page.{paging, paged};
 
 use journaled::{ROWS, ask, open, start, take_back};
@@ -19,7 +19,7 @@ use writing::save;
 // Begins from an image; a refused one leaves the empty monitor in the unit.
 #[unsafe(no_mangle)]
 pub extern "C" fn circmon_open(unit: &mut [[u8; 16]; ROWS], image: &[u8]) -> u8
-    ensures { (result ≡ number (readImage widest image.now).decision) × (unit.new ≡ begunRows (readImage widest image.now).monitor) }
+    ensures { (result ≡ number (read_image widest image.now).decision) × (unit.new ≡ begun_rows (read_image widest image.now).monitor) }
 {
     let opened = open(unit, widest(), image);
     number(opened)
@@ -28,7 +28,7 @@ pub extern "C" fn circmon_open(unit: &mut [[u8; 16]; ROWS], image: &[u8]) -> u8
 // Begins from a table; a refused one leaves the empty monitor in the unit.
 #[unsafe(no_mangle)]
 pub extern "C" fn circmon_start(unit: &mut [[u8; 16]; ROWS], table: &[u8]) -> u8
-    ensures { (result ≡ number (readTable widest table.now).decision) × (unit.new ≡ begunRows (readTable widest table.now).monitor) }
+    ensures { (result ≡ number (read_table widest table.now).decision) × (unit.new ≡ begun_rows (read_table widest table.now).monitor) }
 {
     let started = start(unit, widest(), table);
     number(started)
@@ -37,7 +37,7 @@ pub extern "C" fn circmon_start(unit: &mut [[u8; 16]; ROWS], table: &[u8]) -> u8
 // The reply to a request; the unit is the state after it, and with reply 0 the journal has the record as it was.
 #[unsafe(no_mangle)]
 pub extern "C" fn circmon_ask(unit: &mut [[u8; 16]; ROWS], request: &[u8]) -> u8
-    ensures { (result ≡ reply request.now (stateIn unit.old)) × (unit.new ≡ askedUnit request.now unit.old) }
+    ensures { (result ≡ reply request.now (state_in unit.old)) × (unit.new ≡ asked_unit request.now unit.old) }
 {
     ask(unit, request)
 }
@@ -45,7 +45,7 @@ pub extern "C" fn circmon_ask(unit: &mut [[u8; 16]; ROWS], request: &[u8]) -> u8
 // Takes back the latest request that is still in the journal; an empty journal leaves every byte.
 #[unsafe(no_mangle)]
 pub extern "C" fn circmon_take_back(unit: &mut [[u8; 16]; ROWS]) -> u8
-    ensures { (result ≡ number (takingBack (saidBy unit.old).journal)) × (unit.new ≡ takenUnit unit.old) }
+    ensures { (result ≡ number (taking_back (said_by unit.old).journal)) × (unit.new ≡ taken_unit unit.old) }
 {
     let taken = take_back(unit);
     number(taken)
@@ -54,7 +54,7 @@ pub extern "C" fn circmon_take_back(unit: &mut [[u8; 16]; ROWS]) -> u8
 // The image of the state into the buffer.
 #[unsafe(no_mangle)]
 pub extern "C" fn circmon_save(unit: &[[u8; 16]; ROWS], image: &mut [u8]) -> u8
-    ensures { (result ≡ number (writing image.old)) × (image.new ≡ written (stateIn unit.now) image.old) }
+    ensures { (result ≡ number (writing image.old)) × (image.new ≡ written (state_in unit.now) image.old) }
 {
     let rows = &unit[..];
     let saved = save(&rows[0..unit::ROWS], image);
@@ -64,7 +64,7 @@ pub extern "C" fn circmon_save(unit: &[[u8; 16]; ROWS], image: &mut [u8]) -> u8
 // The access page of an object into the buffer.
 #[unsafe(no_mangle)]
 pub extern "C" fn circmon_page(unit: &[[u8; 16]; ROWS], object: u8, page: &mut [u8]) -> u8
-    ensures { (result ≡ number (paging (stateIn unit.now) object page.old)) × (page.new ≡ paged (stateIn unit.now) object page.old) }
+    ensures { (result ≡ number (paging (state_in unit.now) object page.old)) × (page.new ≡ paged (state_in unit.now) object page.old) }
 {
     let rows = &unit[..];
     let answer = page::page(&rows[0..unit::ROWS], object, page);

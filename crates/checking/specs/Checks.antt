@@ -6,9 +6,9 @@ use Rattle.model.specs.declared.Subject.{Subject}
 use Rattle.model.specs.declared.Object.{Object}
 use Rattle.model.specs.Tests.{all_of, implies}
 use Rattle.model.specs.Levels.{subset, present, dominates}
-use Rattle.model.specs.Modes.{anyObserves, anyNeedsLabel}
-use Rattle.model.specs.Rules.{simpleAll}
-use Rattle.model.specs.Reading.{onlyEnrolled, withinMatrix, heldLabelled}
+use Rattle.model.specs.Modes.{any_observes, any_needs_label}
+use Rattle.model.specs.Rules.{simple_all}
+use Rattle.model.specs.Reading.{only_enrolled, within_matrix, held_labelled}
 use Rattle.checking.specs.declared.Findings.{Findings}
 
 -- passed at two places
@@ -27,20 +27,20 @@ at clearance label rights held =
     record {
       enrolled = present clearance || (eqb rights 0 && eqb held 0);
       matrix = subset 4 held rights;
-      labelled = implies (anyNeedsLabel held) (present label);
-      simple = implies (anyObserves held) (dominates clearance label);
+      labelled = implies (any_needs_label held) (present label);
+      simple = implies (any_observes held) (dominates clearance label);
     }
 
 -- the checks of the model at one object
-abbrev pub ofObject : List Subject → Object → Findings
-ofObject l ob = record { enrolled = onlyEnrolled l ob; matrix = withinMatrix ob; labelled = heldLabelled ob; simple = simpleAll l ob }
+abbrev pub of_object : List Subject → Object → Findings
+of_object l ob = record { enrolled = only_enrolled l ob; matrix = within_matrix ob; labelled = held_labelled ob; simple = simple_all l ob }
 
 -- over objects
-abbrev pub ofObjects : List Subject → List Object → Findings
-ofObjects l obs =
+abbrev pub of_objects : List Subject → List Object → Findings
+of_objects l obs =
     record {
-      enrolled = all_of (onlyEnrolled l) obs;
-      matrix = all_of withinMatrix obs;
-      labelled = all_of heldLabelled obs;
-      simple = all_of (simpleAll l) obs;
+      enrolled = all_of (only_enrolled l) obs;
+      matrix = all_of within_matrix obs;
+      labelled = all_of held_labelled obs;
+      simple = all_of (simple_all l) obs;
     }

@@ -1,11 +1,14 @@
 // The checks of a whole state that an image must pass, each over all objects before the next: 12, 6, 7, 8, 9, 18, 19, 20.
 // Checks 12, 6, 7 and 8 look at one object and one subject at a time, so one pass over them finds what all four need.
+
+#![tactic(auto)]
+
 ghost use Rattle.std.specs.Prelude.{◌≡◌, ◌<◌, length};
 ghost use Rattle.model.specs.Levels.{present};
-ghost use Rattle.model.specs.State.{objectCount, clearanceAt, object};
-ghost use Rattle.unit.specs.Rows.{rowCount, subjectsIn, objectsIn, stateIn};
-ghost use Rattle.model.specs.Reading.{stateChecks};
-ghost use Rattle.checking.specs.Checks.{both, at, ofObject, ofObjects};
+ghost use Rattle.model.specs.State.{object_count, clearance_at, object};
+ghost use Rattle.unit.specs.Rows.{row_count, subjects_in, objects_in, state_in};
+ghost use Rattle.model.specs.Reading.{state_checks};
+ghost use Rattle.checking.specs.Checks.{both, at, of_object, of_objects};
 
 use hierarchy::{labels_rise, parents_hold};
 use labels::{check, dominates, implies, is_present};
@@ -52,8 +55,8 @@ fn findings_at(clearance: Label, label: Label, rights: u8, held: u8) -> Findings
 
 // The subject with this number is enrolled; no subject has a number past 15.
 fn is_known(unit: &[[u8; 16]], s: u8) -> bool
-    requires { length unit.now ≡ rowCount }
-    ensures { result ≡ present (clearanceAt (subjectsIn unit.now) s) }
+    requires { length unit.now ≡ row_count }
+    ensures { result ≡ present (clearance_at (subjects_in unit.now) s) }
 {
     if (s as usize) < Monitor::SUBJECTS {
         return is_enrolled(unit, s);
@@ -63,9 +66,9 @@ fn is_known(unit: &[[u8; 16]], s: u8) -> bool
 
 // All subjects at one object.
 fn findings_of(unit: &[[u8; 16]], o: u8) -> Findings
-    requires unit_len { length unit.now ≡ rowCount }
-    requires o_lt_object_count { o < objectCount }
-    ensures { result ≡ ofObject (subjectsIn unit.now) (object (stateIn unit.now) o) }
+    requires unit_len { length unit.now ≡ row_count }
+    requires o_lt_object_count { o < object_count }
+    ensures { result ≡ of_object (subjects_in unit.now) (object (state_in unit.now) o) }
 {
     let label = label_of(unit, o);
     let owned = implies(is_live(unit, o), is_known(unit, owner_of(unit, o)));
@@ -92,8 +95,8 @@ fn findings_of(unit: &[[u8; 16]], o: u8) -> Findings
 
 // All subjects at all objects.
 fn findings_over(unit: &[[u8; 16]]) -> Findings
-    requires { length unit.now ≡ rowCount }
-    ensures { result ≡ ofObjects (subjectsIn unit.now) (objectsIn unit.now) }
+    requires { length unit.now ≡ row_count }
+    ensures { result ≡ of_objects (subjects_in unit.now) (objects_in unit.now) }
 {
     let mut found = Findings {
         enrolled: true,
@@ -111,8 +114,8 @@ fn findings_over(unit: &[[u8; 16]]) -> Findings
 
 // The answer of the first check that fails, or Granted. For every content of a unit.
 pub fn state_checks(unit: &[[u8; 16]]) -> Decision
-    requires { length unit.now ≡ rowCount }
-    ensures { result ≡ stateChecks (stateIn unit.now) }
+    requires { length unit.now ≡ row_count }
+    ensures { result ≡ state_checks (state_in unit.now) }
 {
     let found = findings_over(unit);
     let wall_kept = !breaks_wall(unit, 0, Monitor::SUBJECTS);

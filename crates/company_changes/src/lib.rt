@@ -1,8 +1,11 @@
 // Company numbers, on a unit (change request §10): the checks in their order, then what is stored. It returns the number of its answer; a refusal
 // leaves every byte. The numbers are stored before the wall is asked for, and the old row is put back where it refuses.
+
+#![tactic(auto)]
+
 ghost use Rattle.std.specs.Prelude.{◌≡◌, ◌<◌};
-ghost use Rattle.model.specs.State.{subjectCount, objectCount};
-ghost use Rattle.unit.specs.Rows.{rowCount};
+ghost use Rattle.model.specs.State.{subject_count, object_count};
+ghost use Rattle.unit.specs.Rows.{row_count};
 ghost use Rattle.kinds.specs.Carried.{Does};
 
 use labels::{number, refuses};
@@ -13,8 +16,8 @@ use wall::breaks_wall;
 
 // 8: the four company numbers of the object become those of the owner's request. The wall is asked of all subjects in the state after it.
 pub fn change_companies(unit: &mut [[u8; 16]], s: u8, o: u8, companies: u16) -> u8
-    requires* do_value { do ⌜ (← ⟦unit.len()⟧) ≡ rowCount ⌝ }
-    requires s_lt_subject_count { (s < subjectCount) × (o < objectCount) }
+    requires unit_len { length unit.old ≡ row_count }
+    requires s_lt_subject_count { (s < subject_count) × (o < object_count) }
     ensures { Does (Request.SetCompanies s o companies) unit.old unit.new result }
 {
     let d = by_owner(unit, s, o);

@@ -7,10 +7,10 @@ use mathlib.Core.List.{List}
 use Rattle.bits.specs.Bits.{field}
 use Rattle.bits.specs.Fields.{field-of-field}
 use Rattle.model.specs.Requests.{fields}
-use Rattle.decoding.specs.Word.{fieldsOfWord}
+use Rattle.decoding.specs.Word.{fields_of_word}
 
-pub fields-word : (b : List ℕ) → fieldsOfWord (field b 0 48) ≡ fields b
-unfolding fields fieldsOfWord
+pub fields-word : (b : List ℕ) → fields_of_word (field b 0 48) ≡ fields b
+unfolding fields fields_of_word
 fields-word b =
     let last : field b 0 48 / 2 ^ 0 % 2 ^ 4 ≡ field b 0 48 % 2 ^ 4 = omega arith in
     λ i. record {

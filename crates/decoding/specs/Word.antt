@@ -7,8 +7,8 @@ use Rattle.model.specs.declared.Fields.{Fields}
 abbrev pub bits_of : ℕ → ℕ → ℕ → ℕ
 bits_of word low n = word / 2 ^ low % 2 ^ n
 
-unfoldable pub fieldsOfWord : ℕ → Fields
-fieldsOfWord word =
+unfoldable pub fields_of_word : ℕ → Fields
+fields_of_word word =
     record {
       kind = bits_of word 44 4;
       actor = bits_of word 39 5;

@@ -1,14 +1,17 @@
 // What the six bytes of a request say.
+
+#![tactic(auto)]
+
 ghost use Rattle.std.specs.Prelude.{◌≡◌};
-ghost use Rattle.model.specs.Requests.{modeAllowed, unusedZero, parentWithin, fieldsFormed, levelOf, within, wellFormed, mode_of, request, decodeFields, decode};
-ghost use Rattle.decoding.specs.Word.{fieldsOfWord};
+ghost use Rattle.model.specs.Requests.{mode_allowed, unused_zero, parent_within, fields_formed, level_of, within, well_formed, mode_of, request, decode_fields, decode};
+ghost use Rattle.decoding.specs.Word.{fields_of_word};
 
 use labels::{at_least, implies};
 use model::{Creation, Decoded, Fields, Level, Mode, Profile, Request};
 
 // The fields of 48 bits that were read as one number: kind 4 bits, actor 5, other subject 5, object 7, mode 3, class 4, needs 16, spare 4.
 pub fn fields_of(word: u64) -> Fields
-    ensures { result ≡ fieldsOfWord word }
+    ensures { result ≡ fields_of_word word }
 {
     Fields {
         kind: ((word >> 44) % 16) as u8,
@@ -25,7 +28,7 @@ pub fn fields_of(word: u64) -> Fields
 // ---- which fields are well formed
 
 fn mode_allowed(kind: u8, mode: u8) -> bool
-    ensures { result ≡ modeAllowed kind mode }
+    ensures { result ≡ mode_allowed kind mode }
 {
     if kind <= 4 {
         return (1 <= mode) & (mode <= 4);
@@ -38,7 +41,7 @@ fn mode_allowed(kind: u8, mode: u8) -> bool
 
 // The other subject stands in kinds 3 and 4, class in kind 7 only, needs in kinds 5, 7 and 8, spare in none.
 fn unused_zero(f: Fields) -> bool
-    ensures { result ≡ unusedZero f }
+    ensures { result ≡ unused_zero f }
 {
     let other = (f.kind == 3) | ((f.kind == 4) | (f.other == 0));
     let class = (f.kind == 7) | (f.class == 0);
@@ -48,14 +51,14 @@ fn unused_zero(f: Fields) -> bool
 
 // The parent of a create, number plus one, is that of one of the first n objects, or none.
 fn parent_within(n: u8, f: Fields) -> bool
-    ensures { result ≡ parentWithin n f }
+    ensures { result ≡ parent_within n f }
 {
     implies(f.kind == 5, f.needs <= n as u16)
 }
 
 // What must be so of the fields under every profile.
 fn fields_formed(f: Fields) -> bool
-    ensures { result ≡ fieldsFormed f }
+    ensures { result ≡ fields_formed f }
 {
     let allowed = mode_allowed(f.kind, f.mode);
     let zero = unused_zero(f);
@@ -66,7 +69,7 @@ fn fields_formed(f: Fields) -> bool
 
 // The class and the needs of a request.
 fn level_of(f: Fields) -> Level
-    ensures { result ≡ levelOf f }
+    ensures { result ≡ level_of f }
 {
     Level {
         class: f.class,
@@ -85,7 +88,7 @@ fn within(p: Profile, f: Fields) -> bool
 }
 
 pub fn well_formed(p: Profile, f: Fields) -> bool
-    ensures { result ≡ wellFormed p f }
+    ensures { result ≡ well_formed p f }
 {
     fields_formed(f) & within(p, f)
 }
@@ -129,7 +132,7 @@ fn request_of(f: Fields) -> Request
 }
 
 pub fn decode_fields(p: Profile, f: Fields) -> Decoded
-    ensures { result ≡ decodeFields p f }
+    ensures { result ≡ decode_fields p f }
 {
     if well_formed(p, f) {
         Decoded::Says(request_of(f))

@@ -9,7 +9,7 @@ use Rattle.model.specs.declared.Request.TheVariants.{Get, Release, Give, Rescind
 use Rattle.model.specs.Rules.{target}
 use Rattle.differences.specs.declared.sequence.Sequence.{Sequence}
 use Rattle.differences.specs.declared.sequence.Sequence.TheVariants.{Nothing, One, Remaking, Reading, Replacing}
-use Rattle.differences.specs.Sequences.{requestsOf}
+use Rattle.differences.specs.Sequences.{requests_of}
 
 -- the subject that asks, and the level that a change of level has
 actor : Request → ℕ
@@ -25,31 +25,31 @@ actor (SetCompanies s o n) = s
 abbrev none : Level
 none = record { class = 0; needs = 0 }
 
-levelOf : Request → Level
-levelOf (Get s o x) = none
-levelOf (Release s o x) = none
-levelOf (Give s t o x) = none
-levelOf (Rescind s t o x) = none
-levelOf (Create s o c) = none
-levelOf (Delete s o) = none
-levelOf (ChangeLevel s o l) = l
-levelOf (SetCompanies s o n) = none
+level_of : Request → Level
+level_of (Get s o x) = none
+level_of (Release s o x) = none
+level_of (Give s t o x) = none
+level_of (Rescind s t o x) = none
+level_of (Create s o c) = none
+level_of (Delete s o) = none
+level_of (ChangeLevel s o l) = l
+level_of (SetCompanies s o n) = none
 
 -- the sequence that has these requests
-sequenceOf : List Request → Sequence
-sequenceOf [] = Nothing
-sequenceOf (a ∷ []) = One a
-sequenceOf (a ∷ b ∷ []) = Remaking (actor a) (target a) (target b)
-sequenceOf (a ∷ b ∷ c ∷ []) = Reading (target a) (actor a) (levelOf b)
-sequenceOf (a ∷ b ∷ c ∷ d ∷ l) = Replacing (actor a) (target a) (actor b) (levelOf c)
+sequence_of : List Request → Sequence
+sequence_of [] = Nothing
+sequence_of (a ∷ []) = One a
+sequence_of (a ∷ b ∷ []) = Remaking (actor a) (target a) (target b)
+sequence_of (a ∷ b ∷ c ∷ []) = Reading (target a) (actor a) (level_of b)
+sequence_of (a ∷ b ∷ c ∷ d ∷ l) = Replacing (actor a) (target a) (actor b) (level_of c)
 
-sequence-back : (q : Sequence) → sequenceOf (requestsOf q) ≡ q
-unfolding sequenceOf actor levelOf
+sequence-back : (q : Sequence) → sequence_of (requests_of q) ≡ q
+unfolding sequence_of actor level_of
 sequence-back Nothing = refl
 sequence-back (One q) = refl
 sequence-back (Remaking w x y) = refl
 sequence-back (Reading o s l) = refl
 sequence-back (Replacing w o s l) = refl
 
-pub requests-determine : (a b : Sequence) → requestsOf a ≡ requestsOf b → a ≡ b
-requests-determine a b e = sym (sequence-back a) ∙ ap sequenceOf e ∙ sequence-back b
+pub requests-determine : (a b : Sequence) → requests_of a ≡ requests_of b → a ≡ b
+requests-determine a b e = sym (sequence-back a) ∙ ap sequence_of e ∙ sequence-back b

@@ -12,93 +12,93 @@ use Rattle.model.specs.declared.Request.{Request}
 use Rattle.model.specs.declared.Request.TheVariants.{Get, Release, Delete, SetCompanies}
 use Rattle.model.specs.Levels.{compare, present}
 use Rattle.model.specs.Modes.{has}
-use Rattle.model.specs.State.{subjectCount, objectCount, clearanceAt, objectAt, object}
-use Rattle.telling.specs.Distinguish.{byComparison, or_else, search, searchModes, when, differ, byParent, toLabel, freeBelow}
+use Rattle.model.specs.State.{subject_count, object_count, clearance_at, object_at, object}
+use Rattle.telling.specs.Distinguish.{by_comparison, or_else, search, search_modes, when, differ, by_parent, to_label, free_below}
 use Rattle.differences.specs.declared.sequence.Place.{Place}
-use Rattle.differences.specs.Sequences.{readingAt, requestsOf}
+use Rattle.differences.specs.Sequences.{reading_at, requests_of}
 
 -- ---- objects
 
 -- object o is live in one record only
-unfoldable pub lifeApart : ℕ → Object → Object → List Request
-lifeApart o a b = when (differ a.live b.live) (Delete (cond a.live a.owner b.owner) o)
+unfoldable pub life_apart : ℕ → Object → Object → List Request
+life_apart o a b = when (differ a.live b.live) (Delete (cond a.live a.owner b.owner) o)
 
 -- it has another owner
-unfoldable pub ownerApart : ℕ → Object → Object → List Request
-ownerApart o a b = when (not (eqb a.owner b.owner)) (Delete a.owner o)
+unfoldable pub owner_apart : ℕ → Object → Object → List Request
+owner_apart o a b = when (not (eqb a.owner b.owner)) (Delete a.owner o)
 
 -- it has other company numbers
-unfoldable pub companiesApart : ℕ → Object → Object → List Request
-companiesApart o a b = when (not (eqb a.companies b.companies)) (SetCompanies a.owner o a.companies)
+unfoldable pub companies_apart : ℕ → Object → Object → List Request
+companies_apart o a b = when (not (eqb a.companies b.companies)) (SetCompanies a.owner o a.companies)
 
 -- what asks of a held access, or of a right
-abbrev pub askOf : Bool → ℕ → ℕ → Mode → Request
-askOf true s o x = Release s o x
-askOf false s o x = Get s o x
+abbrev pub ask_of : Bool → ℕ → ℕ → Mode → Request
+ask_of true s o x = Release s o x
+ask_of false s o x = Get s o x
 
 -- the mode is in one of the sets of subject s only
-unfoldable pub modeApart : Bool → ℕ → ℕ → ℕ → ℕ → Mode → List Request
-modeApart held o s a b x = when (differ (has x a) (has x b)) (askOf held s o x)
+unfoldable pub mode_apart : Bool → ℕ → ℕ → ℕ → ℕ → Mode → List Request
+mode_apart held o s a b x = when (differ (has x a) (has x b)) (ask_of held s o x)
 
 -- the first such mode
-unfoldable pub setApart : Bool → ℕ → ℕ → ℕ → ℕ → List Request
-setApart held o s a b = searchModes (modeApart held o s a b)
+unfoldable pub set_apart : Bool → ℕ → ℕ → ℕ → ℕ → List Request
+set_apart held o s a b = search_modes (mode_apart held o s a b)
 
 -- the first subject whose sets differ
 unfoldable pub row_apart : Bool → ℕ → List ℕ → List ℕ → List Request
-row_apart held o a b = search subjectCount (λ s. setApart held o s (get_or a s 0) (get_or b s 0))
+row_apart held o a b = search subject_count (λ s. set_apart held o s (get_or a s 0) (get_or b s 0))
 
 -- its life or its owner
-unfoldable pub standingApart : ℕ → Object → Object → List Request
-standingApart o a b = or_else (lifeApart o a b) (ownerApart o a b)
+unfoldable pub standing_apart : ℕ → Object → Object → List Request
+standing_apart o a b = or_else (life_apart o a b) (owner_apart o a b)
 
 -- the first object of which that differs
-unfoldable pub standingsApart : List Object → List Object → List Request
-standingsApart a b = search objectCount (λ o. standingApart o (objectAt a o) (objectAt b o))
+unfoldable pub standings_apart : List Object → List Object → List Request
+standings_apart a b = search object_count (λ o. standing_apart o (object_at a o) (object_at b o))
 
 -- the first difference of the rest of two records
-unfoldable pub objectApart : ℕ → Object → Object → List Request
-objectApart o a b =
-    or_else (toLabel a.owner o a.label b.label)
-    (or_else (companiesApart o a b) (or_else (row_apart false o a.rights b.rights) (row_apart true o a.held b.held)))
+unfoldable pub object_apart : ℕ → Object → Object → List Request
+object_apart o a b =
+    or_else (to_label a.owner o a.label b.label)
+    (or_else (companies_apart o a b) (or_else (row_apart false o a.rights b.rights) (row_apart true o a.held b.held)))
 
 -- the first object whose records differ
-unfoldable pub objectsApart : List Object → List Object → List Request
-objectsApart a b = search objectCount (λ o. objectApart o (objectAt a o) (objectAt b o))
+unfoldable pub objects_apart : List Object → List Object → List Request
+objects_apart a b = search object_count (λ o. object_apart o (object_at a o) (object_at b o))
 
 -- the first object that has another parent
-unfoldable pub parentsApart : Monitor → Monitor → List Request
-parentsApart m n = search objectCount (byParent m n)
+unfoldable pub parents_apart : Monitor → Monitor → List Request
+parents_apart m n = search object_count (by_parent m n)
 
 -- ---- subjects
 
 -- subject s is enrolled in one only
-unfoldable pub enrolmentApart : ℕ → Label → Label → List Request
-enrolmentApart s a b = when (differ (present a) (present b)) (Delete s 0)
+unfoldable pub enrolment_apart : ℕ → Label → Label → List Request
+enrolment_apart s a b = when (differ (present a) (present b)) (Delete s 0)
 
 -- the first such subject
-unfoldable pub enrolmentsApart : List Subject → List Subject → List Request
-enrolmentsApart a b = search subjectCount (λ s. enrolmentApart s (clearanceAt a s) (clearanceAt b s))
+unfoldable pub enrolments_apart : List Subject → List Subject → List Request
+enrolments_apart a b = search subject_count (λ s. enrolment_apart s (clearance_at a s) (clearance_at b s))
 
 -- where an object is created: in the last free place that is in use, or in that of object 0
-unfoldable pub freePlace : Monitor → Place
-freePlace m =
+unfoldable pub free_place : Monitor → Place
+free_place m =
     record {
-      live = (object m (freeBelow objectCount m)).live;
-      owner = (object m (freeBelow objectCount m)).owner;
-      object = freeBelow objectCount m;
+      live = (object m (free_below object_count m)).live;
+      owner = (object m (free_below object_count m)).owner;
+      object = free_below object_count m;
     }
 
 -- two levels: s reads at the one that the other does not dominate
-unfoldable pub levelApart : Place → ℕ → Level → Level → List Request
-levelApart p s a b = byComparison (compare a b) (requestsOf (readingAt p s a)) (requestsOf (readingAt p s b))
+unfoldable pub level_apart : Place → ℕ → Level → Level → List Request
+level_apart p s a b = by_comparison (compare a b) (requests_of (reading_at p s a)) (requests_of (reading_at p s b))
 
 -- two clearances of subject s
-unfoldable pub clearanceApart : Place → ℕ → Label → Label → List Request
-clearanceApart p s Absent b = []
-clearanceApart p s (Present a) Absent = []
-clearanceApart p s (Present a) (Present b) = levelApart p s a b
+unfoldable pub clearance_apart : Place → ℕ → Label → Label → List Request
+clearance_apart p s Absent b = []
+clearance_apart p s (Present a) Absent = []
+clearance_apart p s (Present a) (Present b) = level_apart p s a b
 
 -- the first subject whose clearances differ
-unfoldable pub clearancesApart : Place → List Subject → List Subject → List Request
-clearancesApart p a b = search subjectCount (λ s. clearanceApart p s (clearanceAt a s) (clearanceAt b s))
+unfoldable pub clearances_apart : Place → List Subject → List Subject → List Request
+clearances_apart p a b = search subject_count (λ s. clearance_apart p s (clearance_at a s) (clearance_at b s))

@@ -23,13 +23,13 @@ abbrev pub reading_of : ℕ → ℕ → Level → List Request
 reading_of s o l = Create s o (creation false 0) ∷ ChangeLevel s o l ∷ Get s o Read ∷ []
 
 -- the requests in their order
-abbrev pub requestsOf : Sequence → List Request
-requestsOf Nothing = []
-requestsOf (One q) = q ∷ []
-requestsOf (Remaking w x y) = Delete w x ∷ Create w y (creation false 0) ∷ []
-requestsOf (Reading o s l) = reading_of s o l
-requestsOf (Replacing w o s l) = Delete w o ∷ reading_of s o l
+abbrev pub requests_of : Sequence → List Request
+requests_of Nothing = []
+requests_of (One q) = q ∷ []
+requests_of (Remaking w x y) = Delete w x ∷ Create w y (creation false 0) ∷ []
+requests_of (Reading o s l) = reading_of s o l
+requests_of (Replacing w o s l) = Delete w o ∷ reading_of s o l
 
 -- the reading at a place: the owner of a live object makes room first
-unfoldable pub readingAt : Place → ℕ → Level → Sequence
-readingAt p s l = cond p.live (Replacing p.owner p.object s l) (Reading p.object s l)
+unfoldable pub reading_at : Place → ℕ → Level → Sequence
+reading_at p s l = cond p.live (Replacing p.owner p.object s l) (Reading p.object s l)

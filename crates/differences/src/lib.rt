@@ -1,5 +1,8 @@
 // What tells two states apart, part by part: who is enrolled, what is live and who owns it, parents, the rest of the objects, the
 // clearances. The first difference gives the requests.
+
+#![tactic(auto)]
+
 mod objects;
 mod parents;
 mod sequence;

@@ -1,9 +1,9 @@
 // The record of one object in two states, and all objects: the first difference gives the request.
 ghost use Rattle.std.specs.Prelude.{◌≡◌, length};
-ghost use Rattle.unit.specs.Rows.{rowCount, objectsIn};
-ghost use Rattle.telling.specs.Distinguish.{toLabel};
-ghost use Rattle.differences.specs.Sequences.{requestsOf};
-ghost use Rattle.differences.specs.Records.{lifeApart, ownerApart, standingApart, standingsApart, companiesApart, askOf, modeApart, setApart, row_apart, objectApart, objectsApart};
+ghost use Rattle.unit.specs.Rows.{row_count, objects_in};
+ghost use Rattle.telling.specs.Distinguish.{to_label};
+ghost use Rattle.differences.specs.Sequences.{requests_of};
+ghost use Rattle.differences.specs.Records.{life_apart, owner_apart, standing_apart, standings_apart, companies_apart, ask_of, mode_apart, set_apart, row_apart, object_apart, objects_apart};
 
 use crate::sequence::{Sequence, differ, is_found, or_else, when};
 use labels::is_level;
@@ -15,7 +15,7 @@ use unit::object_in;
 
 // Live in one only: a delete by the owner there, 4 or not.
 fn life_apart(o: u8, a: Object, b: Object) -> Sequence
-    ensures { requestsOf result ≡ lifeApart o a b }
+    ensures { requests_of result ≡ life_apart o a b }
 {
     let owner = if a.live { a.owner } else { b.owner };
     when(differ(a.live, b.live), Request::Delete(owner, o))
@@ -23,20 +23,20 @@ fn life_apart(o: u8, a: Object, b: Object) -> Sequence
 
 // Another owner: a delete by one of them, 6 or not.
 fn owner_apart(o: u8, a: Object, b: Object) -> Sequence
-    ensures { requestsOf result ≡ ownerApart o a b }
+    ensures { requests_of result ≡ owner_apart o a b }
 {
     when(a.owner != b.owner, Request::Delete(a.owner, o))
 }
 
 fn standing_apart(o: u8, a: Object, b: Object) -> Sequence
-    ensures { requestsOf result ≡ standingApart o a b }
+    ensures { requests_of result ≡ standing_apart o a b }
 {
     or_else(life_apart(o, a, b), owner_apart(o, a, b))
 }
 
 // Another label: the owner changes the level to one of them, 1 or not.
 fn label_apart(s: u8, o: u8, a: Label, b: Label) -> Sequence
-    ensures { requestsOf result ≡ toLabel s o a b }
+    ensures { requests_of result ≡ to_label s o a b }
 {
     match a {
         Label::Absent => match b {
@@ -49,7 +49,7 @@ fn label_apart(s: u8, o: u8, a: Label, b: Label) -> Sequence
 
 // Other company numbers: the owner sets those of the first, 1 or not.
 fn companies_apart(o: u8, a: Object, b: Object) -> Sequence
-    ensures { requestsOf result ≡ companiesApart o a b }
+    ensures { requests_of result ≡ companies_apart o a b }
 {
     when(
         a.companies != b.companies,
@@ -61,7 +61,7 @@ fn companies_apart(o: u8, a: Object, b: Object) -> Sequence
 
 // A held access is asked of by a release, a right by a get.
 fn ask_of(held: bool, s: u8, o: u8, x: Mode) -> Request
-    ensures { result ≡ askOf held s o x }
+    ensures { result ≡ ask_of held s o x }
 {
     if held {
         Request::Release(s, o, x)
@@ -72,14 +72,14 @@ fn ask_of(held: bool, s: u8, o: u8, x: Mode) -> Request
 
 // The mode is in one of the sets of subject s only.
 fn mode_apart(held: bool, o: u8, s: u8, a: u8, b: u8, x: Mode) -> Sequence
-    ensures { requestsOf result ≡ modeApart held o s a b x }
+    ensures { requests_of result ≡ mode_apart held o s a b x }
 {
     when(differ(has(x, a), has(x, b)), ask_of(held, s, o, x))
 }
 
 // The first mode in which the two sets of subject s differ.
 fn set_apart(held: bool, o: u8, s: u8, a: u8, b: u8) -> Sequence
-    ensures { requestsOf result ≡ setApart held o s a b }
+    ensures { requests_of result ≡ set_apart held o s a b }
 {
     let read = mode_apart(held, o, s, a, b, Mode::Read);
     let write = mode_apart(held, o, s, a, b, Mode::Write);
@@ -90,7 +90,7 @@ fn set_apart(held: bool, o: u8, s: u8, a: u8, b: u8) -> Sequence
 
 // The first subject whose sets differ in the two rows.
 fn row_apart(held: bool, o: u8, a: [u8; 16], b: [u8; 16]) -> Sequence
-    ensures { requestsOf result ≡ row_apart held o a b }
+    ensures { requests_of result ≡ row_apart held o a b }
 {
     let mut s: usize = 0;
     while s < Monitor::SUBJECTS {
@@ -107,9 +107,9 @@ fn row_apart(held: bool, o: u8, a: [u8; 16], b: [u8; 16]) -> Sequence
 
 // The first object of which life or owner differ, in two units.
 pub fn standings_apart(a: &[[u8; 16]], b: &[[u8; 16]]) -> Sequence
-    requires a_len { length a.now ≡ rowCount }
-    requires b_len { length b.now ≡ rowCount }
-    ensures { requestsOf result ≡ standingsApart (objectsIn a.now) (objectsIn b.now) }
+    requires a_len { length a.now ≡ row_count }
+    requires b_len { length b.now ≡ row_count }
+    ensures { requests_of result ≡ standings_apart (objects_in a.now) (objects_in b.now) }
 {
     let mut o: usize = 0;
     while o < Monitor::OBJECTS {
@@ -126,7 +126,7 @@ pub fn standings_apart(a: &[[u8; 16]], b: &[[u8; 16]]) -> Sequence
 
 // The rest of a record.
 fn object_apart(o: u8, a: Object, b: Object) -> Sequence
-    ensures { requestsOf result ≡ objectApart o a b }
+    ensures { requests_of result ≡ object_apart o a b }
 {
     let label = a.label;
     let other_label = b.label;
@@ -144,9 +144,9 @@ fn object_apart(o: u8, a: Object, b: Object) -> Sequence
 
 // The first object of which the rest of the records differs, in two units.
 pub fn objects_apart(a: &[[u8; 16]], b: &[[u8; 16]]) -> Sequence
-    requires a_len { length a.now ≡ rowCount }
-    requires b_len { length b.now ≡ rowCount }
-    ensures { requestsOf result ≡ objectsApart (objectsIn a.now) (objectsIn b.now) }
+    requires a_len { length a.now ≡ row_count }
+    requires b_len { length b.now ≡ row_count }
+    ensures { requests_of result ≡ objects_apart (objects_in a.now) (objects_in b.now) }
 {
     let mut o: usize = 0;
     while o < Monitor::OBJECTS {

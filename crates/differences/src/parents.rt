@@ -1,9 +1,9 @@
 // The parents of objects in two states (change request §11): a deletion and a creation by which one of them is told from the other.
 ghost use Rattle.std.specs.Prelude.{◌≡◌, length};
-ghost use Rattle.unit.specs.Rows.{rowCount, stateIn};
-ghost use Rattle.telling.specs.Distinguish.{byBelow, toParent};
-ghost use Rattle.differences.specs.Sequences.{requestsOf};
-ghost use Rattle.differences.specs.Records.{parentsApart};
+ghost use Rattle.unit.specs.Rows.{row_count, state_in};
+ghost use Rattle.telling.specs.Distinguish.{by_below, to_parent};
+ghost use Rattle.differences.specs.Sequences.{requests_of};
+ghost use Rattle.differences.specs.Records.{parents_apart};
 
 use crate::sequence::{Sequence, differ, is_found};
 use hierarchy::is_below;
@@ -12,9 +12,9 @@ use unit::{is_live, owner_of, parent_of};
 
 // Object y is below a live object x in one only: the owner of x deletes it and creates y again, 5 or not. A number from 64 on is that of no object.
 fn below_apart(a: &[[u8; 16]], b: &[[u8; 16]], x: u8, y: u8) -> Sequence
-    requires a_len { length a.now ≡ rowCount }
-    requires b_len { length b.now ≡ rowCount }
-    ensures { requestsOf result ≡ byBelow (stateIn a.now) (stateIn b.now) x y }
+    requires a_len { length a.now ≡ row_count }
+    requires b_len { length b.now ≡ row_count }
+    ensures { requests_of result ≡ by_below (state_in a.now) (state_in b.now) x y }
 {
     if (x as usize) < Monitor::OBJECTS {
         let apart = differ(is_below(a, x, y), is_below(b, x, y));
@@ -27,9 +27,9 @@ fn below_apart(a: &[[u8; 16]], b: &[[u8; 16]], x: u8, y: u8) -> Sequence
 
 // Object o has the parents p and q: one of them is above it in one only, or the one parent is above the other in one only.
 fn parent_apart(a: &[[u8; 16]], b: &[[u8; 16]], o: u8, p: u8, q: u8) -> Sequence
-    requires a_len { length a.now ≡ rowCount }
-    requires b_len { length b.now ≡ rowCount }
-    ensures { requestsOf result ≡ toParent (stateIn a.now) (stateIn b.now) o p q }
+    requires a_len { length a.now ≡ row_count }
+    requires b_len { length b.now ≡ row_count }
+    ensures { requests_of result ≡ to_parent (state_in a.now) (state_in b.now) o p q }
 {
     if p == q {
         return Sequence::Nothing;
@@ -53,9 +53,9 @@ fn parent_apart(a: &[[u8; 16]], b: &[[u8; 16]], o: u8, p: u8, q: u8) -> Sequence
 
 // The first object that has another parent, in two units.
 pub fn parents_apart(a: &[[u8; 16]], b: &[[u8; 16]]) -> Sequence
-    requires a_len { length a.now ≡ rowCount }
-    requires b_len { length b.now ≡ rowCount }
-    ensures { requestsOf result ≡ parentsApart (stateIn a.now) (stateIn b.now) }
+    requires a_len { length a.now ≡ row_count }
+    requires b_len { length b.now ≡ row_count }
+    ensures { requests_of result ≡ parents_apart (state_in a.now) (state_in b.now) }
 {
     let mut o: usize = 0;
     while o < Monitor::OBJECTS {

@@ -2,7 +2,7 @@
 // end in a reading.
 ghost use Rattle.std.specs.Prelude.{◌≡◌};
 ghost use Rattle.telling.specs.Distinguish.{or_else, when, differ};
-ghost use Rattle.differences.specs.Sequences.{found, readingAt, requestsOf};
+ghost use Rattle.differences.specs.Sequences.{found, reading_at, requests_of};
 
 use model::{Level, Request};
 
@@ -41,7 +41,7 @@ pub fn is_found(q: Sequence) -> bool
 
 // The reading at a place.
 pub fn reading_at(p: Place, s: u8, l: Level) -> Sequence
-    ensures { result ≡ readingAt p s l }
+    ensures { result ≡ reading_at p s l }
 {
     if p.live {
         Sequence::Replacing(p.owner, p.object, s, l)
@@ -52,14 +52,14 @@ pub fn reading_at(p: Place, s: u8, l: Level) -> Sequence
 
 // The first that has a request.
 pub fn or_else(a: Sequence, b: Sequence) -> Sequence
-    ensures { requestsOf result ≡ or_else (requestsOf a) (requestsOf b) }
+    ensures { requests_of result ≡ or_else (requests_of a) (requests_of b) }
 {
     if is_found(a) { a } else { b }
 }
 
 // The request, where the test passes.
 pub fn when(test: bool, q: Request) -> Sequence
-    ensures { requestsOf result ≡ when test q }
+    ensures { requests_of result ≡ when test q }
 {
     if test {
         Sequence::One(q)

@@ -1,8 +1,8 @@
 // The clearances of the subjects in two states: who is enrolled, and a level that one clearance dominates and the other does not.
 ghost use Rattle.std.specs.Prelude.{◌≡◌, cond, length};
-ghost use Rattle.unit.specs.Rows.{rowCount, subjectsIn, stateIn};
-ghost use Rattle.differences.specs.Sequences.{requestsOf};
-ghost use Rattle.differences.specs.Records.{enrolmentApart, enrolmentsApart, freePlace, levelApart, clearanceApart, clearancesApart};
+ghost use Rattle.unit.specs.Rows.{row_count, subjects_in, state_in};
+ghost use Rattle.differences.specs.Sequences.{requests_of};
+ghost use Rattle.differences.specs.Records.{enrolment_apart, enrolments_apart, free_place, level_apart, clearance_apart, clearances_apart};
 
 use crate::sequence::{Place, Sequence, differ, is_found, reading_at, when};
 use labels::{compare, is_present};
@@ -11,16 +11,16 @@ use unit::{clearance_of, is_live, owner_of, profile_of};
 
 // Enrolled in one only: any request by that subject, 3 or not.
 fn enrolment_apart(s: u8, a: Label, b: Label) -> Sequence
-    ensures { requestsOf result ≡ enrolmentApart s a b }
+    ensures { requests_of result ≡ enrolment_apart s a b }
 {
     when(differ(is_present(a), is_present(b)), Request::Delete(s, 0))
 }
 
 // The first subject that is enrolled in one unit only.
 pub fn enrolments_apart(a: &[[u8; 16]], b: &[[u8; 16]]) -> Sequence
-    requires a_len { length a.now ≡ rowCount }
-    requires b_len { length b.now ≡ rowCount }
-    ensures { requestsOf result ≡ enrolmentsApart (subjectsIn a.now) (subjectsIn b.now) }
+    requires a_len { length a.now ≡ row_count }
+    requires b_len { length b.now ≡ row_count }
+    ensures { requests_of result ≡ enrolments_apart (subjects_in a.now) (subjects_in b.now) }
 {
     let mut s: usize = 0;
     while s < Monitor::SUBJECTS {
@@ -44,8 +44,8 @@ fn last_free(taken: bool, free: usize, o: usize) -> usize
 
 // The last object that is in use and not live; where there is none, object 0, which its owner can delete.
 pub fn free_place(unit: &[[u8; 16]]) -> Place
-    requires { length unit.now ≡ rowCount }
-    ensures { result ≡ freePlace (stateIn unit.now) }
+    requires { length unit.now ≡ row_count }
+    ensures { result ≡ free_place (state_in unit.now) }
 {
     let profile = profile_of(unit);
     let mut free: usize = 0;
@@ -65,7 +65,7 @@ pub fn free_place(unit: &[[u8; 16]]) -> Place
 
 // s reads at a level that the other one does not dominate, if there is one.
 fn level_apart(p: Place, s: u8, a: Level, b: Level) -> Sequence
-    ensures { requestsOf result ≡ levelApart p s a b }
+    ensures { requests_of result ≡ level_apart p s a b }
 {
     let answer = compare(a, b);
     match answer {
@@ -78,7 +78,7 @@ fn level_apart(p: Place, s: u8, a: Level, b: Level) -> Sequence
 
 // Another clearance: s reads at a level that one of the two does not dominate, 8 or not.
 fn clearance_apart(p: Place, s: u8, a: Label, b: Label) -> Sequence
-    ensures { requestsOf result ≡ clearanceApart p s a b }
+    ensures { requests_of result ≡ clearance_apart p s a b }
 {
     match a {
         Label::Absent => Sequence::Nothing,
@@ -91,9 +91,9 @@ fn clearance_apart(p: Place, s: u8, a: Label, b: Label) -> Sequence
 
 // The first subject whose clearances differ, in two units.
 pub fn clearances_apart(p: Place, a: &[[u8; 16]], b: &[[u8; 16]]) -> Sequence
-    requires a_len { length a.now ≡ rowCount }
-    requires b_len { length b.now ≡ rowCount }
-    ensures { requestsOf result ≡ clearancesApart p (subjectsIn a.now) (subjectsIn b.now) }
+    requires a_len { length a.now ≡ row_count }
+    requires b_len { length b.now ≡ row_count }
+    ensures { requests_of result ≡ clearances_apart p (subjects_in a.now) (subjects_in b.now) }
 {
     let mut s: usize = 0;
     while s < Monitor::SUBJECTS {

@@ -7,14 +7,14 @@ use mathlib.Core.List.{List, [], ◌∷◌, append-nil}
 use lib.ListN.{length, length-append}
 use Rattle.bits.specs.Bits.{join}
 use Rattle.model.specs.declared.Request.{Request}
-use Rattle.model.specs.Requests.{requestSize, fields_of, encode}
+use Rattle.model.specs.Requests.{request_size, fields_of, encode}
 use Rattle.model.specs.Buffers.{put}
 use Rattle.model.proofs.Packing.{pack-length}
 use Rattle.model.proofs.Buffers.{put-more}
 use Rattle.distinguish.specs.Telling.{bytes_of}
 
 -- a request is put, and then those behind it
-pub stored_next : (q : Request) (qs : List Request) (l u t : List ℕ) (i k : ℕ) → i ≤ length l → u ≡ put l i (encode q) → k ≡ i + requestSize → t ≡ put u k (bytes_of qs)
+pub stored_next : (q : Request) (qs : List Request) (l u t : List ℕ) (i k : ℕ) → i ≤ length l → u ≡ put l i (encode q) → k ≡ i + request_size → t ≡ put u k (bytes_of qs)
     → t ≡ put l i (bytes_of (q ∷ qs))
 unfolding bytes_of join
 stored_next q qs l u t i k h p e r =
@@ -26,7 +26,7 @@ pub stored_last : (q : Request) (l t : List ℕ) (i : ℕ) → t ≡ put l i (en
 unfolding bytes_of join
 stored_last q l t i r = r ∙ ap (put l i) (sym (append-nil (encode q)))
 
-pub length-bytesOf : (qs : List Request) → length (bytes_of qs) ≡ requestSize * length qs
+pub length-bytes_of : (qs : List Request) → length (bytes_of qs) ≡ request_size * length qs
 unfolding bytes_of join
-length-bytesOf [] = refl
-length-bytesOf (q ∷ qs) = length-append (encode q) (bytes_of qs) ∙ omega (arith, pack-length (fields_of q), length-bytesOf qs)
+length-bytes_of [] = refl
+length-bytes_of (q ∷ qs) = length-append (encode q) (bytes_of qs) ∙ omega (arith, pack-length (fields_of q), length-bytes_of qs)

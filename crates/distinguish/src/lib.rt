@@ -1,11 +1,14 @@
 // The requests on which the states of two units reply differently, found and written one behind the other.
+
+#![tactic(auto)]
+
 ghost use Rattle.std.specs.Prelude.{◌≡◌, ◌+◌, ◌*◌, ◌≤◌, length};
-ghost use Rattle.model.specs.Requests.{requestSize};
+ghost use Rattle.model.specs.Requests.{request_size};
 ghost use Rattle.model.specs.Buffers.{put};
-ghost use Rattle.telling.specs.Distinguish.{byStanding, distinguish};
-ghost use Rattle.unit.specs.Rows.{rowCount, stateIn};
-ghost use Rattle.differences.specs.Sequences.{reading_of, requestsOf};
-ghost use Rattle.distinguish.specs.Telling.{bytes_of, roomOfFour, toldNumber, toldBytes};
+ghost use Rattle.telling.specs.Distinguish.{by_standing, distinguish};
+ghost use Rattle.unit.specs.Rows.{row_count, state_in};
+ghost use Rattle.differences.specs.Sequences.{reading_of, requests_of};
+ghost use Rattle.distinguish.specs.Telling.{bytes_of, room_of_four, told_number, told_bytes};
 
 use differences::{
     Sequence, clearances_apart, enrolments_apart, free_place, is_found, objects_apart,
@@ -20,9 +23,9 @@ const ROOM: usize = 24;
 
 // Who is enrolled, then what is live and who owns it, and where these are equal what is under what.
 fn standing_of(a: &[[u8; 16]], b: &[[u8; 16]]) -> Sequence
-    requires a_len { length a.now ≡ rowCount }
-    requires b_len { length b.now ≡ rowCount }
-    ensures { requestsOf result ≡ byStanding (stateIn a.now) (stateIn b.now) }
+    requires a_len { length a.now ≡ row_count }
+    requires b_len { length b.now ≡ row_count }
+    ensures { requests_of result ≡ by_standing (state_in a.now) (state_in b.now) }
 {
     let by_enrolment = enrolments_apart(a, b);
     if is_found(by_enrolment) {
@@ -37,9 +40,9 @@ fn standing_of(a: &[[u8; 16]], b: &[[u8; 16]]) -> Sequence
 
 // First what deletions and creations tell, then the rest of the objects, and where these are equal the clearances.
 fn sequence_of(a: &[[u8; 16]], b: &[[u8; 16]]) -> Sequence
-    requires a_len { length a.now ≡ rowCount }
-    requires b_len { length b.now ≡ rowCount }
-    ensures { requestsOf result ≡ distinguish (stateIn a.now) (stateIn b.now) }
+    requires a_len { length a.now ≡ row_count }
+    requires b_len { length b.now ≡ row_count }
+    ensures { requests_of result ≡ distinguish (state_in a.now) (state_in b.now) }
 {
     let by_standing = standing_of(a, b);
     if is_found(by_standing) {
@@ -57,7 +60,7 @@ fn sequence_of(a: &[[u8; 16]], b: &[[u8; 16]]) -> Sequence
 
 // Create, change of level and get.
 fn write_reading(out: &mut [u8], at: usize, s: u8, o: u8, l: Level)
-    requires { at + 3 * requestSize ≤ length out.old }
+    requires { at + 3 * request_size ≤ length out.old }
     ensures { out.new ≡ put out.old at (bytes_of (reading_of s o l)) }
 {
     let plain = Creation {
@@ -71,8 +74,8 @@ fn write_reading(out: &mut [u8], at: usize, s: u8, o: u8, l: Level)
 
 // The requests of the sequence from the first byte on; returns how many there are.
 fn write_sequence(out: &mut [u8], q: Sequence) -> u8
-    requires { roomOfFour ≤ length out.old }
-    ensures { (result ≡ length (requestsOf q)) × (out.new ≡ put out.old 0 (bytes_of (requestsOf q))) }
+    requires { room_of_four ≤ length out.old }
+    ensures { (result ≡ length (requests_of q)) × (out.new ≡ put out.old 0 (bytes_of (requests_of q))) }
 {
     match q {
         Sequence::Nothing => 0,
@@ -103,9 +106,9 @@ fn write_sequence(out: &mut [u8], q: Sequence) -> u8
 
 // The number of requests, which are in the first bytes of out, six for each; 13 where out has no room for four.
 pub fn distinguish(a: &[[u8; 16]], b: &[[u8; 16]], out: &mut [u8]) -> u8
-    requires a_len { length a.now ≡ rowCount }
-    requires b_len { length b.now ≡ rowCount }
-    ensures { (result ≡ toldNumber (stateIn a.now) (stateIn b.now) out.old) × (out.new ≡ toldBytes (stateIn a.now) (stateIn b.now) out.old) }
+    requires a_len { length a.now ≡ row_count }
+    requires b_len { length b.now ≡ row_count }
+    ensures { (result ≡ told_number (state_in a.now) (state_in b.now) out.old) × (out.new ≡ told_bytes (state_in a.now) (state_in b.now) out.old) }
 {
     if out.len() < ROOM {
         return number(Decision::ShortBuffer);

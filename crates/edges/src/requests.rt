@@ -1,7 +1,7 @@
 // The edges of a request: subjects, objects, modes, lengths, kinds, fields that are not used, labels beside that of an
 // object, and company numbers. The comment behind each request has the reply that the scope gives it, and why.
 ghost use Rattle.std.specs.Prelude.{◌≤◌, ◌≡◌};
-ghost use Rattle.edges.specs.Trials.{left, changeTo};
+ghost use Rattle.edges.specs.Trials.{left, change_to};
 
 use crate::trial::{ask, ask_plain, create, get, give, release};
 use encoding::without_level;
@@ -92,7 +92,7 @@ pub fn unused(labelled: [[u8; 16]; ROWS]) {
 
 // The fields of a change of level by subject 0, on object 0.
 fn level(class: u8, needs: u16) -> Fields
-    ensures { result ≡ changeTo class needs }
+    ensures { result ≡ change_to class needs }
 {
     Fields {
         kind: 7,

@@ -1,5 +1,8 @@
 // Executes the edges of tables, images and lent buffers with the proved functions, and prints a line for each: what was tried, and
 // the number that came. The numbers in the file stdout were worked out from the scope by hand; the comments say why.
+
+#![tactic(auto)]
+
 mod beginnings;
 mod buffers;
 

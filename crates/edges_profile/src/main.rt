@@ -1,5 +1,8 @@
 // Executes the edges of a site profile with the proved functions, and prints a line for each: what was tried, and the number that came.
 // The numbers in the file stdout were worked out from change requests §8, §10 and §11 and the scope by hand; the comments say why.
+
+#![tactic(auto)]
+
 mod ranges;
 mod requests;
 mod tables;

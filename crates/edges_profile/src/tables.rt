@@ -1,7 +1,7 @@
 // Tables under a profile of 4 subjects, 10 objects, class 3 and the needs 0 and 1. The comment behind each has the number that the text
 // gives it, and why.
 ghost use Rattle.std.specs.Prelude.{◌≡◌};
-ghost use Rattle.edges_profile.specs.Tables.{withBytes};
+ghost use Rattle.edges_profile.specs.Tables.{with_bytes};
 
 use model::Profile;
 use profiles::site;
@@ -12,7 +12,7 @@ use unit::ROWS;
 // byte 0, needs 0, 1 and 2 are 08, 10 and 20 in byte 2. Subject 1's is bits 21 to 41. Subject 3's is bits 63 to 83: enrolled is 01 in
 // byte 7. Subject 4's is bits 84 to 104: enrolled is 08 in byte 10.
 pub fn with_bytes(byte0: u8, byte2: u8, byte7: u8, byte10: u8) -> [u8; 42]
-    ensures { result ≡ withBytes byte0 byte2 byte7 byte10 }
+    ensures { result ≡ with_bytes byte0 byte2 byte7 byte10 }
 {
     let mut table = [0u8; 42];
     table[0] = byte0;

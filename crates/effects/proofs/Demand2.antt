@@ -20,7 +20,7 @@ use Rattle.model.specs.Requests.{decode}
 use Rattle.model.specs.Runs.{respond, reply}
 use Rattle.model.specs.Beginnings.{Reached}
 use Rattle.model.proofs.Requests.{decode-range}
-use Rattle.invariants.specs.Access.{withAccess}
+use Rattle.invariants.specs.Access.{with_access}
 use Rattle.invariants.proofs.Steps.{respond-all}
 use Rattle.invariants.proofs.Outcomes.{reply-granted}
 use Rattle.images.proofs.Reached.{sound-reached, reached-inside, respond-says}
@@ -39,9 +39,9 @@ module _ (m : Monitor) (R : Reached m) where
   -- "a well-formed get by an enrolled subject on a live object is refused exactly when adding that access would break one of them"; well formed under
   -- the profile of the monitor
   pub get-exactly : (g : List ℕ) (s o : ℕ) (x : Mode) → decode m.profile g ≡ Says (Get s o x) → enrolled m s ≡ true → (object m o).live ≡ true
-      → (2 ≤ reply g m) ↔ (Secure (withAccess m s o x) → ⊥)
+      → (2 ≤ reply g m) ↔ (Secure (with_access m s o x) → ⊥)
   get-exactly g s o x d there live =
-      subst (λ (r : Response). (2 ≤ number r.decision) ↔ (Secure (withAccess m s o x) → ⊥)) (sym (respond-says g (Get s o x) m d))
+      subst (λ (r : Response). (2 ≤ number r.decision) ↔ (Secure (with_access m s o x) → ⊥)) (sym (respond-says g (Get s o x) m d))
       (get-refused-exactly m (sound-reached m R) s o x there live)
 
   -- "Reply 0: granted and the state changed"

@@ -14,7 +14,7 @@ use Rattle.model.specs.declared.Decoded.TheVariants.{Says}
 use Rattle.model.specs.declared.Decision.TheVariants.{Granted}
 use Rattle.model.specs.declared.Response.{Response}
 use Rattle.model.specs.Modes.{has}
-use Rattle.model.specs.State.{noModes, object, rightsOf, heldBy, WellFormed}
+use Rattle.model.specs.State.{no_modes, object, rights_of, held_by, WellFormed}
 use Rattle.model.specs.Decisions.{number}
 use Rattle.model.specs.Requests.{decode, InRange}
 use Rattle.model.specs.Rules.{target, changed, checks, step}
@@ -34,18 +34,18 @@ module _ (m : Monitor) (W : WellFormed m) where
   effect_of : (q : Request) → InRange q → (n : Monitor) → object n (target q) ≡ changed q (object m (target q)) → Effect q n
   unfolding changed has
   effect_of (Get s o x) r n e =
-      ap (λ (k : Object). has x (heldBy k s)) e ∙ ap (has x) (held-stored (object m o) (W.objects-formed o) s _ r.0) ∙ add-has x _ ((W.objects-formed o).shape.held-fit s)
+      ap (λ (k : Object). has x (held_by k s)) e ∙ ap (has x) (held-stored (object m o) (W.objects_formed o) s _ r.0) ∙ add-has x _ ((W.objects_formed o).shape.held_fit s)
   effect_of (Release s o x) r n e =
-      λ w. apart w (ap (λ (k : Object). has x (heldBy k s)) e ∙ ap (has x) (held-stored (object m o) (W.objects-formed o) s _ r.0) ∙ remove-has x _ ((W.objects-formed o).shape.held-fit s))
+      λ w. apart w (ap (λ (k : Object). has x (held_by k s)) e ∙ ap (has x) (held-stored (object m o) (W.objects_formed o) s _ r.0) ∙ remove-has x _ ((W.objects_formed o).shape.held_fit s))
   effect_of (Give s t o x) r n e =
-      ap (λ (k : Object). has x (rightsOf k t)) e ∙ ap (has x) (rights-stored (object m o) (W.objects-formed o) t _ r.1) ∙ add-has x _ ((W.objects-formed o).shape.rights-fit t)
+      ap (λ (k : Object). has x (rights_of k t)) e ∙ ap (has x) (rights-stored (object m o) (W.objects_formed o) t _ r.1) ∙ add-has x _ ((W.objects_formed o).shape.rights-fit t)
   effect_of (Rescind s t o x) r n e = (
-    λ w. apart w (ap (λ (k : Object). has x (rightsOf k t)) e ∙ ap (has x) (rights-stored (object m o) (W.objects-formed o) t _ r.1) ∙ remove-has x _ ((W.objects-formed o).shape.rights-fit t)),
-    λ w. apart w (ap (λ (k : Object). has x (heldBy k t)) e ∙ ap (has x) (held-stored (object m o) (W.objects-formed o) t _ r.1) ∙ remove-has x _ ((W.objects-formed o).shape.held-fit t)),
+    λ w. apart w (ap (λ (k : Object). has x (rights_of k t)) e ∙ ap (has x) (rights-stored (object m o) (W.objects_formed o) t _ r.1) ∙ remove-has x _ ((W.objects_formed o).shape.rights-fit t)),
+    λ w. apart w (ap (λ (k : Object). has x (held_by k t)) e ∙ ap (has x) (held-stored (object m o) (W.objects_formed o) t _ r.1) ∙ remove-has x _ ((W.objects_formed o).shape.held_fit t)),
   )
   effect_of (Create s o c) r n e =
       let v = c.execute in
-      let mine : rightsOf (object n o) s ≡ cond v 15 14 = ap (λ (k : Object). rightsOf k s) e ∙ get_or-set_same noModes s (cond v 15 14) 0 r.0 in
+      let mine : rights_of (object n o) s ≡ cond v 15 14 = ap (λ (k : Object). rights_of k s) e ∙ get_or-set_same no_modes s (cond v 15 14) 0 r.0 in
       record {
         live = ap (λ (k : Object). k.live) e;
         owned = ap (λ (k : Object). k.owner) e;
@@ -55,9 +55,9 @@ module _ (m : Monitor) (W : WellFormed m) where
         read = ap (has Read) mine ∙ either (has Read) true v refl refl;
         write = ap (has Write) mine ∙ either (has Write) true v refl refl;
         append = ap (has Append) mine ∙ either (has Append) true v refl refl;
-        execute-by-mode = ap (has Execute) mine ∙ by_mode v;
-        others = λ t h. ap (λ (k : Object). rightsOf k t) e ∙ get_or-set_other noModes s t (cond v 15 14) 0 h ∙ no-modes t;
-        nobody-holds = λ t. ap (λ (k : Object). heldBy k t) e ∙ no-modes t;
+        execute_by_mode = ap (has Execute) mine ∙ by_mode v;
+        others = λ t h. ap (λ (k : Object). rights_of k t) e ∙ get_or-set_other no_modes s t (cond v 15 14) 0 h ∙ no-modes t;
+        nobody_holds = λ t. ap (λ (k : Object). held_by k t) e ∙ no-modes t;
       }
     where
       either : (f : ℕ → Bool) (b v : Bool) → f 15 ≡ b → f 14 ≡ b → f (cond v 15 14) ≡ b

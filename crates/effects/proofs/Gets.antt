@@ -14,12 +14,12 @@ use Rattle.model.specs.declared.Request.TheVariants.{Get}
 use Rattle.model.specs.declared.Decision.TheVariants.{Granted}
 use Rattle.model.specs.Levels.{present}
 use Rattle.model.specs.Modes.{has}
-use Rattle.model.specs.State.{enrolled, objectAt, object, rightsOf}
+use Rattle.model.specs.State.{enrolled, object_at, object, rights_of}
 use Rattle.model.specs.Properties.{Secure}
 use Rattle.model.specs.Decisions.{number}
 use Rattle.model.specs.Rules.{changed, checks, step}
 use Rattle.model.proofs.Tests.{implies-in, clash}
-use Rattle.invariants.specs.Access.{withAccess}
+use Rattle.invariants.specs.Access.{with_access}
 use Rattle.invariants.proofs.Form.{enrolled-below}
 use Rattle.invariants.proofs.Star.{star-in, star-for}
 use Rattle.invariants.proofs.Wall.{wall-in, wall-for}
@@ -30,14 +30,14 @@ use Rattle.invariants.proofs.Outcomes.{reply-granted}
 use Rattle.invariants.proofs.Added.{there-now, holds-now, simple-get-out}
 
 -- a live object is one of the monitor's objects
-pub live_below : (l : List Object) (o : ℕ) → (objectAt l o).live ≡ true → o < length l
+pub live_below : (l : List Object) (o : ℕ) → (object_at l o).live ≡ true → o < length l
 live_below [] o e = clash (sym e)
 live_below (x ∷ xs) zero e = omega arith
 live_below (x ∷ xs) (suc o) e = let h : o < length xs = live_below xs o e in omega arith
 
 module _ (m : Monitor) (S : Sound m) (s o : ℕ) (x : Mode) (s-below : s < 16) (o-below : o < 64) where
   -- where the state with the access added is secure, every check passes
-  secure-granted : enrolled m s ≡ true → (object m o).live ≡ true → Secure (withAccess m s o x) → checks (Get s o x) m ≡ Granted
+  secure-granted : enrolled m s ≡ true → (object m o).live ≡ true → Secure (with_access m s o x) → checks (Get s o x) m ≡ Granted
   unfolding changed
   secure-granted there live T =
       let now = there-now m S s o x s-below o-below in
@@ -46,25 +46,25 @@ module _ (m : Monitor) (S : Sound m) (s o : ℕ) (x : Mode) (s-below : s < 16) (
       (record {
         there = there;
         live = live;
-        right = sym (ap (λ (b : Object). has x (rightsOf b s)) now) ∙ T.discretionary s o x held;
+        right = sym (ap (λ (b : Object). has x (rights_of b s)) now) ∙ T.discretionary s o x held;
         labelled = implies-in _ _ (λ n. sym (ap (λ (b : Object). present b.label) now) ∙ T.labelled s o x held n);
         simple = simple-get-out m S s o x s-below o-below T.simple;
-        star = implies-in _ _ (λ n. star-in s _ (star-for (withAccess m s o x) T.star s));
-        wall = wall-in s _ (wall-for (withAccess m s o x) T.wall s);
+        star = implies-in _ _ (λ n. star-in s _ (star-for (with_access m s o x) T.star s));
+        wall = wall-in s _ (wall-for (with_access m s o x) T.wall s);
       })
 
 module _ (m : Monitor) (S : Sound m) (s o : ℕ) (x : Mode) (there : enrolled m s ≡ true) (live : (object m o).live ≡ true) where
   s-below : s < 16
-  s-below = omega (arith, S.formed.subjects-length, enrolled-below m.subjects s there)
+  s-below = omega (arith, S.formed.subjects_length, enrolled-below m.subjects s there)
 
   o-below : o < 64
   o-below = omega (arith, S.formed.objects-length, live_below m.objects o live)
 
-  pub granted-secure : (checks (Get s o x) m ≡ Granted) ↔ Secure (withAccess m s o x)
+  pub granted-secure : (checks (Get s o x) m ≡ Granted) ↔ Secure (with_access m s o x)
   unfolding changed
-  granted-secure = (λ g. (sound-afterwards (Get s o x) m (s-below, o-below) (S.inside.subjects-inside s there, S.inside.objects-inside o live) S g).secure, secure-granted m S s o x s-below o-below there live)
+  granted-secure = (λ g. (sound-afterwards (Get s o x) m (s-below, o-below) (S.inside.subjects_inside s there, S.inside.objects_inside o live) S g).secure, secure-granted m S s o x s-below o-below there live)
 
-  pub get-refused-exactly : (2 ≤ number (step (Get s o x) m).decision) ↔ (Secure (withAccess m s o x) → ⊥)
+  pub get-refused-exactly : (2 ≤ number (step (Get s o x) m).decision) ↔ (Secure (with_access m s o x) → ⊥)
   get-refused-exactly =
       let g = reply-granted (Get s o x) m in (
         λ h T. absurd (omega (arith, h, g.1 (granted-secure.1 T))),

@@ -19,9 +19,9 @@ use Rattle.model.specs.declared.Request.TheVariants.{Get, Release, Give, Rescind
 use Rattle.model.specs.declared.Decoded.TheVariants.{Says}
 use Rattle.model.specs.declared.Decision.TheVariants.{Granted, Already}
 use Rattle.model.specs.declared.Response.{Response}
-use Rattle.model.specs.Levels.{Dominates, sameLabel}
+use Rattle.model.specs.Levels.{Dominates, same_label}
 use Rattle.model.specs.Modes.{observes}
-use Rattle.model.specs.State.{clearance, clearanceAt, object}
+use Rattle.model.specs.State.{clearance, clearance_at, object}
 use Rattle.model.specs.Properties.{Holds}
 use Rattle.model.specs.Decisions.{number}
 use Rattle.model.specs.Requests.{decode}
@@ -91,7 +91,7 @@ label-ends-by-delete m g o live there = kept (live-kept m g o live)
 module _ (m : Monitor) (R : Reached m) (g : List ℕ) (o : ℕ) (l : Level) (says : decode m.profile g ≡ Says (ChangeLevel (object m o).owner o l))
     (live : (object m o).live ≡ true) where
   -- the reply to the owner's change of level, where it is granted
-  owner-reply : (was : Bool) → checks (ChangeLevel (object m o).owner o l) m ≡ Granted → sameLabel (object m o).label (Present l) ≡ was
+  owner-reply : (was : Bool) → checks (ChangeLevel (object m o).owner o l) m ≡ Granted → same_label (object m o).label (Present l) ≡ was
       → reply g m ≡ number (cond was Already Granted)
   unfolding already
   owner-reply was e is =
@@ -103,30 +103,30 @@ module _ (m : Monitor) (R : Reached m) (g : List ℕ) (o : ℕ) (l : Level) (say
 
   -- "a first label is free", under a parent where it dominates that of the parent (change request §11)
   pub first-label-replies-0 : (object m o).label ≡ Absent → ((p : ℕ) → (object m o).parent ≡ suc p → Dominates (Present l) (object m p).label) → reply g m ≡ 0
-  unfolding sameLabel
-  first-label-replies-0 e fits = owner-reply false (first-label-granted m (sound-reached m R) o l live e fits) (ap (λ (k : Label). sameLabel k (Present l)) e)
+  unfolding same_label
+  first-label-replies-0 e fits = owner-reply false (first-label-granted m (sound-reached m R) o l live e fits) (ap (λ (k : Label). same_label k (Present l)) e)
 
 -- ---- lists of requests
 
 module _ (m : Monitor) (gs : List (List ℕ)) (o i : ℕ) where
   -- the label after k requests
-  labelAfter : ℕ → Label
-  labelAfter k = (object (after (take k gs) m) o).label
+  label_after : ℕ → Label
+  label_after k = (object (after (take k gs) m) o).label
 
   -- "live after every prefix" from i requests on to j
   LiveTo : ℕ → Type 0
   LiveTo j = (k : ℕ) → i ≤ k → k ≤ j → (object (after (take k gs) m) o).live ≡ true
 
-  rises_by : (d j : ℕ) → d + i ≡ j → LiveTo j → Rises (labelAfter i) (labelAfter j)
-  unfolding LiveTo labelAfter Rises
+  rises_by : (d j : ℕ) → d + i ≡ j → LiveTo j → Rises (label_after i) (label_after j)
+  unfolding LiveTo label_after Rises
   rises_by zero j e live there =
       let same : i ≡ j = omega (arith, e) in
-      subst (λ (k : ℕ). Dominates (labelAfter k) (labelAfter i)) same (dominates-refl (labelAfter i) there)
+      subst (λ (k : ℕ). Dominates (label_after k) (label_after i)) same (dominates-refl (label_after i) there)
   rises_by (suc d) zero e live there = absurd (omega (arith, e))
   rises_by (suc d) (suc j) e live there =
-      let here : Dominates (labelAfter j) (labelAfter i) = rises_by d j (omega (arith, e)) (λ k a b. live k a (omega (arith, b))) there in
-      after_next (λ (n : Monitor). (object n o).live ≡ true → Dominates (object n o).label (labelAfter i)) gs m j (λ l. here)
-      (λ g stays. dominates-trans _ (labelAfter j) (labelAfter i)
+      let here : Dominates (label_after j) (label_after i) = rises_by d j (omega (arith, e)) (λ k a b. live k a (omega (arith, b))) there in
+      after_next (λ (n : Monitor). (object n o).live ≡ true → Dominates (object n o).label (label_after i)) gs m j (λ l. here)
+      (λ g stays. dominates-trans _ (label_after j) (label_after i)
       (respond-rises g (after (take j gs) m) o (live j (omega (arith, e)) (omega arith)) stays (dominates-there _ _ here)) here)
       (live (suc j) (omega (arith, e)) (omega arith))
 
@@ -135,7 +135,7 @@ pub label-never-falls : (m : Monitor) (gs : List (List ℕ)) (o i j : ℕ) → i
     → ((k : ℕ) → i ≤ k → k ≤ j → (object (after (take k gs) m) o).live ≡ true)
     → (object (after (take i gs) m) o).label ≢ Absent
     → Dominates (object (after (take j gs) m) o).label (object (after (take i gs) m) o).label
-unfolding LiveTo labelAfter Rises
+unfolding LiveTo label_after Rises
 label-never-falls m gs o i j h live there = rises_by m gs o i (j - i) j (omega (arith, h)) live there
 
 -- so it is never published: who reads the object after j requests, by r or w, has a clearance that dominates the label after i
@@ -146,5 +146,5 @@ pub never-published : (m : Monitor) → Reached m → (gs : List (List ℕ)) (o 
 never-published m R gs o i j h live there s x held reads =
     let simple = (sound-reached _ (reached-after m R (take j gs))).secure.simple s o x held reads in
     dominates-trans (clearance m s) _ _
-    (subst (λ (l : List Subject). Dominates (clearanceAt l s) (object (after (take j gs) m) o).label) (subjects-kept-after (take j gs) m) simple)
+    (subst (λ (l : List Subject). Dominates (clearance_at l s) (object (after (take j gs) m) o).label) (subjects-kept-after (take j gs) m) simple)
     (label-never-falls m gs o i j h live there)

@@ -13,7 +13,7 @@ use Rattle.model.specs.declared.Request.{Request}
 use Rattle.model.specs.declared.Request.TheVariants.{Get, Release, Give, Rescind, Create, Delete, ChangeLevel, SetCompanies}
 use Rattle.model.specs.declared.Decoded.TheVariants.{Says}
 use Rattle.model.specs.declared.Response.{Response}
-use Rattle.model.specs.State.{noObject, object}
+use Rattle.model.specs.State.{no_object, object}
 use Rattle.model.specs.Hierarchy.{Below, Hierarchy}
 use Rattle.model.specs.Decisions.{number}
 use Rattle.model.specs.Requests.{decode}
@@ -89,7 +89,7 @@ module _ (m : Monitor) (R : Reached m) (g : List ℕ) (s o : ℕ) (says : decode
   after j = ap (λ (n : Monitor). object n j) left
 
   -- "Deleting an object deletes everything below it", and nothing else: each object goes, and is none, or is as it was
-  pub delete-leaves : (j : ℕ) → (Goes m o j × (object (respond g m).monitor j ≡ noObject)) ⊎ ((Goes m o j → ⊥) × (object (respond g m).monitor j ≡ object m j))
+  pub delete-leaves : (j : ℕ) → (Goes m o j × (object (respond g m).monitor j ≡ no_object)) ⊎ ((Goes m o j → ⊥) × (object (respond g m).monitor j ≡ object m j))
   delete-leaves j =
       let W = (sound-reached m R).formed in
       let h = (decode-range m.profile g (Delete s o) says).1 in

@@ -13,7 +13,7 @@ use Rattle.model.specs.declared.Request.{Request}
 use Rattle.model.specs.declared.Request.TheVariants.{Get, Release, Give, Rescind, Create, Delete, ChangeLevel, SetCompanies}
 use Rattle.model.specs.declared.Decision.TheVariants.{Granted}
 use Rattle.model.specs.Modes.{has, remove}
-use Rattle.model.specs.State.{object, heldBy, rightsOf, withHeld, withRights, WellFormed}
+use Rattle.model.specs.State.{object, held_by, rights_of, with_held, with_rights, WellFormed}
 use Rattle.model.specs.Decisions.{number}
 use Rattle.model.specs.Requests.{InRange}
 use Rattle.model.specs.Rules.{target, changed, already, afterwards, checks, step}
@@ -28,31 +28,31 @@ use Rattle.invariants.proofs.Outcomes.{step-cases}
 
 module _ (m : Monitor) (W : WellFormed m) where
   -- what a row has at s after a store there, where the store made no difference
-  held-now : (o s n : ℕ) → s < 16 → withHeld (object m o) s n ≡ object m o → n ≡ heldBy (object m o) s
+  held-now : (o s n : ℕ) → s < 16 → with_held (object m o) s n ≡ object m o → n ≡ held_by (object m o) s
   held-now o s n h w =
-      sym (held-stored (object m o) (W.objects-formed o) s n h) ∙ ap (λ (b : Object). heldBy b s) w
+      sym (held-stored (object m o) (W.objects_formed o) s n h) ∙ ap (λ (b : Object). held_by b s) w
 
-  rights-now : (o s n : ℕ) → s < 16 → withRights (object m o) s n ≡ object m o → n ≡ rightsOf (object m o) s
+  rights-now : (o s n : ℕ) → s < 16 → with_rights (object m o) s n ≡ object m o → n ≡ rights_of (object m o) s
   rights-now o s n h w =
-      sym (rights-stored (object m o) (W.objects-formed o) s n h) ∙ ap (λ (b : Object). rightsOf b s) w
+      sym (rights-stored (object m o) (W.objects_formed o) s n h) ∙ ap (λ (b : Object). rights_of b s) w
 
   record-differs : (q : Request) → InRange q → checks q m ≡ Granted → already q (object m (target q)) ≡ false
       → changed q (object m (target q)) ≡ object m (target q) → ⊥
   unfolding already changed
   record-differs (Get s o x) r g e w =
-      apart (sym (ap (has x) (held-now o s _ r.0 w)) ∙ add-has x _ ((W.objects-formed o).shape.held-fit s)) e
+      apart (sym (ap (has x) (held-now o s _ r.0 w)) ∙ add-has x _ ((W.objects_formed o).shape.held_fit s)) e
   record-differs (Release s o x) r g e w =
-      apart (not-off _ e) (sym (ap (has x) (held-now o s _ r.0 w)) ∙ remove-has x _ ((W.objects-formed o).shape.held-fit s))
+      apart (not-off _ e) (sym (ap (has x) (held-now o s _ r.0 w)) ∙ remove-has x _ ((W.objects_formed o).shape.held_fit s))
   record-differs (Give s t o x) r g e w =
-      apart (sym (ap (has x) (rights-now o t _ r.1 w)) ∙ add-has x _ ((W.objects-formed o).shape.rights-fit t)) e
+      apart (sym (ap (has x) (rights-now o t _ r.1 w)) ∙ add-has x _ ((W.objects_formed o).shape.rights-fit t)) e
   record-differs (Rescind s t o x) r g e w =
-      let F = W.objects-formed o in
-      let rights : remove x (rightsOf (object m o) t) ≡ rightsOf (object m o) t =
-      sym (rights-stored (object m o) F t _ r.1) ∙ ap (λ (b : Object). rightsOf b t) w in
-      let held : remove x (heldBy (object m o) t) ≡ heldBy (object m o) t =
-      sym (held-stored (object m o) F t _ r.1) ∙ ap (λ (b : Object). heldBy b t) w in
+      let F = W.objects_formed o in
+      let rights : remove x (rights_of (object m o) t) ≡ rights_of (object m o) t =
+      sym (rights-stored (object m o) F t _ r.1) ∙ ap (λ (b : Object). rights_of b t) w in
+      let held : remove x (held_by (object m o) t) ≡ held_by (object m o) t =
+      sym (held-stored (object m o) F t _ r.1) ∙ ap (λ (b : Object). held_by b t) w in
       apart
-      (and_both (ap not (sym (ap (has x) rights) ∙ remove-has x _ (F.shape.rights-fit t))) (ap not (sym (ap (has x) held) ∙ remove-has x _ (F.shape.held-fit t))))
+      (and_both (ap not (sym (ap (has x) rights) ∙ remove-has x _ (F.shape.rights-fit t))) (ap not (sym (ap (has x) held) ∙ remove-has x _ (F.shape.held_fit t))))
       e
   record-differs (Create s o c) r g e w =
       apart (ap (λ (k : Object). k.live) (sym w)) (not_on _ (granted-create m s o c g).free)

@@ -11,7 +11,7 @@ use Rattle.model.specs.declared.Creation.{Creation}
 use Rattle.model.specs.declared.Request.{Request}
 use Rattle.model.specs.declared.Request.TheVariants.{Get, Release, Give, Rescind, Create, Delete, ChangeLevel, SetCompanies}
 use Rattle.model.specs.Modes.{has}
-use Rattle.model.specs.State.{noObject, object, rightsOf, heldBy}
+use Rattle.model.specs.State.{no_object, object, rights_of, held_by}
 use Rattle.model.specs.Hierarchy.{Below}
 use Rattle.model.specs.Properties.{Holds, Permits}
 
@@ -26,9 +26,9 @@ pub record Created (n : Monitor) (s o : ℕ) (c : Creation) : Type 0 where
   pub read : Permits n s o Read
   pub write : Permits n s o Write
   pub append : Permits n s o Append
-  pub execute-by-mode : has Execute (rightsOf (object n o) s) ≡ c.execute
-  pub others : (t : ℕ) → t ≢ s → rightsOf (object n o) t ≡ 0
-  pub nobody-holds : (t : ℕ) → heldBy (object n o) t ≡ 0
+  pub execute_by_mode : has Execute (rights_of (object n o) s) ≡ c.execute
+  pub others : (t : ℕ) → t ≢ s → rights_of (object n o) t ≡ 0
+  pub nobody_holds : (t : ℕ) → held_by (object n o) t ≡ 0
 
 abbrev pub Effect : Request → Monitor → Type 0
 -- "the actor then holds the access"
@@ -41,7 +41,7 @@ Effect (Give s t o x) n = Permits n t o x
 Effect (Rescind s t o x) n = (Permits n t o x → ⊥) × (Holds n t o x → ⊥)
 Effect (Create s o c) n = Created n s o c
 -- "no longer live, its rights and accesses gone"
-Effect (Delete s o) n = object n o ≡ noObject
+Effect (Delete s o) n = object n o ≡ no_object
 -- "the label becomes class and needs"
 Effect (ChangeLevel s o l) n = (object n o).label ≡ Present l
 -- "lets the owner set them" (change request §10)

@@ -9,7 +9,7 @@ use mathlib.Core.List.{List, ◌++◌}
 use lib.ListN.{length, set, replicate, replicate-append-replicate}
 use lib.Dec.{lit≤}
 use Rattle.bits.specs.Bits.{to_bits, joined, waiting, stored}
-use Rattle.bits.specs.Laws.{toBits-zero}
+use Rattle.bits.specs.Laws.{to_bits-zero}
 use Rattle.bits.specs.Stream.{Appends, stored-full, next, ends}
 use Rattle.record_fields.proofs.Streams.{appended}
 
@@ -27,7 +27,7 @@ zeros-stored s at = stored-full s at 0 8 0 (omega arith) ∙ ap (λ (n : ℕ). s
 pub zeros-more : (s t u : List ℕ) (from n at k : ℕ) → Appends s from 0 (replicate n false) t at 0 → at + 8 ≤ 8 * length t → k ≡ at / 8 → u ≡ set t k 0
     → Appends s from 0 (replicate (n + 8) false) u (at + 8) 0
 zeros-more s t u from n at k A h e f =
-    ends _ _ (ap (λ l. replicate n false ++ l) (toBits-zero 8) ∙ replicate-append-replicate n 8 false) refl
+    ends _ _ (ap (λ l. replicate n false ++ l) (to_bits-zero 8) ∙ replicate-append-replicate n 8 false) refl
     (next _ _ refl A
     (appended t u at 0 8 0 0 (lit≤ tt) h (sym (zeros-wait 0), f ∙ ap (λ i. set t i 0) e ∙ sym (zeros-stored t at))))
 
@@ -35,4 +35,4 @@ zeros-more s t u from n at k A h e f =
 pub all-zeros : (w : ℕ) → 8 ≤ w → (to_bits (w % 8) 0 ++ to_bits 8 0) ++ replicate (8 * (w / 8 - 1)) false ≡ replicate w false
 all-zeros w h =
     let sum : w % 8 + 8 + 8 * (w / 8 - 1) ≡ w = omega arith in
-    rw (toBits-zero (w % 8), toBits-zero 8, replicate-append-replicate (w % 8) 8 false, replicate-append-replicate (w % 8 + 8) (8 * (w / 8 - 1)) false, sum)
+    rw (to_bits-zero (w % 8), to_bits-zero 8, replicate-append-replicate (w % 8) 8 false, replicate-append-replicate (w % 8 + 8) (8 * (w / 8 - 1)) false, sum)

@@ -1,14 +1,17 @@
 // Slots without an object, which are most: whether an object is none, and its bits, which are all 0.
+
+#![tactic(auto)]
+
 ghost use Rattle.std.specs.Prelude.{◌≡◌, ◌+◌, ◌*◌, ◌≤◌, true, false, length, replicate};
 ghost use Rattle.bits.specs.Stream.{Appends};
-ghost use Rattle.model.specs.State.{noModes, noObject};
-ghost use Rattle.model.specs.Layout.{imageSize};
+ghost use Rattle.model.specs.State.{no_modes, no_object};
+ghost use Rattle.model.specs.Layout.{image_size};
 
 use labels::is_present;
 use model::{Monitor, Object};
 
 fn is_empty(row: [u8; 16]) -> bool
-    ensures { result ≡ true → row ≡ noModes }
+    ensures { result ≡ true → row ≡ no_modes }
 {
     let mut empty = true;
     let mut s: usize = 0;
@@ -20,7 +23,7 @@ fn is_empty(row: [u8; 16]) -> bool
 }
 
 pub fn is_none(object: Object) -> bool
-    ensures { result ≡ true → object ≡ noObject }
+    ensures { result ≡ true → object ≡ no_object }
 {
     let label = object.label;
     let rights = object.rights;
@@ -34,7 +37,7 @@ pub fn is_none(object: Object) -> bool
 
 // Bits that are 0, eight or more: those that fill no byte, eight more, and then whole bytes.
 pub fn write_zeros(out: &mut [u8], at: usize, acc: u32, width: usize) -> u32
-    requires { (8 ≤ width) × (at + width ≤ 8 * imageSize) × (imageSize ≤ length out.old) }
+    requires { (8 ≤ width) × (at + width ≤ 8 * image_size) × (image_size ≤ length out.old) }
     ensures { Appends out.old at acc (replicate width false) out.new (at + width) result }
 {
     let part = width % 8;

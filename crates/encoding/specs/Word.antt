@@ -4,8 +4,8 @@ use Rattle.std.specs.Prelude.{ℕ, zero, suc, ◌+◌, ◌*◌, ◌/◌, ◌%◌
 use Rattle.model.specs.declared.Fields.{Fields}
 
 -- the fields of a request without a level
-abbrev pub withoutLevel : ℕ → ℕ → ℕ → ℕ → ℕ → Fields
-withoutLevel kind s t o mode = record { kind = kind; actor = s; other = t; object = o; mode = mode; class = 0; needs = 0; spare = 0 }
+abbrev pub without_level : ℕ → ℕ → ℕ → ℕ → ℕ → Fields
+without_level kind s t o mode = record { kind = kind; actor = s; other = t; object = o; mode = mode; class = 0; needs = 0; spare = 0 }
 
 -- w bits of x behind a number
 abbrev pub behind : ℕ → ℕ → ℕ → ℕ

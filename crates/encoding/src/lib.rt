@@ -1,14 +1,17 @@
 // The six bytes of a request.
+
+#![tactic(auto)]
+
 ghost use Rattle.std.specs.Prelude.{◌≡◌, ◌+◌, ◌≤◌, length};
-ghost use Rattle.model.specs.Requests.{requestSize, modeNumber, fields_of, pack, encode};
+ghost use Rattle.model.specs.Requests.{request_size, mode_number, fields_of, pack, encode};
 ghost use Rattle.model.specs.Buffers.{put};
-ghost use Rattle.encoding.specs.Word.{withoutLevel, word_of, word_bytes};
+ghost use Rattle.encoding.specs.Word.{without_level, word_of, word_bytes};
 
 use buffers::put_bytes;
 use model::{Creation, Fields, Mode, Request};
 
 fn mode_number(x: Mode) -> u8
-    ensures { result ≡ modeNumber x }
+    ensures { result ≡ mode_number x }
 {
     match x {
         Mode::Read => 1,
@@ -20,7 +23,7 @@ fn mode_number(x: Mode) -> u8
 
 // The fields of a request without a level.
 pub fn without_level(kind: u8, actor: u8, other: u8, object: u8, mode: u8) -> Fields
-    ensures { result ≡ withoutLevel kind actor other object mode }
+    ensures { result ≡ without_level kind actor other object mode }
 {
     Fields {
         kind,
@@ -129,7 +132,7 @@ pub fn encode(q: Request) -> [u8; 6]
 
 // These bytes into a lent buffer, from at on.
 pub fn put_request(out: &mut [u8], at: usize, q: Request)
-    requires { at + requestSize ≤ length out.old }
+    requires { at + request_size ≤ length out.old }
     ensures { out.new ≡ put out.old at (encode q) }
 {
     let bytes = encode(q);

@@ -14,37 +14,37 @@ use Rattle.model.specs.declared.Monitor.{Monitor}
 use Rattle.model.specs.declared.Comparison.{Comparison}
 use Rattle.model.specs.declared.Comparison.TheVariants.{Equal, Above, Below, Apart}
 use Rattle.model.specs.declared.Request.{Request}
-use Rattle.model.specs.Levels.{compare, equalOrAbove, levelDominates}
-use Rattle.model.specs.State.{objectCount, widest, object}
+use Rattle.model.specs.Levels.{compare, equal_or_above, level_dominates}
+use Rattle.model.specs.State.{object_count, widest, object}
 use Rattle.model.proofs.Tests.{split}
 use Rattle.model.proofs.Comparisons.{mirror, level-back}
-use Rattle.telling.specs.Distinguish.{freeBelow, readAt, byComparison, toClearance}
+use Rattle.telling.specs.Distinguish.{free_below, read_at, by_comparison, to_clearance}
 
 -- what holds of the list under each answer
 pub comparison-all : (P : List Request → Type 0) (c : Comparison) (x y : List Request)
-    → (c ≡ Equal → P []) → (c ≡ Above → P x) → (c ≡ Below → P y) → (c ≡ Apart → P x) → P (byComparison c x y)
+    → (c ≡ Equal → P []) → (c ≡ Above → P x) → (c ≡ Below → P y) → (c ≡ Apart → P x) → P (by_comparison c x y)
 comparison-all P Equal x y e a b p = e refl
 comparison-all P Above x y e a b p = a refl
 comparison-all P Below x y e a b p = b refl
 comparison-all P Apart x y e a b p = p refl
 
 -- by the answer as by the two tests
-by_tests : (c : Comparison) (x y : List Request) → byComparison c x y ≡ cond (equalOrAbove (mirror c)) (cond (equalOrAbove c) [] y) x
+by_tests : (c : Comparison) (x y : List Request) → by_comparison c x y ≡ cond (equal_or_above (mirror c)) (cond (equal_or_above c) [] y) x
 by_tests Equal x y = refl
 by_tests Above x y = refl
 by_tests Below x y = refl
 by_tests Apart x y = refl
 
 -- the list as it was chosen before there were four answers
-abbrev clearanceBefore : Monitor → ℕ → Label → Label → List Request
-clearanceBefore m s Absent b = []
-clearanceBefore m s (Present a) Absent = []
-clearanceBefore m s (Present a) (Present b) =
-    cond (levelDominates b a) (cond (levelDominates a b) [] (readAt m (freeBelow objectCount m) s b)) (readAt m (freeBelow objectCount m) s a)
+abbrev clearance_before : Monitor → ℕ → Label → Label → List Request
+clearance_before m s Absent b = []
+clearance_before m s (Present a) Absent = []
+clearance_before m s (Present a) (Present b) =
+    cond (level_dominates b a) (cond (level_dominates a b) [] (read_at m (free_below object_count m) s b)) (read_at m (free_below object_count m) s a)
 
 -- what tells two clearances apart is what it was
-pub lists-as-before : (m : Monitor) (s : ℕ) (a b : Label) → toClearance m s a b ≡ clearanceBefore m s a b
-unfolding toClearance levelDominates
+pub lists-as-before : (m : Monitor) (s : ℕ) (a b : Label) → to_clearance m s a b ≡ clearance_before m s a b
+unfolding to_clearance level_dominates
 lists-as-before m s Absent b = refl
 lists-as-before m s (Present a) Absent = refl
 lists-as-before m s (Present a) (Present b) = by_tests (compare a b) _ _ ∙ rw (level-back a b)
@@ -52,12 +52,12 @@ lists-as-before m s (Present a) (Present b) = by_tests (compare a b) _ _ ∙ rw 
 -- ---- the slot
 
 -- the last object below k that is not live, as it was looked for before there was a profile
-unfoldable pub freeBefore : ℕ → Monitor → ℕ
-freeBefore zero m = 0
-freeBefore (suc k) m = cond (object m k).live (freeBefore k m) k
+unfoldable pub free_before : ℕ → Monitor → ℕ
+free_before zero m = 0
+free_before (suc k) m = cond (object m k).live (free_before k m) k
 
-slot-as-before : (k : ℕ) (m : Monitor) → k ≤ m.profile.objects → freeBelow k m ≡ freeBefore k m
-unfolding freeBelow freeBefore
+slot-as-before : (k : ℕ) (m : Monitor) → k ≤ m.profile.objects → free_below k m ≡ free_before k m
+unfolding free_below free_before
 slot-as-before zero m h = refl
 slot-as-before (suc k) m h =
     ap₂ (λ (b : Bool) (o : ℕ). cond b o k) (or-none (object m k).live (lt-leb k m.profile.objects h)) (slot-as-before k m (omega (arith, h)))
@@ -70,5 +70,5 @@ slot-as-before (suc k) m h =
     or-none false e = e
 
 -- under the widest profile it is the slot that it was
-pub slot-of-widest : (m : Monitor) → m.profile ≡ widest → freeBelow objectCount m ≡ freeBefore objectCount m
+pub slot-of-widest : (m : Monitor) → m.profile ≡ widest → free_below object_count m ≡ free_before object_count m
 slot-of-widest m e = slot-as-before 64 m (subst (λ (p : Profile). 64 ≤ p.objects) (sym e) (omega arith))

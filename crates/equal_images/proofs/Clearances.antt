@@ -22,19 +22,19 @@ use Rattle.model.specs.declared.Request.{Request}
 use Rattle.model.specs.declared.Request.TheVariants.{Get, Create, Delete, ChangeLevel}
 use Rattle.model.specs.declared.Decision.TheVariants.{Granted, NotEnrolled, NotLive, NoRight, NoLabel, SimpleBroken, StarBroken, WallBroken}
 use Rattle.model.specs.Tests.{implies, unless}
-use Rattle.model.specs.Levels.{compare, equalOrAbove, dominates, levelDominates, present}
+use Rattle.model.specs.Levels.{compare, equal_or_above, dominates, level_dominates, present}
 use Rattle.model.specs.Modes.{has}
-use Rattle.model.specs.State.{noModes, clearance, enrolled, object, rightsOf, withLabel, LevelFits, LabelFits}
+use Rattle.model.specs.State.{no_modes, clearance, enrolled, object, rights_of, with_label, LevelFits, LabelFits}
 use Rattle.model.specs.Profiles.{LevelInside}
-use Rattle.model.specs.Hierarchy.{parentLive}
+use Rattle.model.specs.Hierarchy.{parent_live}
 use Rattle.model.specs.Requests.{creation}
-use Rattle.model.specs.Rules.{changed, afterwards, checks, created, starFor, wallFor}
+use Rattle.model.specs.Rules.{changed, afterwards, checks, created, star_for, wall_for}
 use Rattle.model.proofs.Tests.{pass, stop, not-stop, distinct, cond-all, or-false, le-or-lt}
 use Rattle.model.proofs.Tests as tests
 use Rattle.model.proofs.Levels.{level-refl}
 use Rattle.model.proofs.Comparisons.{mirror, level-back, equal-exactly}
 use Rattle.model.proofs.After.{object-there}
-use Rattle.telling.specs.Distinguish.{freeBelow, readAt, toClearance, byClearance}
+use Rattle.telling.specs.Distinguish.{free_below, read_at, to_clearance, by_clearance}
 use Rattle.equal_images.proofs.Answers.{comparison-all}
 use Rattle.invariants.proofs.Granted.{grants-create}
 use Rattle.invariants.proofs.Relabelling.{first-label-granted}
@@ -48,21 +48,21 @@ record InUse (p : Profile) (s o : ℕ) (l : Level) : Type 0 where
   s-below : s < 16
   o-below : o < 64
   fits : LevelFits l
-  s-inside : s < p.subjects
-  o-inside : o < p.objects
-  l-inside : LevelInside p l
+  s_inside : s < p.subjects
+  o_inside : o < p.objects
+  l_inside : LevelInside p l
 
 -- ---- subject s creates object o, labels it and asks to read it
 
 module _ (p : Profile) (s o : ℕ) (l : Level) (I : InUse p s o l) where
   create-formed : Formed p (Create s o (creation false 0))
-  create-formed = ((I.s-below, I.o-below, omega arith), (I.s-inside, I.o-inside, omega arith))
+  create-formed = ((I.s-below, I.o-below, omega arith), (I.s_inside, I.o_inside, omega arith))
 
   change-formed : Formed p (ChangeLevel s o l)
-  change-formed = ((I.s-below, I.o-below, I.fits), (I.s-inside, I.o-inside, I.l-inside))
+  change-formed = ((I.s-below, I.o-below, I.fits), (I.s_inside, I.o_inside, I.l_inside))
 
   get-formed : Formed p (Get s o Read)
-  get-formed = ((I.s-below, I.o-below), (I.s-inside, I.o-inside))
+  get-formed = ((I.s-below, I.o-below), (I.s_inside, I.o_inside))
 
   made : Monitor → Monitor
   made m = afterwards (Create s o (creation false 0)) m
@@ -72,7 +72,7 @@ module _ (p : Profile) (s o : ℕ) (l : Level) (I : InUse p s o l) where
 
   module _ (m : Monitor) (S : Under p m) (there : enrolled m s ≡ true) (free : (object m o).live ≡ false) where
     create-granted : checks (Create s o (creation false 0)) m ≡ Granted
-    unfolding parentLive
+    unfolding parent_live
     create-granted = grants-create m s o (creation false 0) (record { there = there; free = ap not free; parent = refl })
 
     under-made : Under p (made m)
@@ -97,11 +97,11 @@ module _ (p : Profile) (s o : ℕ) (l : Level) (I : InUse p s o l) where
     unfolding ready
     under-ready = under-afterwards p (made m) under-made (ChangeLevel s o l) change-formed level-granted
 
-    object-ready : object (ready m) o ≡ withLabel (created s (creation false 0)) (Present l)
+    object-ready : object (ready m) o ≡ with_label (created s (creation false 0)) (Present l)
     unfolding ready changed
     object-ready =
         object-there (ChangeLevel s o l) (made m) under-made.sound.formed I.o-below
-        ∙ ap (λ (k : Object). withLabel k (Present l)) object-made
+        ∙ ap (λ (k : Object). with_label k (Present l)) object-made
 
     clearance-ready : clearance (ready m) s ≡ clearance m s
     unfolding ready made
@@ -110,20 +110,20 @@ module _ (p : Profile) (s o : ℕ) (l : Level) (I : InUse p s o l) where
     -- what is left of the get: 8, then 9 and 18
     reading : checks (Get s o Read) (ready m)
         ≡ unless (dominates (clearance m s) (Present l)) SimpleBroken
-        (unless (starFor s (afterwards (Get s o Read) (ready m)).objects) StarBroken
-        (unless (wallFor s (afterwards (Get s o Read) (ready m)).objects) WallBroken Granted))
+        (unless (star_for s (afterwards (Get s o Read) (ready m)).objects) StarBroken
+        (unless (wall_for s (afterwards (Get s o Read) (ready m)).objects) WallBroken Granted))
     unfolding checks has implies
     reading =
         pass _ NotEnrolled _ (ap present clearance-ready ∙ there)
         ∙ pass _ NotLive _ (ap (λ (k : Object). k.live) object-ready)
-        ∙ pass _ NoRight _ (ap (λ (k : Object). has Read (rightsOf k s)) object-ready ∙ ap (has Read) (get_or-set_same noModes s 14 0 I.s-below))
+        ∙ pass _ NoRight _ (ap (λ (k : Object). has Read (rights_of k s)) object-ready ∙ ap (has Read) (get_or-set_same no_modes s 14 0 I.s-below))
         ∙ pass _ NoLabel _ (ap (λ (k : Object). present k.label) object-ready)
         ∙ rw (clearance-ready, ap (λ (k : Object). k.label) object-ready)
 
   -- two states in which s is enrolled and the object is not live, one of whose clearances dominates the level
   module _ (m n : Monitor) (S : Under p m) (N : Under p n) (here : enrolled m s ≡ true) (there : enrolled n s ≡ true)
       (free : (object m o).live ≡ false) (empty : (object n o).live ≡ false)
-      (above : dominates (clearance m s) (Present l) ≡ true) (not-above : dominates (clearance n s) (Present l) ≡ false) where
+      (above : dominates (clearance m s) (Present l) ≡ true) (not_above : dominates (clearance n s) (Present l) ≡ false) where
     tells-clearance : Differs (Create s o (creation false 0) ∷ ChangeLevel s o l ∷ Get s o Read ∷ []) m n
     unfolding ready made
     tells-clearance =
@@ -131,7 +131,7 @@ module _ (p : Profile) (s o : ℕ) (l : Level) (I : InUse p s o l) where
         (after-granted p (ChangeLevel s o l) _ (made m) (made n) (under-made m S here free) (under-made n N there empty) change-formed (level-granted m S here free) (level-granted n N there empty)
         (differs-first p (ready m) (ready n) (under-ready m S here free).profile (under-ready n N there empty).profile (Get s o Read) [] get-formed
         (tells-refusal (Get s o Read) (ready m) (ready n) SimpleBroken refl
-        (reading n N there empty ∙ stop _ SimpleBroken _ not-above)
+        (reading n N there empty ∙ stop _ SimpleBroken _ not_above)
         (λ e. not-stop _ StarBroken _ SimpleBroken (distinct _ _ refl)
         (not-stop _ WallBroken Granted SimpleBroken (distinct _ _ refl) (distinct _ _ refl)) (sym (reading m S here free ∙ pass _ SimpleBroken _ above) ∙ e)))))
 
@@ -144,9 +144,9 @@ gone p m S o h w = ap (λ (k : Object). k.live) (object-there (Delete w o) m S.s
 module _ (p : Profile) (s o : ℕ) (l : Level) (I : InUse p s o l) where
   -- the owner that both have
   read-differs : (m n : Monitor) → Under p m → Under p n → object m o ≡ object n o → enrolled m s ≡ true → enrolled n s ≡ true
-      → dominates (clearance m s) (Present l) ≡ true → dominates (clearance n s) (Present l) ≡ false → Differs (readAt m o s l) m n
-  unfolding readAt
-  read-differs m n S N same here there above not-above =
+      → dominates (clearance m s) (Present l) ≡ true → dominates (clearance n s) (Present l) ≡ false → Differs (read_at m o s l) m n
+  unfolding read_at
+  read-differs m n S N same here there above not_above =
       let w = (object m o).owner in
       cond-all (λ (qs : List Request). Differs qs m n) (object m o).live _ _
       (λ live.
@@ -157,22 +157,22 @@ module _ (p : Profile) (s o : ℕ) (l : Level) (I : InUse p s o l) where
       subst (λ (k : ℕ). checks (Delete k o) n ≡ Granted) (sym (ap (λ (k : Object). k.owner) same)) (delete-granted n N.sound o live-too) in
       after-granted p (Delete w o) _ m n S N own gm gn
       (tells-clearance p s o l I (afterwards (Delete w o) m) (afterwards (Delete w o) n)
-      (under-afterwards p m S (Delete w o) own gm) (under-afterwards p n N (Delete w o) own gn) here there (gone p m S o I.o-below w) (gone p n N o I.o-below w) above not-above))
-      (λ free. tells-clearance p s o l I m n S N here there free (sym (ap (λ (k : Object). k.live) same) ∙ free) above not-above)
+      (under-afterwards p m S (Delete w o) own gm) (under-afterwards p n N (Delete w o) own gn) here there (gone p m S o I.o-below w) (gone p n N o I.o-below w) above not_above))
+      (λ free. tells-clearance p s o l I m n S N here there free (sym (ap (λ (k : Object). k.live) same) ∙ free) above not_above)
 
-  read-formed : (m : Monitor) → Under p m → AllFormed p (readAt m o s l)
-  unfolding readAt
+  read-formed : (m : Monitor) → Under p m → AllFormed p (read_at m o s l)
+  unfolding read_at
   read-formed m S =
       cond-all (AllFormed p) (object m o).live _ _
       (λ live. (delete-formed p m S o I.o-below live, (create-formed p s o l I, (change-formed p s o l I, (get-formed p s o l I, tt)))))
       (λ free. (create-formed p s o l I, (change-formed p s o l I, (get-formed p s o l I, tt))))
 
-  read_short : (m : Monitor) → length (readAt m o s l) ≤ 4
-  unfolding readAt
+  read_short : (m : Monitor) → length (read_at m o s l) ≤ 4
+  unfolding read_at
   read_short m = cond-all (λ (qs : List Request). length qs ≤ 4) (object m o).live _ _ (λ e. lit≤ tt) (λ e. lit≤ tt)
 
-  read_same : (m n : Monitor) → object m o ≡ object n o → readAt n o s l ≡ readAt m o s l
-  unfolding readAt
+  read_same : (m n : Monitor) → object m o ≡ object n o → read_at n o s l ≡ read_at m o s l
+  unfolding read_at
   read_same m n same =
       ap (λ (k : Object). cond k.live (Delete k.owner o ∷ Create s o (creation false 0) ∷ ChangeLevel s o l ∷ Get s o Read ∷ []) (Create s o (creation false 0) ∷ ChangeLevel s o l ∷ Get s o Read ∷ []))
       (sym same)
@@ -180,8 +180,8 @@ module _ (p : Profile) (s o : ℕ) (l : Level) (I : InUse p s o l) where
 -- ---- the search over clearances
 
 -- the slot is inside the profile, since that has object 0
-free-inside : (k : ℕ) (m : Monitor) → 0 < m.profile.objects → freeBelow k m < m.profile.objects
-unfolding freeBelow
+free-inside : (k : ℕ) (m : Monitor) → 0 < m.profile.objects → free_below k m < m.profile.objects
+unfolding free_below
 free-inside zero m h = h
 free-inside (suc k) m h =
     cond-all (λ (o : ℕ). o < m.profile.objects) ((object m k).live || leb m.profile.objects k) _ k (λ e. free-inside k m h)
@@ -193,14 +193,14 @@ free-inside (suc k) m h =
 module _ (p : Profile) (m n : Monitor) (S : Under p m) (N : Under p n) (objects : (o : ℕ) → o < 64 → object m o ≡ object n o)
     (same : (s : ℕ) → s < 16 → enrolled m s ≡ enrolled n s) (s : ℕ) (s-below : s < 16) where
   slot : ℕ
-  slot = freeBelow 64 m
+  slot = free_below 64 m
 
   slot-inside : slot < m.profile.objects
   unfolding slot
-  slot-inside = free-inside 64 m S.sound.inside.profile-fits.one-object
+  slot-inside = free-inside 64 m S.sound.inside.fitting_profile.one_object
 
   slot-below : slot < 64
-  slot-below = omega (arith, slot-inside, S.sound.inside.profile-fits.objects-fit)
+  slot-below = omega (arith, slot-inside, S.sound.inside.fitting_profile.objects_fit)
 
   here_of : (a : Label) → clearance m s ≡ a → present a ≡ true → (enrolled m s ≡ true) × (enrolled n s ≡ true)
   here_of a q e = let w : enrolled m s ≡ true = ap present q ∙ e in (w, sym (same s s-below) ∙ w)
@@ -211,48 +211,48 @@ module _ (p : Profile) (m n : Monitor) (S : Under p m) (N : Under p n) (objects 
         s-below = s-below;
         o-below = slot-below;
         fits = fits;
-        s-inside = subject-in p m S s there;
-        o-inside = subst (λ (k : Profile). slot < k.objects) S.profile slot-inside;
-        l-inside = within;
+        s_inside = subject-in p m S s there;
+        o_inside = subst (λ (k : Profile). slot < k.objects) S.profile slot-inside;
+        l_inside = within;
       }
 
   -- the level of the one, which the other does not dominate
-  of-first : (x y : Level) → clearance m s ≡ Present x → clearance n s ≡ Present y → levelDominates y x ≡ false
-      → Probe p m n (readAt m slot s x) (Present x ≡ Present y)
+  of-first : (x y : Level) → clearance m s ≡ Present x → clearance n s ≡ Present y → level_dominates y x ≡ false
+      → Probe p m n (read_at m slot s x) (Present x ≡ Present y)
   unfolding dominates
   of-first x y f g h =
       let e = here_of (Present x) f refl in
-      let I = all-inside x (subst LabelFits f (S.sound.formed.clearances-fit s)) (clearance-in p m S s x f) e.0 in
+      let I = all-inside x (subst LabelFits f (S.sound.formed.clearances_fit s)) (clearance-in p m S s x f) e.0 in
       apart (read-formed p s slot x I m S) (read_short p s slot x I m)
       (read-differs p s slot x I m n S N (objects slot slot-below) e.0 e.1
       (ap (λ (v : Label). dominates v (Present x)) f ∙ level-refl x) (ap (λ (v : Label). dominates v (Present x)) g ∙ h))
 
-  of-second : (x y : Level) → clearance m s ≡ Present x → clearance n s ≡ Present y → levelDominates x y ≡ false
-      → Probe p m n (readAt m slot s y) (Present x ≡ Present y)
+  of-second : (x y : Level) → clearance m s ≡ Present x → clearance n s ≡ Present y → level_dominates x y ≡ false
+      → Probe p m n (read_at m slot s y) (Present x ≡ Present y)
   unfolding dominates
   of-second x y f g h =
       let e = here_of (Present x) f refl in
-      let I = all-inside y (subst LabelFits g (N.sound.formed.clearances-fit s)) (clearance-in p n N s y g) e.0 in
+      let I = all-inside y (subst LabelFits g (N.sound.formed.clearances_fit s)) (clearance-in p n N s y g) e.0 in
       let same-slot = objects slot slot-below in
       apart (read-formed p s slot y I m S) (read_short p s slot y I m)
       (subst (λ (qs : List Request). Differs qs m n) (read_same p s slot y I m n same-slot)
-      (differs-sym (readAt n slot s y) n m
+      (differs-sym (read_at n slot s y) n m
       (read-differs p s slot y I n m N S (sym same-slot) e.1 e.0
       (ap (λ (v : Label). dominates v (Present y)) g ∙ level-refl y) (ap (λ (v : Label). dominates v (Present y)) f ∙ h))))
 
   -- s has clearance a in the one and b in the other
-  clearance-probe : (a b : Label) → clearance m s ≡ a → clearance n s ≡ b → Probe p m n (toClearance m s a b) (a ≡ b)
-  unfolding toClearance slot levelDominates
+  clearance-probe : (a b : Label) → clearance m s ≡ a → clearance n s ≡ b → Probe p m n (to_clearance m s a b) (a ≡ b)
+  unfolding to_clearance slot level_dominates
   clearance-probe Absent Absent f g = alike refl refl
   clearance-probe Absent (Present y) f g = tests.apart (ap present g) (sym (same s s-below) ∙ ap present f)
   clearance-probe (Present x) Absent f g = tests.apart (here_of (Present x) f refl).1 (ap present g)
   clearance-probe (Present x) (Present y) f g =
       comparison-all (λ (qs : List Request). Probe p m n qs (Present x ≡ Present y)) (compare x y) _ _
-      (λ e. alike refl (ap Present ((equal-exactly x y (subst LabelFits f (S.sound.formed.clearances-fit s)).1 (subst LabelFits g (N.sound.formed.clearances-fit s)).1).0 e)))
-      (λ e. of-first x y f g (level-back x y ∙ ap (λ (c : Comparison). equalOrAbove (mirror c)) e))
-      (λ e. of-second x y f g (ap equalOrAbove e))
-      (λ e. of-first x y f g (level-back x y ∙ ap (λ (c : Comparison). equalOrAbove (mirror c)) e))
+      (λ e. alike refl (ap Present ((equal-exactly x y (subst LabelFits f (S.sound.formed.clearances_fit s)).1 (subst LabelFits g (N.sound.formed.clearances_fit s)).1).0 e)))
+      (λ e. of-first x y f g (level-back x y ∙ ap (λ (c : Comparison). equal_or_above (mirror c)) e))
+      (λ e. of-second x y f g (ap equal_or_above e))
+      (λ e. of-first x y f g (level-back x y ∙ ap (λ (c : Comparison). equal_or_above (mirror c)) e))
 
-  pub probe-clearance : Probe p m n (byClearance m n s) (clearance m s ≡ clearance n s)
-  unfolding byClearance
+  pub probe-clearance : Probe p m n (by_clearance m n s) (clearance m s ≡ clearance n s)
+  unfolding by_clearance
   probe-clearance = clearance-probe (clearance m s) (clearance n s) refl refl

@@ -14,15 +14,15 @@ use Rattle.model.specs.Decisions.{number}
 use Rattle.model.specs.Requests.{encode}
 use Rattle.model.specs.Runs.{replies}
 use Rattle.model.specs.Journal.{Act}
-use Rattle.model.specs.Layout.{imageSize, image_of}
+use Rattle.model.specs.Layout.{image_size, image_of}
 use Rattle.model.specs.Writing.{writing, written}
 use Rattle.model.specs.Beginnings.{Beginning, Accepted, left, Reached, AllBytes}
 use Rattle.model.proofs.Packing.{pack-bytes}
 use Rattle.model.proofs.Equal.{state-same}
-use Rattle.telling.specs.Distinguish.{search, byEnrolment, byLifeAndOwner, byParent, byStanding, byObject, byClearance, distinguish}
+use Rattle.telling.specs.Distinguish.{search, by_enrolment, by_life_and_owner, by_parent, by_standing, by_object, by_clearance, distinguish}
 use Rattle.invariants.specs.Sound.{Sound}
 use Rattle.images.proofs.Trips.{image-tells}
-use Rattle.images.specs.Tables.{beginningProfile}
+use Rattle.images.specs.Tables.{beginning_profile}
 use Rattle.images.proofs.Reached.{sound-reached, fills, reached-left, left-profile}
 use Rattle.equal_images.specs.Inputs.{AllFormed}
 use Rattle.equal_images.proofs.Under.{Under}
@@ -40,26 +40,26 @@ pub record Standing (m n : Monitor) : Type 0 where
   pub owned : (o : ℕ) → o < 64 → (object m o).owner ≡ (object n o).owner
   pub under : (o : ℕ) → o < 64 → (object m o).parent ≡ (object n o).parent
 
-pub probe-standing : (p : Profile) (m n : Monitor) → Under p m → Under p n → Probe p m n (byStanding m n) (Standing m n)
-unfolding byStanding
+pub probe-standing : (p : Profile) (m n : Monitor) → Under p m → Under p n → Probe p m n (by_standing m n) (Standing m n)
+unfolding by_standing
 probe-standing p m n S N =
-    probe-map p m n (byStanding m n) (λ t. record { same = t.0; alive = λ o h. (t.1.0 o h).0; owned = λ o h. (t.1.0 o h).1; under = t.1.1 })
-    (probe-or p m n (search 16 (byEnrolment m n)) _
-    (probe-search p m n (λ s. enrolled m s ≡ enrolled n s) 16 (byEnrolment m n) (probe-enrolment p m n S N))
-    (λ same. probe-or p m n (search 64 (byLifeAndOwner m n)) (search 64 (byParent m n))
-    (probe-search p m n (λ o. ((object m o).live ≡ (object n o).live) × ((object m o).owner ≡ (object n o).owner)) 64 (byLifeAndOwner m n) (probe-life-and-owner p m n S N same))
-    (λ t. probe-search p m n (λ o. (object m o).parent ≡ (object n o).parent) 64 (byParent m n)
+    probe-map p m n (by_standing m n) (λ t. record { same = t.0; alive = λ o h. (t.1.0 o h).0; owned = λ o h. (t.1.0 o h).1; under = t.1.1 })
+    (probe-or p m n (search 16 (by_enrolment m n)) _
+    (probe-search p m n (λ s. enrolled m s ≡ enrolled n s) 16 (by_enrolment m n) (probe-enrolment p m n S N))
+    (λ same. probe-or p m n (search 64 (by_life_and_owner m n)) (search 64 (by_parent m n))
+    (probe-search p m n (λ o. ((object m o).live ≡ (object n o).live) × ((object m o).owner ≡ (object n o).owner)) 64 (by_life_and_owner m n) (probe-life-and-owner p m n S N same))
+    (λ t. probe-search p m n (λ o. (object m o).parent ≡ (object n o).parent) 64 (by_parent m n)
     (probe-parent p m n S N same (λ o h. (t o h).0) (λ o h. (t o h).1)))))
 
 probe-under : (p : Profile) (m n : Monitor) → Under p m → Under p n → Probe p m n (distinguish m n) (m ≡ n)
 unfolding distinguish
 probe-under p m n S N =
     probe-map p m n (distinguish m n) (λ t. state-same m n S.sound.formed N.sound.formed (S.profile ∙ sym N.profile) t.1.1 t.1.0)
-    (probe-or p m n (byStanding m n) _ (probe-standing p m n S N)
-    (λ t. probe-or p m n (search 64 (byObject m n)) (search 16 (byClearance m n))
-    (probe-search p m n (λ o. object m o ≡ object n o) 64 (byObject m n)
+    (probe-or p m n (by_standing m n) _ (probe-standing p m n S N)
+    (λ t. probe-or p m n (search 64 (by_object m n)) (search 16 (by_clearance m n))
+    (probe-search p m n (λ o. object m o ≡ object n o) 64 (by_object m n)
     (λ o h. probe-object p m n S N t.same o h (t.alive o h) (t.owned o h) (t.under o h)))
-    (λ objects. probe-search p m n (λ s. clearance m s ≡ clearance n s) 16 (byClearance m n) (probe-clearance p m n S N objects t.same))))
+    (λ objects. probe-search p m n (λ s. clearance m s ≡ clearance n s) 16 (by_clearance m n) (probe-clearance p m n S N objects t.same))))
 
 probe-all : (m n : Monitor) → Sound m → Sound n → m.profile ≡ n.profile → Probe m.profile m n (distinguish m n) (m ≡ n)
 probe-all m n S N one = probe-under m.profile m n (record { sound = S; profile = refl }) (record { sound = N; profile = sym one })
@@ -92,13 +92,13 @@ same-replies m n S N one h =
 -- two reached monitors of one profile, each written into a buffer with result 0
 module _ (m n : Monitor) (R : Reached m) (Q : Reached n) (one : m.profile ≡ n.profile) (buffer other : List ℕ) (u : number (writing buffer) ≡ 0) (v : number (writing other) ≡ 0) where
   -- equal images draw the same replies, to lists of byte strings with any numbers in them
-  pub equal-images-reply-alike : take imageSize (written m buffer) ≡ take imageSize (written n other)
+  pub equal-images-reply-alike : take image_size (written m buffer) ≡ take image_size (written n other)
       → (further : List (List ℕ)) → replies further m ≡ replies further n
   equal-images-reply-alike p further =
       ap (replies further) (image-tells m n (sound-reached m R) (sound-reached n Q) one (sym (fills m buffer u) ∙ p ∙ fills n other v))
 
   -- the images are equal in every byte exactly when every further list draws the same replies from both
-  pub same-image-same-replies : (take imageSize (written m buffer) ≡ take imageSize (written n other))
+  pub same-image-same-replies : (take image_size (written m buffer) ≡ take image_size (written n other))
       ↔ ((further : List (List ℕ)) → AllBytes further → replies further m ≡ replies further n)
   same-image-same-replies = (
     λ p further g. equal-images-reply-alike p further,
@@ -107,9 +107,9 @@ module _ (m n : Monitor) (R : Reached m) (Q : Reached n) (one : m.profile ≡ n.
 
 -- the same with the beginnings and the lists written out: two beginnings under one profile; "takings-back may stand in the list before each image,
 -- but not in the further list" (change request §9)
-pub demand-3 : (b c : Beginning) → Accepted b → Accepted c → beginningProfile b ≡ beginningProfile c → (qs rs : List Act)
+pub demand-3 : (b c : Beginning) → Accepted b → Accepted c → beginning_profile b ≡ beginning_profile c → (qs rs : List Act)
     → (buffer other : List ℕ) → number (writing buffer) ≡ 0 → number (writing other) ≡ 0
-    → (take imageSize (written (left b qs) buffer) ≡ take imageSize (written (left c rs) other))
+    → (take image_size (written (left b qs) buffer) ≡ take image_size (written (left c rs) other))
     ↔ ((further : List (List ℕ)) → AllBytes further → replies further (left b qs) ≡ replies further (left c rs))
 demand-3 b c e f one qs rs =
     same-image-same-replies (left b qs) (left c rs) (reached-left b e qs) (reached-left c f rs) (left-profile b e qs ∙ one ∙ sym (left-profile c f rs))

@@ -19,11 +19,11 @@ use Rattle.model.specs.declared.Request.TheVariants.{Get, Release, Delete, Chang
 use Rattle.model.specs.declared.Response.{Response}
 use Rattle.model.specs.declared.Decision.{Decision}
 use Rattle.model.specs.declared.Decision.TheVariants.{Granted, NotEnrolled, NotLive, NoRight}
-use Rattle.model.specs.Levels.{sameLabel}
+use Rattle.model.specs.Levels.{same_label}
 use Rattle.model.specs.Modes.{has}
-use Rattle.model.specs.State.{enrolled, object, rightsOf, heldBy, LabelFits}
+use Rattle.model.specs.State.{enrolled, object, rights_of, held_by, LabelFits}
 use Rattle.model.specs.Decisions.{number, refuses}
-use Rattle.model.specs.Rules.{checkList, target, already, afterwards, checks, owns, step}
+use Rattle.model.specs.Rules.{check_list, target, already, afterwards, checks, owns, step}
 use Rattle.model.proofs.Tests.{split, apart, pass, stop, distinct}
 use Rattle.model.proofs.Decisions.{number-inj}
 use Rattle.model.proofs.Modes.{has-none}
@@ -65,12 +65,12 @@ tells-already q m n g a b w =
 pub delete-granted : (m : Monitor) → Sound m → (o : ℕ) → (object m o).live ≡ true → checks (Delete (object m o).owner o) m ≡ Granted
 delete-granted m S o live =
     grants-delete m (object m o).owner o
-    (record { there = (S.formed.objects-formed o).owner-enrolled live; live = live; owned = eq-eqb (object m o).owner _ refl })
+    (record { there = (S.formed.objects_formed o).owner_enrolled live; live = live; owned = eq-eqb (object m o).owner _ refl })
 
 pub delete-formed : (p : Profile) (m : Monitor) → Under p m → (o : ℕ) → o < 64 → (object m o).live ≡ true → Formed p (Delete (object m o).owner o)
 delete-formed p m S o h live =
-    let F = S.sound.formed.objects-formed o in
-    ((F.shape.owner-fits, h), (subject-in p m S (object m o).owner (F.owner-enrolled live), object-in p m S o live))
+    let F = S.sound.formed.objects_formed o in
+    ((F.shape.owner_fits, h), (subject-in p m S (object m o).owner (F.owner_enrolled live), object-in p m S o live))
 
 pub release-granted : (m : Monitor) (s o : ℕ) (x : Mode) → enrolled m s ≡ true → (object m o).live ≡ true → checks (Release s o x) m ≡ Granted
 release-granted m s o x e g = grants-release m s o x (record { there = e; live = g })
@@ -94,7 +94,7 @@ module _ (p : Profile) (m n : Monitor) (S : Under p m) (N : Under p n) where
   tells-enrolment s h e g = (
     ((h, lit< tt), (subject-in p m S s e, first-in p m S)),
     tells-refusal (Delete s 0) m n NotEnrolled refl (stop _ NotEnrolled _ g)
-        (λ w. never-answers NotEnrolled (distinct _ _ refl) (drop 1 (checkList (Delete s 0) m)) refl (sym (pass _ NotEnrolled _ e) ∙ w)),
+        (λ w. never-answers NotEnrolled (distinct _ _ refl) (drop 1 (check_list (Delete s 0) m)) refl (sym (pass _ NotEnrolled _ e) ∙ w)),
   )
 
   module _ (same : (s : ℕ) → s < 16 → enrolled m s ≡ enrolled n s) (o : ℕ) (o-below : o < 64) where
@@ -105,10 +105,10 @@ module _ (p : Profile) (m n : Monitor) (S : Under p m) (N : Under p n) where
         → Formed p (Delete (object m o).owner o) × (number (step (Delete (object m o).owner o) m).decision ≢ number (step (Delete (object m o).owner o) n).decision)
     unfolding checks
     tells-life a b =
-        let F = S.sound.formed.objects-formed o in
+        let F = S.sound.formed.objects_formed o in
         let w = (object m o).owner in (
           delete-formed p m S o o-below a,
-          tells-refusal (Delete w o) m n NotLive refl (pass _ NotEnrolled _ (there w F.shape.owner-fits (F.owner-enrolled a)) ∙ stop _ NotLive _ b)
+          tells-refusal (Delete w o) m n NotLive refl (pass _ NotEnrolled _ (there w F.shape.owner_fits (F.owner_enrolled a)) ∙ stop _ NotLive _ b)
               (λ e. distinct _ _ refl (sym (delete-granted m S.sound o a) ∙ e)),
         )
 
@@ -117,11 +117,11 @@ module _ (p : Profile) (m n : Monitor) (S : Under p m) (N : Under p n) where
           → Formed p (Delete (object m o).owner o) × (number (step (Delete (object m o).owner o) m).decision ≢ number (step (Delete (object m o).owner o) n).decision)
       unfolding checks
       tells-owner h =
-          let F = S.sound.formed.objects-formed o in
+          let F = S.sound.formed.objects_formed o in
           let w = (object m o).owner in (
             delete-formed p m S o o-below a,
             tells-refusal (Delete w o) m n NoRight refl
-                (pass _ NotEnrolled _ (there w F.shape.owner-fits (F.owner-enrolled a)) ∙ pass _ NotLive _ b ∙ stop _ NoRight _ (not-owned h))
+                (pass _ NotEnrolled _ (there w F.shape.owner_fits (F.owner_enrolled a)) ∙ pass _ NotLive _ b ∙ stop _ NoRight _ (not-owned h))
                 (λ e. distinct _ _ refl (sym (delete-granted m S.sound o a) ∙ e)),
           )
         where
@@ -130,13 +130,13 @@ module _ (p : Profile) (m n : Monitor) (S : Under p m) (N : Under p n) where
               split (owns (object m o).owner (object n o))
               (λ e. apart (eq-eqb (object m o).owner (object n o).owner (sym (eqb-true (object n o).owner (object m o).owner e))) h) (λ e. e)
 
-      pub tells-label : (l : Level) → (object m o).label ≡ Present l → sameLabel (object n o).label (Present l) ≡ false
+      pub tells-label : (l : Level) → (object m o).label ≡ Present l → same_label (object n o).label (Present l) ≡ false
           → Formed p (ChangeLevel (object m o).owner o l)
           × (number (step (ChangeLevel (object m o).owner o l) m).decision ≢ number (step (ChangeLevel (object m o).owner o l) n).decision)
       unfolding already
       tells-label l e h =
-          let F = S.sound.formed.objects-formed o in (
-            ((F.shape.owner-fits, o-below, subst LabelFits e F.shape.label-fits), (subject-in p m S (object m o).owner (F.owner-enrolled a), object-in p m S o a, label-in p m S o l e)),
+          let F = S.sound.formed.objects_formed o in (
+            ((F.shape.owner_fits, o-below, subst LabelFits e F.shape.label_fits), (subject-in p m S (object m o).owner (F.owner_enrolled a), object-in p m S o a, label-in p m S o l e)),
             tells-already (ChangeLevel (object m o).owner o l) m n (same-label-granted m S.sound o l a e) (label_same _ _ e) h,
           )
 
@@ -146,30 +146,30 @@ module _ (p : Profile) (m n : Monitor) (S : Under p m) (N : Under p n) where
           ≢ number (step (SetCompanies (object m o).owner o (object m o).companies) n).decision)
       unfolding already
       tells-companies h =
-          let F = S.sound.formed.objects-formed o in
+          let F = S.sound.formed.objects_formed o in
           let w = (object m o).owner in (
-            ((F.shape.owner-fits, o-below, F.shape.companies-fit), (subject-in p m S w (F.owner-enrolled a), object-in p m S o a)),
+            ((F.shape.owner_fits, o-below, F.shape.companies_fit), (subject-in p m S w (F.owner_enrolled a), object-in p m S o a)),
             tells-already (SetCompanies w o (object m o).companies) m n (same-companies-granted m S.sound o a) (eq-eqb (object m o).companies _ refl) h,
           )
 
-      pub tells-right : (s : ℕ) (x : Mode) → s < 16 → has x (rightsOf (object m o) s) ≡ true → has x (rightsOf (object n o) s) ≡ false
+      pub tells-right : (s : ℕ) (x : Mode) → s < 16 → has x (rights_of (object m o) s) ≡ true → has x (rights_of (object n o) s) ≡ false
           → Formed p (Get s o x) × (number (step (Get s o x) m).decision ≢ number (step (Get s o x) n).decision)
       unfolding checks
       tells-right s x h e g =
           let w : enrolled m s ≡ true =
-          split (enrolled m s) (λ v. v) (λ v. apart e (ap (has x) ((S.sound.formed.objects-formed o).absent-rights s v) ∙ has-none x)) in (
+          split (enrolled m s) (λ v. v) (λ v. apart e (ap (has x) ((S.sound.formed.objects_formed o).absent_rights s v) ∙ has-none x)) in (
             ((h, o-below), (subject-in p m S s w, object-in p m S o a)),
             tells-refusal (Get s o x) m n NoRight refl (pass _ NotEnrolled _ (there s h w) ∙ pass _ NotLive _ b ∙ stop _ NoRight _ g)
-                (λ v. never-answers NoRight (distinct _ _ refl) (drop 3 (checkList (Get s o x) m)) refl
+                (λ v. never-answers NoRight (distinct _ _ refl) (drop 3 (check_list (Get s o x) m)) refl
                 (sym (pass _ NotEnrolled _ w ∙ pass _ NotLive _ a ∙ pass _ NoRight _ e) ∙ v)),
           )
 
-      pub tells-access : (s : ℕ) (x : Mode) → s < 16 → has x (heldBy (object m o) s) ≡ true → has x (heldBy (object n o) s) ≡ false
+      pub tells-access : (s : ℕ) (x : Mode) → s < 16 → has x (held_by (object m o) s) ≡ true → has x (held_by (object n o) s) ≡ false
           → Formed p (Release s o x) × (number (step (Release s o x) n).decision ≢ number (step (Release s o x) m).decision)
       unfolding already
       tells-access s x h e g =
           let w : enrolled m s ≡ true =
-          split (enrolled m s) (λ v. v) (λ v. apart e (ap (has x) ((S.sound.formed.objects-formed o).absent-held s v) ∙ has-none x)) in (
+          split (enrolled m s) (λ v. v) (λ v. apart e (ap (has x) ((S.sound.formed.objects_formed o).absent_held s v) ∙ has-none x)) in (
             ((h, o-below), (subject-in p m S s w, object-in p m S o a)),
             tells-already (Release s o x) n m (release-granted n s o x (there s h w) b) (ap not g) (ap not e),
           )

@@ -17,14 +17,14 @@ use Rattle.model.specs.declared.Request.{Request}
 use Rattle.model.specs.declared.Request.TheVariants.{Create, Delete}
 use Rattle.model.specs.declared.Decision.TheVariants.{Granted, NotEnrolled, AlreadyLive}
 use Rattle.model.specs.State.{enrolled, object}
-use Rattle.model.specs.Hierarchy.{parentAt, Meets, here, Below, below, parentLive}
+use Rattle.model.specs.Hierarchy.{parent_at, Meets, here, Below, below, parent_live}
 use Rattle.model.specs.Requests.{creation}
 use Rattle.model.specs.Rules.{afterwards, checks}
 use Rattle.model.proofs.Tests.{split, cond-all, pass, stop, distinct}
 use Rattle.model.proofs.Tests as tests
 use Rattle.model.proofs.Hierarchy.{live-in, meets-decides}
 use Rattle.model.proofs.Chains.{below-below, meets-first, meets-none, not-below-itself}
-use Rattle.telling.specs.Distinguish.{differ, or_else, byBelow, toParent, byParent}
+use Rattle.telling.specs.Distinguish.{differ, or_else, by_below, to_parent, by_parent}
 use Rattle.invariants.proofs.Granted.{grants-create}
 use Rattle.invariants.proofs.Hierarchy.{parent_is, Goes, goes, goes-or-stays}
 use Rattle.equal_images.specs.Inputs.{Formed, AllFormed}
@@ -41,21 +41,21 @@ module _ (p : Profile) (m : Monitor) (S : Under p m) where
 
   -- the test of what is below
   below-decides : (x y : ℕ) → x < 64 → (below m.objects x y ≡ true) ↔ Below m.objects x y
-  below-decides x y h = meets-decides m.objects short x h (parentAt m.objects y)
+  below-decides x y h = meets-decides m.objects short x h (parent_at m.objects y)
 
   -- who has a parent is live, and so is the parent
   child-live : (o q : ℕ) → (object m o).parent ≡ suc q → (object m o).live ≡ true
   child-live o q e =
       split (object m o).live (λ l. l)
-      (λ l. absurd (omega (arith, sym (ap (λ (ob : Object). ob.parent) ((S.sound.formed.objects-formed o).shape.not_live l)) ∙ e)))
+      (λ l. absurd (omega (arith, sym (ap (λ (ob : Object). ob.parent) ((S.sound.formed.objects_formed o).shape.not_live l)) ∙ e)))
 
-  parent_live : (o q : ℕ) → (object m o).parent ≡ suc q → (object m q).live ≡ true
-  parent_live o q e = S.sound.hierarchy.parents-live o q e
+  parent_is_live : (o q : ℕ) → (object m o).parent ≡ suc q → (object m q).live ≡ true
+  parent_is_live o q e = S.sound.hierarchy.parents_live o q e
 
   -- an object is below its parent
   below-parent : (o q : ℕ) → (object m o).parent ≡ suc q → below m.objects q o ≡ true
   below-parent o q e =
-      (below-decides q o (live_below q (parent_live o q e))).1
+      (below-decides q o (live_below q (parent_is_live o q e))).1
       (subst (Meets m.objects q) (sym (parent_is m S.sound.formed o ∙ e)) here)
 
 -- ---- object y is below object x in one of two states and not in the other
@@ -98,15 +98,15 @@ module _ (p : Profile) (m n : Monitor) (S : Under p m) (N : Under p n) (same : (
 
     owner-there : enrolled m owner ≡ true
     unfolding owner
-    owner-there = (S.sound.formed.objects-formed x).owner-enrolled x-live
+    owner-there = (S.sound.formed.objects_formed x).owner_enrolled x-live
 
     owner-there-too : enrolled n owner ≡ true
     unfolding owner
-    owner-there-too = sym (same owner (S.sound.formed.objects-formed x).shape.owner-fits) ∙ owner-there
+    owner-there-too = sym (same owner (S.sound.formed.objects_formed x).shape.owner_fits) ∙ owner-there
 
     -- below in m: it went with x, and is created again; not below in n: it is live there still
     went : below m.objects x y ≡ true → checks creates (afterwards deletes m) ≡ Granted
-    unfolding deletes creates owner parentLive
+    unfolding deletes creates owner parent_live
     went b =
         let gone = goes owner x m S.sound.formed x_below y (inr ((below-decides p m S x y x_below).0 b)) in
         grants-create (afterwards deletes m) owner y (creation false 0)
@@ -117,7 +117,7 @@ module _ (p : Profile) (m n : Monitor) (S : Under p m) (N : Under p n) (same : (
     stayed b c =
         ⊎_elim
         (λ (g : Goes n x y). ⊎_elim
-        (λ (e : y ≡ x). absurd (not-below-itself m.objects x (S.sound.hierarchy.chains-end x)
+        (λ (e : y ≡ x). absurd (not-below-itself m.objects x (S.sound.hierarchy.chains_end x)
         (subst (Below m.objects x) e ((below-decides p m S x y x_below).0 b))))
         (λ (w : Below n.objects x y). tests.apart ((below-decides p n N x y x_below).1 w) c) g)
         (λ r. pass _ NotEnrolled _ owner-there-too
@@ -137,8 +137,8 @@ module _ (p : Profile) (m n : Monitor) (S : Under p m) (N : Under p n) (same : (
 module _ (p : Profile) (m n : Monitor) (S : Under p m) (N : Under p n) (same : (s : ℕ) → s < 16 → enrolled m s ≡ enrolled n s)
     (alive : (o : ℕ) → o < 64 → (object m o).live ≡ (object n o).live) (owned : (o : ℕ) → o < 64 → (object m o).owner ≡ (object n o).owner) where
   -- the list for x and y, where both are live
-  probe-below : (x y : ℕ) → (object m x).live ≡ true → (object m y).live ≡ true → Probe p m n (byBelow m n x y) (below m.objects x y ≡ below n.objects x y)
-  unfolding byBelow deletes creates owner
+  probe-below : (x y : ℕ) → (object m x).live ≡ true → (object m y).live ≡ true → Probe p m n (by_below m n x y) (below m.objects x y ≡ below n.objects x y)
+  unfolding by_below deletes creates owner
   probe-below x y u v =
       subst (λ (l : Bool). Probe p m n (cond (l && differ (below m.objects x y) (below n.objects x y)) tellers []) (below m.objects x y ≡ below n.objects x y)) (sym u)
       (go (below m.objects x y) (below n.objects x y) refl refl)
@@ -184,34 +184,34 @@ module _ (p : Profile) (m n : Monitor) (S : Under p m) (N : Under p n) (same : (
     parents-agree : (a b : ℕ) → (object m o).parent ≡ suc a → (object n o).parent ≡ suc b → a ≢ b
         → below m.objects a o ≡ below n.objects a o → below m.objects b o ≡ below n.objects b o → below m.objects b a ≡ below n.objects b a → ⊥
     parents-agree a b e f d one two three =
-        let a_in = live_below p m S a (parent_live p m S o a e) in
-        let b-in = live_below p n N b (parent_live p n N o b f) in
+        let a_in = live_below p m S a (parent_is_live p m S o a e) in
+        let b-in = live_below p n N b (parent_is_live p n N o b f) in
         let ab = above_parent n N b a f d a_in (sym one ∙ below-parent p m S o a e) in
         let ba = above_parent m S a b e (λ w. d (sym w)) b-in (two ∙ below-parent p n N o b f) in
         let too = (below-decides p n N b a b-in).0 (sym three ∙ (below-decides p m S b a b-in).1 ba) in
-        not-below-itself n.objects b (N.sound.hierarchy.chains-end b) (below-below n.objects b a b too ab)
+        not-below-itself n.objects b (N.sound.hierarchy.chains_end b) (below-below n.objects b a b too ab)
 
-    parent-probe : (a b : ℕ) → (object m o).parent ≡ a → (object n o).parent ≡ b → Probe p m n (toParent m n o a b) (a ≡ b)
-    unfolding toParent
+    parent-probe : (a b : ℕ) → (object m o).parent ≡ a → (object n o).parent ≡ b → Probe p m n (to_parent m n o a b) (a ≡ b)
+    unfolding to_parent
     parent-probe zero zero e f = alike refl refl
     parent-probe zero (suc b) e f =
-        let l = parent_live p n N o b f in
-        probe-map p m n (byBelow m n b o) (λ w. absurd (none_above m S e b (live_below p n N b l) (w ∙ below-parent p n N o b f)))
+        let l = parent_is_live p n N o b f in
+        probe-map p m n (by_below m n b o) (λ w. absurd (none_above m S e b (live_below p n N b l) (w ∙ below-parent p n N o b f)))
         (probe-below b o (back b l) (back o (child-live p n N o b f)))
     parent-probe (suc a) zero e f =
-        let l = parent_live p m S o a e in
-        probe-map p m n (byBelow m n a o) (λ w. absurd (none_above n N f a (live_below p m S a l) (sym w ∙ below-parent p m S o a e)))
+        let l = parent_is_live p m S o a e in
+        probe-map p m n (by_below m n a o) (λ w. absurd (none_above n N f a (live_below p m S a l) (sym w ∙ below-parent p m S o a e)))
         (probe-below a o l (child-live p m S o a e))
     parent-probe (suc a) (suc b) e f =
         let o-live = child-live p m S o a e in
-        let a-live = parent_live p m S o a e in
-        let b-live = back b (parent_live p n N o b f) in
-        cond-all (λ (qs : List Request). Probe p m n qs (suc a ≡ suc b)) (eqb a b) [] (or_else (byBelow m n a o) (or_else (byBelow m n b o) (byBelow m n b a)))
+        let a-live = parent_is_live p m S o a e in
+        let b-live = back b (parent_is_live p n N o b f) in
+        cond-all (λ (qs : List Request). Probe p m n qs (suc a ≡ suc b)) (eqb a b) [] (or_else (by_below m n a o) (or_else (by_below m n b o) (by_below m n b a)))
         (λ w. alike refl (ap suc (eqb-true a b w)))
         (λ w. probe-map p m n _ (λ t. absurd (parents-agree a b e f (λ z. tests.apart (eq-eqb a b z) w) t.0 t.1.0 t.1.1))
-        (probe-or p m n (byBelow m n a o) _ (probe-below a o a-live o-live)
-        (λ one. probe-or p m n (byBelow m n b o) (byBelow m n b a) (probe-below b o b-live o-live) (λ two. probe-below b a b-live a-live))))
+        (probe-or p m n (by_below m n a o) _ (probe-below a o a-live o-live)
+        (λ one. probe-or p m n (by_below m n b o) (by_below m n b a) (probe-below b o b-live o-live) (λ two. probe-below b a b-live a-live))))
 
-    pub probe-parent : Probe p m n (byParent m n o) ((object m o).parent ≡ (object n o).parent)
-    unfolding byParent
+    pub probe-parent : Probe p m n (by_parent m n o) ((object m o).parent ≡ (object n o).parent)
+    unfolding by_parent
     probe-parent = parent-probe (object m o).parent (object n o).parent refl refl

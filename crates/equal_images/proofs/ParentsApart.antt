@@ -19,7 +19,7 @@ use Rattle.model.specs.Requests.{creation, encode}
 use Rattle.model.specs.Runs.{replies}
 use Rattle.model.specs.Beginnings.{Reached}
 use Rattle.model.proofs.Tests.{cond-all}
-use Rattle.telling.specs.Distinguish.{or_else, search, when, differ, byEnrolment, byLife, byOwner, byLifeAndOwner, byBelow, toParent, byParent, byStanding, distinguish}
+use Rattle.telling.specs.Distinguish.{or_else, search, when, differ, by_enrolment, by_life, by_owner, by_life_and_owner, by_below, to_parent, by_parent, by_standing, distinguish}
 use Rattle.invariants.specs.Sound.{Sound}
 use Rattle.images.proofs.Reached.{sound-reached}
 use Rattle.equal_images.specs.Inputs.{DeletesOrCreates, OnlyThese}
@@ -66,26 +66,26 @@ small-when true s o = record { short = omega arith; only = (tt, tt) }
 small-when false s o = none-small
 
 module _ (m n : Monitor) where
-  small-below : (x y : ℕ) → Small (byBelow m n x y)
-  unfolding byBelow
+  small-below : (x y : ℕ) → Small (by_below m n x y)
+  unfolding by_below
   small-below x y =
       cond-all Small ((object m x).live && differ (below m.objects x y) (below n.objects x y)) (Delete (object m x).owner x ∷ Create (object m x).owner y (creation false 0) ∷ []) [] (λ e. record { short = omega arith; only = (tt, (tt, tt)) }) (λ e. none-small)
 
-  small-parent : (o a b : ℕ) → Small (toParent m n o a b)
-  unfolding toParent
+  small-parent : (o a b : ℕ) → Small (to_parent m n o a b)
+  unfolding to_parent
   small-parent o zero zero = none-small
   small-parent o zero (suc b) = small-below b o
   small-parent o (suc a) zero = small-below a o
   small-parent o (suc a) (suc b) =
       cond-all Small (eqb a b) [] _ (λ e. none-small) (λ e. small-or _ _ (small-below a o) (small-or _ _ (small-below b o) (small-below b a)))
 
-  small-standing : Small (byStanding m n)
-  unfolding byStanding byEnrolment byLifeAndOwner byLife byOwner byParent
+  small-standing : Small (by_standing m n)
+  unfolding by_standing by_enrolment by_life_and_owner by_life by_owner by_parent
   small-standing =
       small-or _ _ (small-search 16 _ (λ s. small-when _ s 0))
       (small-or _ _ (small-search 64 _ (λ o. small-or _ _ (small-when _ _ o) (small-when _ _ o))) (small-search 64 _ (λ o. small-parent o _ _)))
 
-  pub standing-short : length (byStanding m n) ≤ 2
+  pub standing-short : length (by_standing m n) ≤ 2
   standing-short = small-standing.short
 
 -- ---- two states that differ in a parent
@@ -104,7 +104,7 @@ parents-told m n S N one o h d =
     elim (probe-standing m.profile m n (record { sound = S; profile = refl }) (record { sound = N; profile = sym one })) [
       | alike e t ↦ absurd (d (t.under o h))
       | apart r l w ↦
-          let found = first_found (byStanding m n) _ (λ e. w (ap (λ (qs : List Request). replies (map encode qs) m) e ∙ sym (ap (λ (qs : List Request). replies (map encode qs) n) e))) in
+          let found = first_found (by_standing m n) _ (λ e. w (ap (λ (qs : List Request). replies (map encode qs) m) e ∙ sym (ap (λ (qs : List Request). replies (map encode qs) n) e))) in
           let same = sym found in (
             subst OnlyThese same (small-standing m n).only,
             subst (λ (qs : List Request). length qs ≤ 2) same (small-standing m n).short,

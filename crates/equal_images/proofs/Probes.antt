@@ -18,16 +18,16 @@ use Rattle.model.specs.declared.Response.{Response}
 use Rattle.model.specs.Decisions.{number}
 use Rattle.model.specs.Requests.{encode, decode}
 use Rattle.model.specs.Rules.{step}
-use Rattle.model.specs.Runs.{carryOut, respond, replies}
+use Rattle.model.specs.Runs.{carry_out, respond, replies}
 use Rattle.model.proofs.Tests.{clash}
 use Rattle.model.proofs.Requests.{encode-decode}
-use Rattle.telling.specs.Distinguish.{or_else, search, searchModes, when, differ}
+use Rattle.telling.specs.Distinguish.{or_else, search, search_modes, when, differ}
 use Rattle.equal_images.specs.Inputs.{Formed, AllFormed}
 
 -- the response of a monitor of the profile to the bytes of a request that is well formed for it
 pub respond-encode : (p : Profile) (q : Request) (m : Monitor) → m.profile ≡ p → Formed p q → respond (encode q) m ≡ step q m
 unfolding respond
-respond-encode p q m e f = ap (λ (d : Decoded). carryOut d m) (ap (λ (k : Profile). decode k (encode q)) e ∙ encode-decode p q f.0 f.1)
+respond-encode p q m e f = ap (λ (d : Decoded). carry_out d m) (ap (λ (k : Profile). decode k (encode q)) e ∙ encode-decode p q f.0 f.1)
 
 -- the replies to a list of requests differ at some place
 unfoldable pub Differs : List Request → Monitor → Monitor → Type 0
@@ -84,9 +84,9 @@ module _ (p : Profile) (m n : Monitor) where
       (λ (p : ((i : ℕ) → i < k → E i) × E k). λ i b. ⊎_elim (λ e. subst E (sym e) p.1) (λ w. p.0 i w) (eq-or-lt_of_le (le_of_suc-le-suc b)))
       (probe-or (search k f) (f k) (probe-search E k f (λ i b. h i (omega arith))) (λ e. h k (omega arith)))
 
-  pub probe-modes : (E : Mode → Type 0) (f : Mode → List Request) → ((x : Mode) → Probe (f x) (E x)) → Probe (searchModes f) ((x : Mode) → E x)
+  pub probe-modes : (E : Mode → Type 0) (f : Mode → List Request) → ((x : Mode) → Probe (f x) (E x)) → Probe (search_modes f) ((x : Mode) → E x)
   probe-modes E f h =
-      probe-map (searchModes f) (λ (p : E Read × (E Write × (E Append × E Execute))). each p)
+      probe-map (search_modes f) (λ (p : E Read × (E Write × (E Append × E Execute))). each p)
       (probe-or (f Read) _ (h Read) (λ e. probe-or (f Write) _ (h Write) (λ e. probe-or (f Append) (f Execute) (h Append) (λ e. h Execute))))
     where
       each : E Read × (E Write × (E Append × E Execute)) → (x : Mode) → E x

@@ -16,15 +16,15 @@ use Rattle.model.specs.declared.Monitor.{Monitor}
 use Rattle.model.specs.declared.Mode.{Mode}
 use Rattle.model.specs.declared.Request.{Request}
 use Rattle.model.specs.Levels.{compare}
-use Rattle.model.specs.State.{emptyMonitor, clearance, object}
+use Rattle.model.specs.State.{empty_monitor, clearance, object}
 use Rattle.model.specs.Decisions.{refuses}
 use Rattle.model.specs.Requests.{encode}
 use Rattle.model.specs.Runs.{replies}
 use Rattle.model.specs.Layout.{image_of}
-use Rattle.model.specs.Reading.{imageChecks, monitorFrom, begin, readImage}
+use Rattle.model.specs.Reading.{image_checks, monitor_from, begin, read_image}
 use Rattle.model.specs.Beginnings.{image, Accepted}
 use Rattle.model.proofs.Tests.{cond-all, cond-false}
-use Rattle.telling.specs.Distinguish.{or_else, search, searchModes, when, toLabel, byLabel, byCompanies, byRight, byAccess, byObject, readAt, toClearance, byClearance, distinguish}
+use Rattle.telling.specs.Distinguish.{or_else, search, search_modes, when, to_label, by_label, by_companies, by_right, by_access, by_object, read_at, to_clearance, by_clearance, distinguish}
 use Rattle.equal_images.proofs.Answers.{comparison-all}
 use Rattle.images.proofs.Trips.{image-bytes-back}
 use Rattle.images.proofs.Reached.{sound-begun, begun-profile}
@@ -51,36 +51,36 @@ unfolding when
 few-when true q = omega arith
 few-when false q = omega arith
 
-few-modes : (f : Mode → List Request) → ((x : Mode) → Few (f x)) → Few (searchModes f)
+few-modes : (f : Mode → List Request) → ((x : Mode) → Few (f x)) → Few (search_modes f)
 few-modes f h = few-or _ _ (h _) (few-or _ _ (h _) (few-or _ _ (h _) (h _)))
 
 module _ (m n : Monitor) where
-  few-label : (s o : ℕ) (a b : Label) → Few (toLabel s o a b)
-  unfolding toLabel
+  few-label : (s o : ℕ) (a b : Label) → Few (to_label s o a b)
+  unfolding to_label
   few-label s o Absent Absent = omega arith
   few-label s o Absent (Present b) = omega arith
   few-label s o (Present a) b = few-when _ _
 
-  few-object : (o : ℕ) → Few (byObject m n o)
-  unfolding byObject byLabel byCompanies byRight byAccess
+  few-object : (o : ℕ) → Few (by_object m n o)
+  unfolding by_object by_label by_companies by_right by_access
   few-object o =
       few-or _ _ (few-label _ o _ _)
       (few-or _ _ (few-when _ _)
-      (few-or _ _ (few-search 16 _ (λ s. few-modes (byRight m n o s) (λ x. few-when _ _))) (few-search 16 _ (λ s. few-modes (byAccess m n o s) (λ x. few-when _ _)))))
+      (few-or _ _ (few-search 16 _ (λ s. few-modes (by_right m n o s) (λ x. few-when _ _))) (few-search 16 _ (λ s. few-modes (by_access m n o s) (λ x. few-when _ _)))))
 
-few-read : (m : Monitor) (o s : ℕ) (l : Level) → Few (readAt m o s l)
-unfolding readAt
+few-read : (m : Monitor) (o s : ℕ) (l : Level) → Few (read_at m o s l)
+unfolding read_at
 few-read m o s l = cond-all Few (object m o).live _ _ (λ e. omega arith) (λ e. omega arith)
 
-few-clearance : (m : Monitor) (s : ℕ) (a b : Label) → Few (toClearance m s a b)
-unfolding toClearance
+few-clearance : (m : Monitor) (s : ℕ) (a b : Label) → Few (to_clearance m s a b)
+unfolding to_clearance
 few-clearance m s Absent b = omega arith
 few-clearance m s (Present a) Absent = omega arith
 few-clearance m s (Present a) (Present b) =
     comparison-all Few (compare a b) _ _ (λ e. omega arith) (λ e. few-read m _ s a) (λ e. few-read m _ s b) (λ e. few-read m _ s a)
 
 pub at-most-four : (m n : Monitor) → length (distinguish m n) ≤ 4
-unfolding distinguish byClearance
+unfolding distinguish by_clearance
 at-most-four m n =
     few-or _ _ (omega (arith, standing-short m n))
     (few-or _ _ (few-search 64 _ (few-object m n)) (few-search 16 _ (λ s. few-clearance m s (clearance m s) (clearance n s))))
@@ -88,23 +88,23 @@ at-most-four m n =
 -- ---- accepted images
 
 -- the monitor of an accepted image is written as that image
-pub written_back : (p : Profile) (b : List ℕ) → Bytes b → Accepted (image p b) → image_of (readImage p b).monitor ≡ b
-unfolding readImage begin
-written_back p b hb e = ap image_of (cond-false (refuses (imageChecks p b)) emptyMonitor (monitorFrom p b) (ap refuses e)) ∙ image-bytes-back p b hb e
+pub written_back : (p : Profile) (b : List ℕ) → Bytes b → Accepted (image p b) → image_of (read_image p b).monitor ≡ b
+unfolding read_image begin
+written_back p b hb e = ap image_of (cond-false (refuses (image_checks p b)) empty_monitor (monitor_from p b) (ap refuses e)) ∙ image-bytes-back p b hb e
 
 module _ (p : Profile) (a b : List ℕ) (A : Accepted (image p a)) (B : Accepted (image p b)) where
-  pub equal-images-told : a ≡ b → distinguish (readImage p a).monitor (readImage p b).monitor ≡ []
-  equal-images-told e = distinguishes-not _ _ (sound-begun (image p a) A) (sound-begun (image p b) B) (ap (λ (c : List ℕ). (readImage p c).monitor) e)
+  pub equal-images-told : a ≡ b → distinguish (read_image p a).monitor (read_image p b).monitor ≡ []
+  equal-images-told e = distinguishes-not _ _ (sound-begun (image p a) A) (sound-begun (image p b) B) (ap (λ (c : List ℕ). (read_image p c).monitor) e)
 
   pub different-images-told : Bytes a → Bytes b → a ≢ b
-      → (distinguish (readImage p a).monitor (readImage p b).monitor ≢ [])
-      × (length (distinguish (readImage p a).monitor (readImage p b).monitor) ≤ 4)
-      × (replies (map encode (distinguish (readImage p a).monitor (readImage p b).monitor)) (readImage p a).monitor
-      ≢ replies (map encode (distinguish (readImage p a).monitor (readImage p b).monitor)) (readImage p b).monitor)
+      → (distinguish (read_image p a).monitor (read_image p b).monitor ≢ [])
+      × (length (distinguish (read_image p a).monitor (read_image p b).monitor) ≤ 4)
+      × (replies (map encode (distinguish (read_image p a).monitor (read_image p b).monitor)) (read_image p a).monitor
+      ≢ replies (map encode (distinguish (read_image p a).monitor (read_image p b).monitor)) (read_image p b).monitor)
   unfolding replies
   different-images-told ha hb h =
-      let m = (readImage p a).monitor in
-      let n = (readImage p b).monitor in
+      let m = (read_image p a).monitor in
+      let n = (read_image p b).monitor in
       let d = distinguishes m n (sound-begun (image p a) A) (sound-begun (image p b) B) (begun-profile (image p a) A ∙ sym (begun-profile (image p b) B)) (λ e. h (sym (written_back p a ha A) ∙ ap image_of e ∙ written_back p b hb B)) in (
         λ e. d.2 (ap (λ (qs : List Request). replies (map encode qs) m) e ∙ sym (ap (λ (qs : List Request). replies (map encode qs) n) e)),
         d.1,

@@ -23,20 +23,20 @@ pub record Under (p : Profile) (m : Monitor) : Type 0 where
 
 module _ (p : Profile) (m : Monitor) (U : Under p m) where
   pub subject-in : (s : ℕ) → enrolled m s ≡ true → s < p.subjects
-  subject-in s e = subst (λ (k : Profile). s < k.subjects) U.profile (U.sound.inside.subjects-inside s e)
+  subject-in s e = subst (λ (k : Profile). s < k.subjects) U.profile (U.sound.inside.subjects_inside s e)
 
   pub object-in : (o : ℕ) → (object m o).live ≡ true → o < p.objects
-  object-in o e = subst (λ (k : Profile). o < k.objects) U.profile (U.sound.inside.objects-inside o e)
+  object-in o e = subst (λ (k : Profile). o < k.objects) U.profile (U.sound.inside.objects_inside o e)
 
   -- object 0 is in use under every profile
   pub first-in : 0 < p.objects
-  first-in = subst (λ (k : Profile). 0 < k.objects) U.profile U.sound.inside.profile-fits.one-object
+  first-in = subst (λ (k : Profile). 0 < k.objects) U.profile U.sound.inside.fitting_profile.one_object
 
   pub clearance-in : (s : ℕ) (l : Level) → clearance m s ≡ Present l → LevelInside p l
-  clearance-in s l e = subst (λ (k : Profile). LevelInside k l) U.profile (subst (LabelInside m.profile) e (U.sound.inside.clearances-inside s))
+  clearance-in s l e = subst (λ (k : Profile). LevelInside k l) U.profile (subst (LabelInside m.profile) e (U.sound.inside.clearances_inside s))
 
   pub label-in : (o : ℕ) (l : Level) → (object m o).label ≡ Present l → LevelInside p l
-  label-in o l e = subst (λ (k : Profile). LevelInside k l) U.profile (subst (LabelInside m.profile) e (U.sound.inside.labels-inside o))
+  label-in o l e = subst (λ (k : Profile). LevelInside k l) U.profile (subst (LabelInside m.profile) e (U.sound.inside.labels_inside o))
 
   pub under-afterwards : (q : Request) → Formed p q → checks q m ≡ Granted → Under p (afterwards q m)
   under-afterwards q f g =

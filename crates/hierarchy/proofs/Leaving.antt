@@ -10,54 +10,54 @@ use lib.ListN.{length}
 use lib.Dec.{eqb}
 use borrow.Author.Tests.{eqb-true, eq-eqb}
 use Rattle.model.specs.declared.Object.{Object}
-use Rattle.model.specs.State.{noObject, objectAt}
-use Rattle.model.specs.Hierarchy.{parentAt, Meets, here, further, Below}
+use Rattle.model.specs.State.{no_object, object_at}
+use Rattle.model.specs.Hierarchy.{parent_at, Meets, here, further, Below}
 use Rattle.model.proofs.Tests.{split, apart, and_both, and_left, and_right, le-or-lt, cond-true}
 use Rattle.model.proofs.Hierarchy.{live-in}
-use Rattle.unit.specs.Rows.{Rows, rowCount, row_at, objectsIn}
-use Rattle.unit.specs.Stored.{setObject}
+use Rattle.unit.specs.Rows.{Rows, row_count, row_at, objects_in}
+use Rattle.unit.specs.Stored.{set_object}
 use Rattle.unit.proofs.Tabulated.{same_or_not}
 use Rattle.unit.proofs.Stores.{object-length}
-use Rattle.hierarchy.specs.Removed.{childOf, gone, removed}
+use Rattle.hierarchy.specs.Removed.{child_of, gone, removed}
 use Rattle.hierarchy.proofs.Upward.{objects-length, none-beyond}
-use Rattle.hierarchy.proofs.Meeting.{meets-none, meets-before, meets-parent, parent-of-live, Goes, gone-out, gone-in, liveCount, live-fewer}
+use Rattle.hierarchy.proofs.Meeting.{meets-none, meets-before, meets-parent, parent-of-live, Goes, gone-out, gone-in, live_count, live-fewer}
 use Rattle.hierarchy.proofs.Rowed.{trio, cleared, same_object, cleared-object, clear_self, clear-other, clear_behind, removed-length, removed-behind, removed-gone, removed-kept, is_removed}
 
 abbrev live_in : Rows → ℕ → Bool
-live_in u y = (objectAt (objectsIn u) y).live
+live_in u y = (object_at (objects_in u) y).live
 
 abbrev parent_of : Rows → ℕ → ℕ
-parent_of u y = parentAt (objectsIn u) y
+parent_of u y = parent_at (objects_in u) y
 
 -- rows w, from rows u, after the children of o below c
 pub record Leaves (u : Rows) (o : ℕ) (w : Rows) (c : ℕ) : Type 0 where
-  pub whole : length w ≡ rowCount
-  pub behind : (i : ℕ) → 192 ≤ i → i < rowCount → row_at w i ≡ row_at u i
+  pub whole : length w ≡ row_count
+  pub behind : (i : ℕ) → 192 ≤ i → i < row_count → row_at w i ≡ row_at u i
   -- each object is as it was, or it is one that goes, and gone
-  pub each : (y : ℕ) → y < 64 → (trio w y ≡ trio u y) ⊎ ((trio w y ≡ cleared) × Goes (objectsIn u) o y)
+  pub each : (y : ℕ) → y < 64 → (trio w y ≡ trio u y) ⊎ ((trio w y ≡ cleared) × Goes (objects_in u) o y)
   pub self : trio w o ≡ cleared
   -- what is left has its parent still, unless that is o and its turn has not come
   pub closed : (y x : ℕ) → parent_of w y ≡ suc x → live_in u x ≡ true → (live_in w x ≡ true) ⊎ ((x ≡ o) × (c ≤ y))
 
 live_below : (u : Rows) (y : ℕ) → live_in u y ≡ true → y < 64
-live_below u y e = live-in (objectsIn u) (omega (arith, objects-length u)) y e
+live_below u y e = live-in (objects_in u) (omega (arith, objects-length u)) y e
 
-same-parent : (u w : Rows) (y : ℕ) → objectAt (objectsIn w) y ≡ objectAt (objectsIn u) y → parent_of w y ≡ parent_of u y
+same-parent : (u w : Rows) (y : ℕ) → object_at (objects_in w) y ≡ object_at (objects_in u) y → parent_of w y ≡ parent_of u y
 same-parent u w y e = ap (λ (ob : Object). cond ob.live ob.parent 0) e
 
-no-parent : (w : Rows) (y : ℕ) → objectAt (objectsIn w) y ≡ noObject → parent_of w y ≡ 0
+no-parent : (w : Rows) (y : ℕ) → object_at (objects_in w) y ≡ no_object → parent_of w y ≡ 0
 no-parent w y e = ap (λ (ob : Object). cond ob.live ob.parent 0) e
 
-not_live : {A : Type 0} (w : Rows) (y : ℕ) → objectAt (objectsIn w) y ≡ noObject → live_in w y ≡ true → A
+not_live : {A : Type 0} (w : Rows) (y : ℕ) → object_at (objects_in w) y ≡ no_object → live_in w y ≡ true → A
 not_live w y e t = apart t (ap (λ (ob : Object). ob.live) e)
 
 -- ---- object o has been cleared
 
-pub leaves-start : (u : Rows) (o : ℕ) → length u ≡ rowCount → o < 64 → Leaves u o (setObject u o noObject) 0
+pub leaves-start : (u : Rows) (o : ℕ) → length u ≡ row_count → o < 64 → Leaves u o (set_object u o no_object) 0
 leaves-start u o n h =
-    let w = setObject u o noObject in
+    let w = set_object u o no_object in
     record {
-      whole = object-length u o noObject n h;
+      whole = object-length u o no_object n h;
       behind = λ i a b. clear_behind u o n h i a;
       each = λ y b.
           ⊎_elim (λ (e : y ≡ o). inr (ap (trio w) e ∙ clear_self u o n h, inl e)) (λ (e : y ≢ o). inl (clear-other u o n h y b e)) (same_or_not y o);
@@ -71,7 +71,7 @@ leaves-start u o n h =
 
 module _ (u : Rows) (o : ℕ) (v : Rows) (c : ℕ) (F : Leaves u o v c) where
   -- an object that is live was live, with all its record
-  left-same : (y : ℕ) → live_in v y ≡ true → objectAt (objectsIn v) y ≡ objectAt (objectsIn u) y
+  left-same : (y : ℕ) → live_in v y ≡ true → object_at (objects_in v) y ≡ object_at (objects_in u) y
   left-same y t =
       let b = live_below v y t in
       ⊎_elim (λ e. same_object u v y b e) (λ g. not_live v y (cleared-object v y b g.0) t) (F.each y b)
@@ -85,13 +85,13 @@ module _ (u : Rows) (o : ℕ) (v : Rows) (c : ℕ) (F : Leaves u o v c) where
   had-parent : (y x : ℕ) → parent_of v y ≡ suc x → parent_of u y ≡ suc x
   had-parent y x e = ⊎_elim (λ z. absurd (omega (arith, z, e))) (λ z. sym z ∙ e) (left-parent y)
 
-  pub leaves-fewer : o < 64 → live_in u o ≡ true → liveCount (objectsIn v) < liveCount (objectsIn u)
+  pub leaves-fewer : o < 64 → live_in u o ≡ true → live_count (objects_in v) < live_count (objects_in u)
   leaves-fewer h t =
-      live-fewer (objectsIn u) (objectsIn v) (objects-length u ∙ sym (objects-length v)) (λ j w. sym (ap (λ (ob : Object). ob.live) (left-same j w)) ∙ w)
+      live-fewer (objects_in u) (objects_in v) (objects-length u ∙ sym (objects-length v)) (λ j w. sym (ap (λ (ob : Object). ob.live) (left-same j w)) ∙ w)
       o t (ap (λ (ob : Object). ob.live) (cleared-object v o h F.self))
 
   -- object c is no child of o
-  pub leaves-past : childOf (objectAt (objectsIn v) c) o ≡ false → Leaves u o v (c + 1)
+  pub leaves-past : child_of (object_at (objects_in v) c) o ≡ false → Leaves u o v (c + 1)
   leaves-past n =
       record {
         whole = F.whole;
@@ -105,36 +105,36 @@ module _ (u : Rows) (o : ℕ) (v : Rows) (c : ℕ) (F : Leaves u o v c) where
       later y x e z b =
           ⊎_elim (λ (w : y ≡ c). apart (child y x e z w) n) (λ (w : y ≢ c). ⊎_elim (λ (k : c + 1 ≤ y). k) (λ (k : y < c + 1). absurd (w (omega arith))) (le-or-lt (c + 1) y)) (same_or_not y c)
         where
-          child : (y x : ℕ) → parent_of v y ≡ suc x → x ≡ o → y ≡ c → childOf (objectAt (objectsIn v) c) o ≡ true
+          child : (y x : ℕ) → parent_of v y ≡ suc x → x ≡ o → y ≡ c → child_of (object_at (objects_in v) c) o ≡ true
           child y x e z w =
-              let ob = objectAt (objectsIn v) y in
-              let t = parent-of-live (objectsIn v) y x e in
+              let ob = object_at (objects_in v) y in
+              let t = parent-of-live (objects_in v) y x e in
               let p : ob.parent ≡ suc o = sym (cond-true ob.live ob.parent 0 t) ∙ e ∙ ap suc z in
-              subst (λ (k : ℕ). childOf (objectAt (objectsIn v) k) o ≡ true) w (and_both t (eq-eqb ob.parent (suc o) p))
+              subst (λ (k : ℕ). child_of (object_at (objects_in v) k) o ≡ true) w (and_both t (eq-eqb ob.parent (suc o) p))
 
 -- ---- object c is a child of o, and goes with everything below it
 
-module _ (u : Rows) (o : ℕ) (v : Rows) (c : ℕ) (F : Leaves u o v c) (h : o < 64) (b : c < 64) (child : childOf (objectAt (objectsIn v) c) o ≡ true) where
+module _ (u : Rows) (o : ℕ) (v : Rows) (c : ℕ) (F : Leaves u o v c) (h : o < 64) (b : c < 64) (child : child_of (object_at (objects_in v) c) o ≡ true) where
   under : parent_of v c ≡ suc o
   under =
-      let ob = objectAt (objectsIn v) c in
+      let ob = object_at (objects_in v) c in
       let t = and_left ob.live (eqb ob.parent (suc o)) child in
       cond-true ob.live ob.parent 0 t ∙ eqb-true ob.parent (suc o) (and_right ob.live (eqb ob.parent (suc o)) child)
 
   -- what goes with the child goes with o
-  goes-too : (y : ℕ) → Goes (objectsIn v) c y → Goes (objectsIn u) o y
+  goes-too : (y : ℕ) → Goes (objects_in v) c y → Goes (objects_in u) o y
   goes-too y g =
       let was = had-parent u o v c F c o under in
       ⊎_elim
-      (λ (e : y ≡ c). inr (subst (λ (k : ℕ). Below (objectsIn u) o k) (sym e) (subst (Meets (objectsIn u) o) (sym was) here)))
-      (λ (k : Below (objectsIn v) c y).
-      let met = meets-parent (objectsIn u) o c was (parent_of v y) (meets-before (objectsIn u) (objectsIn v) c (left-parent u o v c F) (parent_of v y) k) in
-      ⊎_elim (λ e. meets-none (objectsIn v) c (parent_of v y) k e) (λ e. inr (subst (Meets (objectsIn u) o) e met)) (left-parent u o v c F y)) g
+      (λ (e : y ≡ c). inr (subst (λ (k : ℕ). Below (objects_in u) o k) (sym e) (subst (Meets (objects_in u) o) (sym was) here)))
+      (λ (k : Below (objects_in v) c y).
+      let met = meets-parent (objects_in u) o c was (parent_of v y) (meets-before (objects_in u) (objects_in v) c (left-parent u o v c F) (parent_of v y) k) in
+      ⊎_elim (λ e. meets-none (objects_in v) c (parent_of v y) k e) (λ e. inr (subst (Meets (objects_in u) o) e met)) (left-parent u o v c F y)) g
 
   -- what stands under something that goes goes too
-  goes-under : (y x : ℕ) → parent_of v y ≡ suc x → Goes (objectsIn v) c x → Goes (objectsIn v) c y
+  goes-under : (y x : ℕ) → parent_of v y ≡ suc x → Goes (objects_in v) c x → Goes (objects_in v) c y
   goes-under y x e g =
-      inr (subst (Meets (objectsIn v) c) (sym e) (⊎_elim (λ (z : x ≡ c). subst (λ (k : ℕ). Meets (objectsIn v) c (suc k)) (sym z) here) (λ k. further x k) g))
+      inr (subst (Meets (objects_in v) c) (sym e) (⊎_elim (λ (z : x ≡ c). subst (λ (k : ℕ). Meets (objects_in v) c (suc k)) (sym z) here) (λ k. further x k) g))
 
   pub leaves-more : Leaves u o (removed v c) (c + 1)
   leaves-more =
@@ -142,34 +142,34 @@ module _ (u : Rows) (o : ℕ) (v : Rows) (c : ℕ) (F : Leaves u o v c) (h : o <
         whole = removed-length v c ∙ F.whole;
         behind = λ i p q. removed-behind v c F.whole i p q ∙ F.behind i p q;
         each = λ y p.
-            split (gone (objectsIn v) c y) (λ g. inr (removed-gone v c F.whole y p g, goes-too y (out y g)))
+            split (gone (objects_in v) c y) (λ g. inr (removed-gone v c F.whole y p g, goes-too y (out y g)))
             (λ g. let k = removed-kept v c F.whole y p g in ⊎_elim (λ e. inl (k ∙ e)) (λ e. inr (k ∙ e.0, e.1)) (F.each y p));
-        self = split (gone (objectsIn v) c o) (λ g. removed-gone v c F.whole o h g) (λ g. removed-kept v c F.whole o h g ∙ F.self);
+        self = split (gone (objects_in v) c o) (λ g. removed-gone v c F.whole o h g) (λ g. removed-kept v c F.whole o h g ∙ F.self);
         closed = still;
       }
     where
-      out : (y : ℕ) → gone (objectsIn v) c y ≡ true → Goes (objectsIn v) c y
-      out = gone-out (objectsIn v) (objects-length v) c b
+      out : (y : ℕ) → gone (objects_in v) c y ≡ true → Goes (objects_in v) c y
+      out = gone-out (objects_in v) (objects-length v) c b
 
-      back : (y : ℕ) → Goes (objectsIn v) c y → gone (objectsIn v) c y ≡ true
-      back = gone-in (objectsIn v) (objects-length v) c b
+      back : (y : ℕ) → Goes (objects_in v) c y → gone (objects_in v) c y ≡ true
+      back = gone-in (objects_in v) (objects-length v) c b
 
       -- an object that is left: it did not go with the child
-      stays : (y : ℕ) → live_in (removed v c) y ≡ true → gone (objectsIn v) c y ≡ false
+      stays : (y : ℕ) → live_in (removed v c) y ≡ true → gone (objects_in v) c y ≡ false
       stays y t =
           let p = live_below (removed v c) y t in
-          split (gone (objectsIn v) c y) (λ g. not_live (removed v c) y (cleared-object (removed v c) y p (removed-gone v c F.whole y p g)) t) (λ g. g)
+          split (gone (objects_in v) c y) (λ g. not_live (removed v c) y (cleared-object (removed v c) y p (removed-gone v c F.whole y p g)) t) (λ g. g)
 
-      same : (y : ℕ) → y < 64 → gone (objectsIn v) c y ≡ false → objectAt (objectsIn (removed v c)) y ≡ objectAt (objectsIn v) y
+      same : (y : ℕ) → y < 64 → gone (objects_in v) c y ≡ false → object_at (objects_in (removed v c)) y ≡ object_at (objects_in v) y
       same y p g = same_object v (removed v c) y p (removed-kept v c F.whole y p g)
 
       still : (y x : ℕ) → parent_of (removed v c) y ≡ suc x → live_in u x ≡ true → (live_in (removed v c) x ≡ true) ⊎ ((x ≡ o) × (c + 1 ≤ y))
       still y x e t =
-          let lives = parent-of-live (objectsIn (removed v c)) y x e in
+          let lives = parent-of-live (objects_in (removed v c)) y x e in
           let g = stays y lives in
           let k : parent_of v y ≡ suc x = sym (same-parent v (removed v c) y (same y (live_below (removed v c) y lives) g)) ∙ e in
           ⊎_elim
-          (λ (r : live_in v x ≡ true). inl (split (gone (objectsIn v) c x)
+          (λ (r : live_in v x ≡ true). inl (split (gone (objects_in v) c x)
           (λ z. apart (back y (goes-under y x k (out x z))) g)
           (λ z. ap (λ (ob : Object). ob.live) (same x (live_below v x r) z) ∙ r)))
           (λ r. inr (
@@ -181,14 +181,14 @@ module _ (u : Rows) (o : ℕ) (v : Rows) (c : ℕ) (F : Leaves u o v c) (h : o <
 
 -- ---- every turn has been
 
-module _ (u : Rows) (o : ℕ) (n : length u ≡ rowCount) (h : o < 64) (t : live_in u o ≡ true) (v : Rows) (F : Leaves u o v 64) where
+module _ (u : Rows) (o : ℕ) (n : length u ≡ row_count) (h : o < 64) (t : live_in u o ≡ true) (v : Rows) (F : Leaves u o v 64) where
   Gone : ℕ → Type 0
   Gone x = (live_in u x ≡ true) × (live_in v x ≡ false)
 
   -- what stood under something that is gone is gone
   gone-under : (y q : ℕ) → parent_of u y ≡ suc q → Gone q → Gone y
   unfolding Gone
-  gone-under y q r above = (parent-of-live (objectsIn u) y q r, split (live_in v y) left (λ s. s))
+  gone-under y q r above = (parent-of-live (objects_in u) y q r, split (live_in v y) left (λ s. s))
     where
       left : live_in v y ≡ true → live_in v y ≡ false
       left s =
@@ -196,7 +196,7 @@ module _ (u : Rows) (o : ℕ) (n : length u ≡ rowCount) (h : o < 64) (t : live
           (F.closed y q (same-parent u v y (left-same u o v 64 F y s) ∙ r) above.0)
 
   -- all on the way from something that goes up to o was live, and is gone
-  gone-above : (p : ℕ) → Meets (objectsIn u) o p → (x : ℕ) → p ≡ suc x → Gone x
+  gone-above : (p : ℕ) → Meets (objects_in u) o p → (x : ℕ) → p ≡ suc x → Gone x
   unfolding Gone
   gone-above p here x e =
       let z : o ≡ x = omega (arith, e) in
@@ -206,19 +206,19 @@ module _ (u : Rows) (o : ℕ) (n : length u ≡ rowCount) (h : o < 64) (t : live
       subst Gone z (first (parent_of u y) refl (λ j r. gone-above (parent_of u y) k j r))
     where
       first : (q : ℕ) → parent_of u y ≡ q → ((j : ℕ) → parent_of u y ≡ suc j → Gone j) → Gone y
-      first zero r f = meets-none (objectsIn u) o (parent_of u y) k r
+      first zero r f = meets-none (objects_in u) o (parent_of u y) k r
       first (suc q) r f = gone-under y q r (f q r)
 
   pub leaves-end : v ≡ removed u o
   unfolding Gone
-  leaves-end = is_removed u o n v F.whole (λ y b. ⊎_elim (λ e. kept y b e) (λ e. e.0 ∙ sym (removed-gone u o n y b (gone-in (objectsIn u) (objects-length u) o h y e.1))) (F.each y b)) F.behind
+  leaves-end = is_removed u o n v F.whole (λ y b. ⊎_elim (λ e. kept y b e) (λ e. e.0 ∙ sym (removed-gone u o n y b (gone-in (objects_in u) (objects-length u) o h y e.1))) (F.each y b)) F.behind
     where
       kept : (y : ℕ) → y < 64 → trio v y ≡ trio u y → trio v y ≡ trio (removed u o) y
       kept y b e =
-          split (gone (objectsIn u) o y)
+          split (gone (objects_in u) o y)
           (λ g. ⊎_elim (λ (z : y ≡ o). ap (trio v) z ∙ F.self ∙ sym (removed-gone u o n y b g))
-          (λ (k : Below (objectsIn u) o y).
+          (λ (k : Below (objects_in u) o y).
           let above = gone-above (suc y) (further y k) y refl in
           apart (ap (λ (ob : Object). ob.live) (same_object u v y b e) ∙ above.0) above.1)
-          (gone-out (objectsIn u) (objects-length u) o h y g))
+          (gone-out (objects_in u) (objects-length u) o h y g))
           (λ g. e ∙ sym (removed-kept u o n y b g))

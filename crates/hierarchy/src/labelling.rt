@@ -1,8 +1,8 @@
 // The rule of labels: "A labelled child has a labelled parent whose label it dominates".
 ghost use Rattle.std.specs.Prelude.{◌≡◌, ◌<◌, length};
-ghost use Rattle.model.specs.Hierarchy.{labelUnder, labelsRise};
-ghost use Rattle.model.specs.State.{objectCount, objectAt};
-ghost use Rattle.unit.specs.Rows.{rowCount, objectsIn};
+ghost use Rattle.model.specs.Hierarchy.{label_under, labels_rise};
+ghost use Rattle.model.specs.State.{object_count, object_at};
+ghost use Rattle.unit.specs.Rows.{row_count, objects_in};
 
 use labels::{dominates, implies, is_present};
 use model::{Label, Monitor};
@@ -10,8 +10,8 @@ use unit::{label_of, parent_of};
 
 // The label of object y; a number from 64 on is that of no object, which has no label.
 fn label_at(unit: &[[u8; 16]], y: u8) -> Label
-    requires { length unit.now ≡ rowCount }
-    ensures { result ≡ (objectAt (objectsIn unit.now) y).label }
+    requires { length unit.now ≡ row_count }
+    ensures { result ≡ (object_at (objects_in unit.now) y).label }
 {
     if (y as usize) < Monitor::OBJECTS {
         return label_of(unit, y);
@@ -21,9 +21,9 @@ fn label_at(unit: &[[u8; 16]], y: u8) -> Label
 
 // Whether object o keeps the rule toward its parent. Without a parent, as most are, no label is read.
 fn keeps_rule(unit: &[[u8; 16]], o: u8) -> bool
-    requires unit_len { length unit.now ≡ rowCount }
-    requires o_lt_object_count { o < objectCount }
-    ensures { result ≡ labelUnder (objectsIn unit.now) (objectAt (objectsIn unit.now) o).label (objectAt (objectsIn unit.now) o).parent }
+    requires unit_len { length unit.now ≡ row_count }
+    requires o_lt_object_count { o < object_count }
+    ensures { result ≡ label_under (objects_in unit.now) (object_at (objects_in unit.now) o).label (object_at (objects_in unit.now) o).parent }
 {
     let p = parent_of(unit, o);
     if p == 0 {
@@ -35,8 +35,8 @@ fn keeps_rule(unit: &[[u8; 16]], o: u8) -> bool
 
 // Whether all objects keep it.
 pub fn labels_rise(unit: &[[u8; 16]]) -> bool
-    requires { length unit.now ≡ rowCount }
-    ensures { result ≡ labelsRise (objectsIn unit.now) }
+    requires { length unit.now ≡ row_count }
+    ensures { result ≡ labels_rise (objects_in unit.now) }
 {
     let mut o = 0usize;
     while o < Monitor::OBJECTS {

@@ -1,4 +1,7 @@
 // Objects under objects (change request §11), on the rows of a unit: the chain of parents, the checks 19 and 20, and deletion.
+
+#![tactic(auto)]
+
 mod chains;
 mod labelling;
 mod removal;

@@ -1,9 +1,12 @@
 // The table reader and the image reader: a unit begun from bytes of any length and content; a refusal leaves the empty monitor in it.
+
+#![tactic(auto)]
+
 ghost use Rattle.std.specs.Prelude.{◌≡◌, cond};
-ghost use Rattle.model.specs.State.{widest, fresh, emptyMonitor};
+ghost use Rattle.model.specs.State.{widest, fresh, empty_monitor};
 ghost use Rattle.model.specs.Decisions.{refuses};
-ghost use Rattle.model.specs.Reading.{readTable, readImage};
-ghost use Rattle.unit.specs.Rows.{rowCount};
+ghost use Rattle.model.specs.Reading.{read_table, read_image};
+ghost use Rattle.unit.specs.Rows.{row_count};
 ghost use Rattle.unit.specs.Stored.{unit_of};
 ghost use Rattle.image.specs.Settled.{settled};
 
@@ -16,7 +19,7 @@ use unit::fill;
 
 // The rows of a monitor begun fresh under a profile, with no live object.
 fn begin(unit: &mut [[u8; 16]], profile: Profile, subjects: [Subject; 16])
-    requires* { do ⌜ (← ⟦unit.len()⟧) ≡ rowCount ⌝ }
+    requires unit_len { length unit.old ≡ row_count }
     ensures { unit.new ≡ unit_of (fresh profile subjects) }
 {
     fill(unit, Monitor::begin(profile, subjects));
@@ -24,8 +27,8 @@ fn begin(unit: &mut [[u8; 16]], profile: Profile, subjects: [Subject; 16])
 
 // What a refused beginning returns and leaves: the number, and nobody enrolled under the widest profile.
 fn refused(unit: &mut [[u8; 16]], d: Decision) -> Decision
-    requires* { do ⌜ (← ⟦unit.len()⟧) ≡ rowCount ⌝ }
-    ensures { (result ≡ d) × (unit.new ≡ unit_of emptyMonitor) }
+    requires unit_len { length unit.old ≡ row_count }
+    ensures { (result ≡ d) × (unit.new ≡ unit_of empty_monitor) }
 {
     let nobody = [Subject {
         clearance: Label::Absent,
@@ -37,9 +40,9 @@ fn refused(unit: &mut [[u8; 16]], d: Decision) -> Decision
 // The checks behind the length, by what was found of the records: 11, with any record beyond the profile, then 16 for the levels, then what the
 // later ones gave. A refusal leaves the empty monitor.
 fn settle(unit: &mut [[u8; 16]], formed: bool, kept: Kept, later: Decision) -> Decision
-    requires* { do ⌜ (← ⟦unit.len()⟧) ≡ rowCount ⌝ }
+    requires unit_len { length unit.old ≡ row_count }
     ensures answer { result ≡ settled formed kept later }
-    ensures left { unit.new ≡ cond (refuses result) (unit_of emptyMonitor) unit.old }
+    ensures left { unit.new ≡ cond (refuses result) (unit_of empty_monitor) unit.old }
 {
     let levels = check(kept.inside, Decision::OutsideProfile, later);
     let decision = check(formed & kept.absent, Decision::StrayBits, levels);
@@ -51,8 +54,8 @@ fn settle(unit: &mut [[u8; 16]], formed: bool, kept: Kept, later: Decision) -> D
 
 // Begins from an enrolment table under a profile: checks 16, 10, 11, 16.
 pub fn start(unit: &mut [[u8; 16]], profile: Profile, table: &[u8]) -> Decision
-    requires* { do ⌜ (← ⟦unit.len()⟧) ≡ rowCount ⌝ }
-    ensures { (result ≡ (readTable profile table.now).decision) × (unit.new ≡ unit_of (readTable profile table.now).monitor) }
+    requires unit_len { length unit.old ≡ row_count }
+    ensures { (result ≡ (read_table profile table.now).decision) × (unit.new ≡ unit_of (read_table profile table.now).monitor) }
 {
     if !fits(profile) {
         return refused(unit, Decision::OutsideProfile); // before the table is read
@@ -69,8 +72,8 @@ pub fn start(unit: &mut [[u8; 16]], profile: Profile, table: &[u8]) -> Decision
 
 // Begins from an image under a profile: the checks of a table, then those of the state. The object records are a part of their own.
 pub fn open(unit: &mut [[u8; 16]], profile: Profile, image: &[u8]) -> Decision
-    requires* { do ⌜ (← ⟦unit.len()⟧) ≡ rowCount ⌝ }
-    ensures { (result ≡ (readImage profile image.now).decision) × (unit.new ≡ unit_of (readImage profile image.now).monitor) }
+    requires unit_len { length unit.old ≡ row_count }
+    ensures { (result ≡ (read_image profile image.now).decision) × (unit.new ≡ unit_of (read_image profile image.now).monitor) }
 {
     if !fits(profile) {
         return refused(unit, Decision::OutsideProfile); // before the image is read
@@ -89,16 +92,16 @@ pub fn open(unit: &mut [[u8; 16]], profile: Profile, image: &[u8]) -> Decision
 
 // Begins from an enrolment table under the widest profile.
 pub fn start_widest(unit: &mut [[u8; 16]], table: &[u8]) -> Decision
-    requires* { do ⌜ (← ⟦unit.len()⟧) ≡ rowCount ⌝ }
-    ensures { (result ≡ (readTable widest table.now).decision) × (unit.new ≡ unit_of (readTable widest table.now).monitor) }
+    requires unit_len { length unit.old ≡ row_count }
+    ensures { (result ≡ (read_table widest table.now).decision) × (unit.new ≡ unit_of (read_table widest table.now).monitor) }
 {
     start(unit, widest(), table)
 }
 
 // Begins from an image under the widest profile.
 pub fn open_widest(unit: &mut [[u8; 16]], image: &[u8]) -> Decision
-    requires* { do ⌜ (← ⟦unit.len()⟧) ≡ rowCount ⌝ }
-    ensures { (result ≡ (readImage widest image.now).decision) × (unit.new ≡ unit_of (readImage widest image.now).monitor) }
+    requires unit_len { length unit.old ≡ row_count }
+    ensures { (result ≡ (read_image widest image.now).decision) × (unit.new ≡ unit_of (read_image widest image.now).monitor) }
 {
     open(unit, widest(), image)
 }

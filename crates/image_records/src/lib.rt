@@ -1,10 +1,13 @@
 // The records of table and image, read across byte borders: what they say, and whether they have their form.
+
+#![tactic(auto)]
+
 ghost use Rattle.std.specs.Prelude.{◌≡◌, ◌+◌, ◌*◌, ◌≤◌, length};
-ghost use Rattle.model.specs.Layout.{labelWidth, setsWidth, objectWidth, objectsSize, imageSize};
-ghost use Rattle.image_records.specs.Records.{flagWidth, bits_at, flagOf, label_of, setsOf, objectOf, subjectsRead};
-ghost use Rattle.model.specs.State.{objectCount};
-ghost use Rattle.model.specs.Reading.{objectsFrom, objectsForm};
-ghost use Rattle.unit.specs.Rows.{rowCount};
+ghost use Rattle.model.specs.Layout.{label_width, sets_width, object_width, objects_size, image_size};
+ghost use Rattle.image_records.specs.Records.{flag_width, bits_at, flag_of, label_of, sets_of, object_of, subjects_read};
+ghost use Rattle.model.specs.State.{object_count};
+ghost use Rattle.model.specs.Reading.{objects_from, objects_form};
+ghost use Rattle.unit.specs.Rows.{row_count};
 ghost use Rattle.unit.specs.Stored.{ObjectsStored, SameClearances};
 
 use model::{Label, Level, Monitor, Object, Subject, no_object};
@@ -49,8 +52,8 @@ pub struct TableRead {
 
 // Five bits: live and owner, or present and class.
 fn read_flag(bytes: &[u8], at: usize) -> FlagRead
-    requires { at + flagWidth ≤ 8 * length bytes.now }
-    ensures { result ≡ flagOf (bits_at bytes.now at flagWidth) }
+    requires { at + flag_width ≤ 8 * length bytes.now }
+    ensures { result ≡ flag_of (bits_at bytes.now at flag_width) }
 {
     let head = bits::read_field(bytes, at, 5);
     FlagRead {
@@ -62,8 +65,8 @@ fn read_flag(bytes: &[u8], at: usize) -> FlagRead
 
 // A label's record, from bit at on.
 fn read_label(bytes: &[u8], at: usize) -> LabelRead
-    requires { (at + labelWidth ≤ 8 * length bytes.now) × (length bytes.now ≤ imageSize) }
-    ensures { result ≡ label_of (bits_at bytes.now at labelWidth) }
+    requires { (at + label_width ≤ 8 * length bytes.now) × (length bytes.now ≤ image_size) }
+    ensures { result ≡ label_of (bits_at bytes.now at label_width) }
 {
     let head = read_flag(bytes, at);
     let needs = bits::read_field(bytes, at + 5, 16);
@@ -85,8 +88,8 @@ fn read_label(bytes: &[u8], at: usize) -> LabelRead
 
 // The sets of the sixteen subjects at one object: eight bits for each, the rights and then the accesses.
 fn read_sets(bytes: &[u8], at: usize) -> SetsRead
-    requires { (at + setsWidth ≤ 8 * length bytes.now) × (length bytes.now ≤ imageSize) }
-    ensures { result ≡ setsOf (bits_at bytes.now at setsWidth) }
+    requires { (at + sets_width ≤ 8 * length bytes.now) × (length bytes.now ≤ image_size) }
+    ensures { result ≡ sets_of (bits_at bytes.now at sets_width) }
 {
     let mut rights = [0u8; 16];
     let mut held = [0u8; 16];
@@ -108,8 +111,8 @@ fn read_sets(bytes: &[u8], at: usize) -> SetsRead
 
 // An object's record, from bit at on.
 fn read_object(bytes: &[u8], at: usize) -> ObjectRead
-    requires { (at + objectWidth ≤ 8 * length bytes.now) × (length bytes.now ≤ imageSize) }
-    ensures { result ≡ objectOf (bits_at bytes.now at objectWidth) }
+    requires { (at + object_width ≤ 8 * length bytes.now) × (length bytes.now ≤ image_size) }
+    ensures { result ≡ object_of (bits_at bytes.now at object_width) }
 {
     let head = read_flag(bytes, at);
     let read = read_label(bytes, at + Monitor::LABEL_AT);
@@ -141,7 +144,7 @@ fn read_object(bytes: &[u8], at: usize) -> ObjectRead
 
 // The records of a table; bytes of another length have no form, and nobody in them.
 pub fn read_subjects(bytes: &[u8]) -> TableRead
-    ensures { result ≡ subjectsRead bytes.now }
+    ensures { result ≡ subjects_read bytes.now }
 {
     let mut subjects = [Subject {
         clearance: Label::Absent,
@@ -166,10 +169,10 @@ pub fn read_subjects(bytes: &[u8]) -> TableRead
 
 // The object records, in the part of an image that begins with them, into the rows of a unit; whether each has its form.
 pub fn read_objects(unit: &mut [[u8; 16]], bytes: &[u8]) -> bool
-    requires* do_value { do ⌜ (← ⟦unit.len()⟧) ≡ rowCount ⌝ }
-    requires bytes_len { length bytes.now ≡ objectsSize }
-    ensures formed { result ≡ objectsForm bytes.now }
-    ensures stored { ObjectsStored (objectsFrom bytes.now) unit.new objectCount }
+    requires unit_len { length unit.old ≡ row_count }
+    requires bytes_len { length bytes.now ≡ objects_size }
+    ensures formed { result ≡ objects_form bytes.now }
+    ensures stored { ObjectsStored (objects_from bytes.now) unit.new object_count }
     ensures kept { SameClearances unit.old unit.new }
 {
     let mut formed = true;

@@ -6,17 +6,17 @@ use mathlib.Core.Path.{◌≡◌, sym, ◌∙◌, subst}
 use mathlib.Core.Bool.{Bool}
 use mathlib.Core.List.{List}
 use lib.ListN.{length, take, drop, length-map, length-replicate}
-use Rattle.bits.specs.Bits.{bytesToBits, first}
-use Rattle.bits.specs.Laws.{fromBits-take}
+use Rattle.bits.specs.Bits.{bytes_to_bits, first}
+use Rattle.bits.specs.Laws.{from_bits-take}
 use Rattle.bits.specs.Records.{length_cut}
 use Rattle.model.specs.declared.Label.TheVariants.{Absent}
 use Rattle.model.specs.declared.Subject.{Subject}
 use Rattle.model.specs.declared.Profile.{Profile}
 use Rattle.model.specs.declared.Monitor.{Monitor}
-use Rattle.model.specs.Companies.{companiesWidth}
-use Rattle.model.specs.State.{subjectCount, objectCount, classWidth, needsWidth, nobody, noObject, object, fresh, LabelFits, ObjectShape, WellFormed}
-use Rattle.model.specs.Layout.{labelWidth, ownerWidth, labelOffset, setWidth, pairWidth, companiesOffset, setsOffset, setsWidth, parentWidth, parentOffset, objectWidth, tableSize}
-use Rattle.model.specs.Reading.{labelFrom, subjectFrom, rightsFrom, heldFrom, setsIn, liveFrom, objectFrom, tableRecords, objectRecords, tableFrom, objectsFrom, monitorFrom}
+use Rattle.model.specs.Companies.{companies_width}
+use Rattle.model.specs.State.{subject_count, object_count, class_width, needs_width, nobody, no_object, object, fresh, LabelFits, ObjectShape, WellFormed}
+use Rattle.model.specs.Layout.{label_width, owner_width, label_offset, set_width, pair_width, companies_offset, sets_offset, sets_width, parent_width, parent_offset, object_width, table_size}
+use Rattle.model.specs.Reading.{label_from, subject_from, rights_from, held_from, sets_in, live_from, object_from, table_records, object_records, table_from, objects_from, monitor_from}
 use Rattle.model.proofs.Tests.{cond-all, map-all, clash, replicate-at}
 use Rattle.invariants.proofs.Form.{no-object-shape}
 use Rattle.images.specs.Tables.{TableFits}
@@ -30,54 +30,54 @@ pub record Shape (m : Monitor) : Type 0 where
 pub shape_of : (m : Monitor) → WellFormed m → Shape m
 shape_of m W =
     record {
-      table = record { subjects-length = W.subjects-length; clearances-fit = W.clearances-fit };
+      table = record { subjects_length = W.subjects_length; clearances_fit = W.clearances_fit };
       objects-length = W.objects-length;
-      objects = λ o. (W.objects-formed o).shape;
+      objects = λ o. (W.objects_formed o).shape;
     }
 
 pub fresh-shape : (p : Profile) (l : List Subject) → TableFits l → Shape (fresh p l)
 fresh-shape p l t =
     record {
       table = t;
-      objects-length = length-replicate 64 noObject;
-      objects = λ o. subst ObjectShape (sym (replicate-at noObject 64 o)) no-object-shape;
+      objects-length = length-replicate 64 no_object;
+      objects = λ o. subst ObjectShape (sym (replicate-at no_object 64 o)) no-object-shape;
     }
 
-label-shape : (b : List Bool) → LabelFits (labelFrom b)
-unfolding labelFrom
-label-shape b = cond-all LabelFits (first b) _ Absent (λ e. (fromBits-take classWidth (drop 1 b), fromBits-take needsWidth (drop (1 + classWidth) b))) (λ e. tt)
+label-shape : (b : List Bool) → LabelFits (label_from b)
+unfolding label_from
+label-shape b = cond-all LabelFits (first b) _ Absent (λ e. (from_bits-take class_width (drop 1 b), from_bits-take needs_width (drop (1 + class_width) b))) (λ e. tt)
 
-live-shape : (b : List Bool) → ObjectShape (liveFrom b)
+live-shape : (b : List Bool) → ObjectShape (live_from b)
 live-shape b =
     record {
-      rights-length = length-map (setsIn b) rightsFrom ∙ length_cut subjectCount pairWidth (take setsWidth (drop setsOffset b));
-      held-length = length-map (setsIn b) heldFrom ∙ length_cut subjectCount pairWidth (take setsWidth (drop setsOffset b));
-      rights-fit = map-all (λ n. n < 16) rightsFrom (setsIn b) 0 (λ r. fromBits-take setWidth (drop 0 r)) (omega arith);
-      held-fit = map-all (λ n. n < 16) heldFrom (setsIn b) 0 (λ r. fromBits-take setWidth (drop setWidth r)) (omega arith);
-      owner-fits = fromBits-take ownerWidth (drop 1 b);
-      label-fits = label-shape (take labelWidth (drop labelOffset b));
-      companies-fit = fromBits-take companiesWidth (drop companiesOffset b);
-      parent-fits = fromBits-take parentWidth (drop parentOffset b);
+      rights_length = length-map (sets_in b) rights_from ∙ length_cut subject_count pair_width (take sets_width (drop sets_offset b));
+      held_length = length-map (sets_in b) held_from ∙ length_cut subject_count pair_width (take sets_width (drop sets_offset b));
+      rights-fit = map-all (λ n. n < 16) rights_from (sets_in b) 0 (λ r. from_bits-take set_width (drop 0 r)) (omega arith);
+      held_fit = map-all (λ n. n < 16) held_from (sets_in b) 0 (λ r. from_bits-take set_width (drop set_width r)) (omega arith);
+      owner_fits = from_bits-take owner_width (drop 1 b);
+      label_fits = label-shape (take label_width (drop label_offset b));
+      companies_fit = from_bits-take companies_width (drop companies_offset b);
+      parent_fits = from_bits-take parent_width (drop parent_offset b);
       not_live = λ e. clash e;
     }
 
-object-shape : (b : List Bool) → ObjectShape (objectFrom b)
-unfolding objectFrom
-object-shape b = cond-all ObjectShape (first b) _ noObject (λ e. live-shape b) (λ e. no-object-shape)
+object-shape : (b : List Bool) → ObjectShape (object_from b)
+unfolding object_from
+object-shape b = cond-all ObjectShape (first b) _ no_object (λ e. live-shape b) (λ e. no-object-shape)
 
-pub table-shape : (b : List ℕ) → TableFits (tableFrom b)
-unfolding tableFrom
+pub table-shape : (b : List ℕ) → TableFits (table_from b)
+unfolding table_from
 table-shape b =
     record {
-      subjects-length = length-map (tableRecords b) subjectFrom ∙ length_cut subjectCount labelWidth (bytesToBits b);
-      clearances-fit = map-all (λ (x : Subject). LabelFits x.clearance) subjectFrom (tableRecords b) nobody label-shape tt;
+      subjects_length = length-map (table_records b) subject_from ∙ length_cut subject_count label_width (bytes_to_bits b);
+      clearances_fit = map-all (λ (x : Subject). LabelFits x.clearance) subject_from (table_records b) nobody label-shape tt;
     }
 
-pub image-shape : (p : Profile) (b : List ℕ) → Shape (monitorFrom p b)
-unfolding monitorFrom objectsFrom
+pub image-shape : (p : Profile) (b : List ℕ) → Shape (monitor_from p b)
+unfolding monitor_from objects_from
 image-shape p b =
     record {
-      table = table-shape (take tableSize b);
-      objects-length = length-map (objectRecords (drop tableSize b)) objectFrom ∙ length_cut objectCount objectWidth (bytesToBits (drop tableSize b));
-      objects = map-all ObjectShape objectFrom (objectRecords (drop tableSize b)) noObject object-shape no-object-shape;
+      table = table-shape (take table_size b);
+      objects-length = length-map (object_records (drop table_size b)) object_from ∙ length_cut object_count object_width (bytes_to_bits (drop table_size b));
+      objects = map-all ObjectShape object_from (object_records (drop table_size b)) no_object object-shape no-object-shape;
     }

@@ -14,7 +14,7 @@ use Rattle.model.specs.declared.Request.TheVariants.{Get, Release, Give, Rescind
 use Rattle.model.specs.declared.Decision.TheVariants.{Granted, Already}
 use Rattle.model.specs.declared.Response.{Response}
 use Rattle.model.specs.Modes.{has, remove}
-use Rattle.model.specs.State.{object, rightsOf, withRights}
+use Rattle.model.specs.State.{object, rights_of, with_rights}
 use Rattle.model.specs.Decisions.{number}
 use Rattle.model.specs.Rules.{target, changed, already, afterwards, checks, step}
 use Rattle.model.proofs.Tests.{split, clash, and_left, and_right, not_on}
@@ -32,9 +32,9 @@ record_same (Get s o x) ob e = with-held-same ob s _ (add_same x _ e)
 record_same (Release s o x) ob e = with-held-same ob s _ (remove-same x _ (not_on _ e))
 record_same (Give s t o x) ob e = with-rights-same ob t _ (add_same x _ e)
 record_same (Rescind s t o x) ob e =
-    let p = not_on _ (and_left (not (has x (rightsOf ob t))) _ e) in
-    let q = not_on _ (and_right (not (has x (rightsOf ob t))) _ e) in
-    with-held-same (withRights ob t (remove x (rightsOf ob t))) t _ (remove-same x _ q) ∙ with-rights-same ob t _ (remove-same x _ p)
+    let p = not_on _ (and_left (not (has x (rights_of ob t))) _ e) in
+    let q = not_on _ (and_right (not (has x (rights_of ob t))) _ e) in
+    with-held-same (with_rights ob t (remove x (rights_of ob t))) t _ (remove-same x _ q) ∙ with-rights-same ob t _ (remove-same x _ p)
 record_same (Create s o c) ob e = clash (sym e)
 record_same (Delete s o) ob e = clash (sym e)
 record_same (ChangeLevel s o l) ob e =

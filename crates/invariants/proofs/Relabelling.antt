@@ -19,10 +19,10 @@ use Rattle.model.specs.declared.Mode.{Mode}
 use Rattle.model.specs.declared.Request.TheVariants.{ChangeLevel}
 use Rattle.model.specs.declared.Decision.TheVariants.{Granted}
 use Rattle.model.specs.Levels.{Dominates, present}
-use Rattle.model.specs.Modes.{has, observes, alters, needsLabel}
-use Rattle.model.specs.State.{noObject, object, heldBy, withLabel}
-use Rattle.model.specs.Hierarchy.{labelsRise}
-use Rattle.model.specs.Rules.{changed, afterwards, checks, notLowered, simpleAll, starAll}
+use Rattle.model.specs.Modes.{has, observes, alters, needs_label}
+use Rattle.model.specs.State.{no_object, object, held_by, with_label}
+use Rattle.model.specs.Hierarchy.{labels_rise}
+use Rattle.model.specs.Rules.{changed, afterwards, checks, not_lowered, simple_all, star_all}
 use Rattle.model.proofs.Tests.{clash, apart, or_left}
 use Rattle.model.proofs.Levels.{dominates-refl}
 use Rattle.model.proofs.Equal.{with-label-same}
@@ -46,15 +46,15 @@ nothing-below (Present a) d = d
 
 module _ (m : Monitor) (S : Sound m) (o : ℕ) (l : Level) (live : (object m o).live ≡ true) where
   -- what the owner's change has left to pass: 14, 8, 9 and 20
-  owner-granted : notLowered (object m o).label (Present l) ≡ true
-      → simpleAll m.subjects (changed (ChangeLevel (object m o).owner o l) (object m o)) ≡ true
-      → starAll (afterwards (ChangeLevel (object m o).owner o l) m).objects ≡ true
-      → labelsRise (afterwards (ChangeLevel (object m o).owner o l) m).objects ≡ true
+  owner-granted : not_lowered (object m o).label (Present l) ≡ true
+      → simple_all m.subjects (changed (ChangeLevel (object m o).owner o l) (object m o)) ≡ true
+      → star_all (afterwards (ChangeLevel (object m o).owner o l) m).objects ≡ true
+      → labels_rise (afterwards (ChangeLevel (object m o).owner o l) m).objects ≡ true
       → checks (ChangeLevel (object m o).owner o l) m ≡ Granted
   owner-granted raised simple star rise =
       grants-change m (object m o).owner o l
       (record {
-        there = (S.formed.objects-formed o).owner-enrolled live;
+        there = (S.formed.objects_formed o).owner_enrolled live;
         live = live;
         owned = eq-eqb (object m o).owner _ refl;
         raised = raised;
@@ -69,28 +69,28 @@ module _ (m : Monitor) (S : Sound m) (o : ℕ) (l : Level) (live : (object m o).
   same-label-granted e =
       let ob = object m o in
       let is = with-label-same ob (Present l) (sym e) in
-      owner-granted (subst (λ (k : Label). notLowered k (Present l) ≡ true) (sym e) (same-label-passes (Present l)))
-      (subst (λ (b : Object). simpleAll m.subjects b ≡ true) (sym is) (simple-in m.subjects ob (object-secure m S.secure o).simple))
-      (subst (λ (k : List Object). starAll k ≡ true) (sym (unmoved is)) (star-all-in m.objects (star-for m S.secure.star)))
-      (subst (λ (k : List Object). labelsRise k ≡ true) (sym (unmoved is)) (rise-in m S.hierarchy.labels-rise))
+      owner-granted (subst (λ (k : Label). not_lowered k (Present l) ≡ true) (sym e) (same-label-passes (Present l)))
+      (subst (λ (b : Object). simple_all m.subjects b ≡ true) (sym is) (simple-in m.subjects ob (object-secure m S.secure o).simple))
+      (subst (λ (k : List Object). star_all k ≡ true) (sym (unmoved is)) (star-all-in m.objects (star-for m S.secure.star)))
+      (subst (λ (k : List Object). labels_rise k ≡ true) (sym (unmoved is)) (rise-in m S.hierarchy.rising_labels))
     where
       unmoved : {b : Object} → b ≡ object m o → set m.objects o b ≡ m.objects
-      unmoved p = ap (set m.objects o) p ∙ set-get_or m.objects o noObject
+      unmoved p = ap (set m.objects o) p ∙ set-get_or m.objects o no_object
 
   -- the labels rise after a first label that dominates that of the parent: what is under an object without a label has none
   first-rises : (object m o).label ≡ Absent → ((p : ℕ) → (object m o).parent ≡ suc p → Dominates (Present l) (object m p).label)
-      → labelsRise (afterwards (ChangeLevel (object m o).owner o l) m).objects ≡ true
+      → labels_rise (afterwards (ChangeLevel (object m o).owner o l) m).objects ≡ true
   unfolding changed
   first-rises e fits = rise-in n (λ y p q w. elim (ℕ_discrete y o) [ yes v ↦ new y p v q | no v ↦ old y p v q w ])
     where
       n : Monitor
       n = afterwards (ChangeLevel (object m o).owner o l) m
 
-      there : object n o ≡ withLabel (object m o) (Present l)
+      there : object n o ≡ with_label (object m o) (Present l)
       there = object-there (ChangeLevel (object m o).owner o l) m S.formed (live-in m.objects (omega (arith, S.formed.objects-length)) o live)
 
       elsewhere : (j : ℕ) → j ≢ o → object n j ≡ object m j
-      elsewhere j v = get_or-set_other m.objects o j _ noObject v
+      elsewhere j v = get_or-set_other m.objects o j _ no_object v
 
       new : (y p : ℕ) → y ≡ o → (object n y).parent ≡ suc p → Dominates (object n y).label (object n p).label
       new y p v q =
@@ -104,7 +104,7 @@ module _ (m : Monitor) (S : Sound m) (o : ℕ) (l : Level) (live : (object m o).
       old : (y p : ℕ) → y ≢ o → (object n y).parent ≡ suc p → present (object n y).label ≡ true → Dominates (object n y).label (object n p).label
       old y p v q w =
           let same = elsewhere y v in
-          let before = S.hierarchy.labels-rise y p (sym (ap (λ (ob : Object). ob.parent) same) ∙ q) (sym (ap (λ (ob : Object). present ob.label) same) ∙ w) in
+          let before = S.hierarchy.rising_labels y p (sym (ap (λ (ob : Object). ob.parent) same) ∙ q) (sym (ap (λ (ob : Object). present ob.label) same) ∙ w) in
           elim (ℕ_discrete p o) [
             | yes u ↦ absurd (nothing-below (object m y).label (subst (Dominates (object m y).label) (ap (λ (k : ℕ). (object m k).label) u ∙ e) before))
             | no u ↦ subst (λ (ob : Object). Dominates ob.label (object n p).label) (sym same)
@@ -116,9 +116,9 @@ module _ (m : Monitor) (S : Sound m) (o : ℕ) (l : Level) (live : (object m o).
       → checks (ChangeLevel (object m o).owner o l) m ≡ Granted
   unfolding changed
   first-label-granted e fits =
-      let idle : (s : ℕ) (x : Mode) → needsLabel x ≡ true → has x (heldBy (object m o) s) ≡ true → ⊥ =
+      let idle : (s : ℕ) (x : Mode) → needs_label x ≡ true → has x (held_by (object m o) s) ≡ true → ⊥ =
       λ s x n w. apart (S.secure.labelled s o x w n) (ap present e) in
-      owner-granted (subst (λ (k : Label). notLowered k (Present l) ≡ true) (sym e) (first-label-free (Present l)))
+      owner-granted (subst (λ (k : Label). not_lowered k (Present l) ≡ true) (sym e) (first-label-free (Present l)))
       (simple-in m.subjects _ (λ s x w u. absurd (idle s x (or_left (observes x) (alters x) u) w)))
       (star-all-in _ (λ s. star-free s m.objects o _ (star-for m S.secure.star s) (idle s)))
       (first-rises e fits)

@@ -12,13 +12,13 @@ use Rattle.model.specs.declared.Decoded.{Decoded}
 use Rattle.model.specs.declared.Decoded.TheVariants.{Malformed, Says}
 use Rattle.model.specs.declared.Decision.TheVariants.{Granted, Already}
 use Rattle.model.specs.declared.Response.{Response}
-use Rattle.model.specs.State.{noObject, objectAt, object, WellFormedObject}
+use Rattle.model.specs.State.{no_object, object_at, object, WellFormedObject}
 use Rattle.model.specs.Profiles.{Inside}
 use Rattle.model.specs.Properties.{Secure}
 use Rattle.model.specs.Decisions.{refuses}
 use Rattle.model.specs.Requests.{decode, InRange, Within}
-use Rattle.model.specs.Rules.{target, already, afterwards, checkList, checks, answer, step}
-use Rattle.model.specs.Runs.{carryOut, respond, after}
+use Rattle.model.specs.Rules.{target, already, afterwards, check_list, checks, answer, step}
+use Rattle.model.specs.Runs.{carry_out, respond, after}
 use Rattle.model.proofs.Tests.{cond-true, cond-false}
 use Rattle.model.proofs.Requests.{decode-range, decode-within}
 use Rattle.model.proofs.After.{objects-after, length-after}
@@ -37,7 +37,7 @@ use Rattle.invariants.proofs.Wall.{WallFor, wall-of, changed-wall}
 -- every request is granted or refused
 pub granted-or-refused : {P : Type 0} (q : Request) (m : Monitor) → (checks q m ≡ Granted → P) → (refuses (checks q m) ≡ true → P) → P
 unfolding checks
-granted-or-refused q m f g = ⊎_elim f g (granted-or-refusal (checkList q m) (only-refusals q m))
+granted-or-refused q m f g = ⊎_elim f g (granted-or-refusal (check_list q m) (only-refusals q m))
 
 -- the answer of a granted one, and of a refused one
 pub step-granted : (q : Request) (m : Monitor) → checks q m ≡ Granted
@@ -72,20 +72,20 @@ secure-of m h t w =
 pub sound-afterwards : (q : Request) (m : Monitor) → InRange q → Within m.profile q → Sound m → checks q m ≡ Granted → Sound (afterwards q m)
 sound-afterwards q m r v S e =
     let W = S.formed in
-    let F : (o : ℕ) → WellFormedObject m.subjects (objectAt (afterwards q m).objects o) =
-    objects-after (λ j ob. WellFormedObject m.subjects ob) q m W.objects-formed (λ j. no-object-formed m.subjects) (changed-formed m q r W e) in
+    let F : (o : ℕ) → WellFormedObject m.subjects (object_at (afterwards q m).objects o) =
+    objects-after (λ j ob. WellFormedObject m.subjects ob) q m W.objects_formed (λ j. no-object-formed m.subjects) (changed-formed m q r W e) in
     record {
       formed = record {
-        subjects-length = W.subjects-length;
-        clearances-fit = W.clearances-fit;
+        subjects_length = W.subjects_length;
+        clearances_fit = W.clearances_fit;
         objects-length = length-after q m ∙ W.objects-length;
-        objects-formed = F;
+        objects_formed = F;
       };
       inside = inside-afterwards q m v S.inside;
       secure = secure-of (afterwards q m)
-          (objects-after (λ j ob. SecureObject m.subjects ob) q m (object-secure m S.secure) (λ j. idle-secure m.subjects noObject no-modes) (changed-secure m W S.secure q e))
-          (changed-star q m W S.secure (λ o. (F o).shape.held-length) e)
-          (changed-wall q m W S.secure (λ o. (F o).shape.held-length) e);
+          (objects-after (λ j ob. SecureObject m.subjects ob) q m (object-secure m S.secure) (λ j. idle-secure m.subjects no_object no-modes) (changed-secure m W S.secure q e))
+          (changed-star q m W S.secure (λ o. (F o).shape.held_length) e)
+          (changed-wall q m W S.secure (λ o. (F o).shape.held_length) e);
       hierarchy = changed-hierarchy q m W S.hierarchy r e;
     }
 
@@ -94,11 +94,11 @@ sound-step q m r v S = step-all Sound q m S (sound-afterwards q m r v S)
 
 -- the request that bytes say, or none
 pub respond-all : (P : Response → Type 0) (b : List ℕ) (m : Monitor)
-    → (decode m.profile b ≡ Malformed → P (carryOut Malformed m)) → ((q : Request) → decode m.profile b ≡ Says q → P (step q m)) → P (respond b m)
+    → (decode m.profile b ≡ Malformed → P (carry_out Malformed m)) → ((q : Request) → decode m.profile b ≡ Says q → P (step q m)) → P (respond b m)
 unfolding respond
 respond-all P b m f g = go (decode m.profile b) f g
   where
-    go : (d : Decoded) → (d ≡ Malformed → P (carryOut Malformed m)) → ((q : Request) → d ≡ Says q → P (step q m)) → P (carryOut d m)
+    go : (d : Decoded) → (d ≡ Malformed → P (carry_out Malformed m)) → ((q : Request) → d ≡ Says q → P (step q m)) → P (carry_out d m)
     go Malformed f g = f refl
     go (Says q) f g = g q refl
 

@@ -15,12 +15,12 @@ use Rattle.model.specs.declared.Mode.{Mode}
 use Rattle.model.specs.declared.Request.TheVariants.{SetCompanies}
 use Rattle.model.specs.declared.Decision.TheVariants.{Granted}
 use Rattle.model.specs.Companies.{WallAsks}
-use Rattle.model.specs.State.{noObject, object}
+use Rattle.model.specs.State.{no_object, object}
 use Rattle.model.specs.Properties.{Holds, Wall}
-use Rattle.model.specs.Rules.{changed, checks, wallAll}
+use Rattle.model.specs.Rules.{changed, checks, wall_all}
 use Rattle.model.proofs.Companies.{compatible-itself, confined-itself, compatible-sym}
 use Rattle.model.proofs.Equal.{with-companies-same}
-use Rattle.invariants.specs.Access.{withAccess, WallByHeld}
+use Rattle.invariants.specs.Access.{with_access, WallByHeld}
 use Rattle.invariants.specs.Sound.{Sound}
 use Rattle.invariants.proofs.Granted.{grants-companies}
 use Rattle.invariants.proofs.Wall.{WallFor, wall-for, wall-of, wall-all-in}
@@ -28,10 +28,10 @@ use Rattle.invariants.proofs.Added.{same-unheld, held-or-added, held-still, hold
 
 module _ (m : Monitor) (S : Sound m) (s o : ℕ) (x : Mode) (s-below : s < 16) (o-below : o < 64) where
   -- no number changes
-  companies-same : (p : ℕ) → (object (withAccess m s o x) p).companies ≡ (object m p).companies
+  companies-same : (p : ℕ) → (object (with_access m s o x) p).companies ≡ (object m p).companies
   companies-same p = ap (λ (ob : Object). ob.companies) (same-unheld m s o x p)
 
-  wall-kept : WallByHeld m s o x → (t : ℕ) → WallFor t (withAccess m s o x).objects
+  wall-kept : WallByHeld m s o x → (t : ℕ) → WallFor t (with_access m s o x).objects
   unfolding WallFor
   wall-kept K t p q y z g h =
       rw (companies-same p, companies-same q)
@@ -47,15 +47,15 @@ module _ (m : Monitor) (S : Sound m) (s o : ℕ) (x : Mode) (s-below : s < 16) (
       (held-or-added m S.formed s o x t p y g))
 
   -- adding the access keeps the wall exactly where both rules are kept with each access held
-  pub wall-added : Wall (withAccess m s o x) ↔ WallByHeld m s o x
+  pub wall-added : Wall (with_access m s o x) ↔ WallByHeld m s o x
   wall-added = (
     λ T p h e.
         let there = held-still m S.formed s o x s p h e in
         let now = holds-now m S s o x s-below o-below in
         subst (λ (k : ℕ). WallAsks h x k (object m o).companies) (companies-same p)
-        (subst (λ (k : ℕ). WallAsks h x (object (withAccess m s o x) p).companies k) (companies-same o)
+        (subst (λ (k : ℕ). WallAsks h x (object (with_access m s o x) p).companies k) (companies-same o)
         (T.compatible s p o h x there now, λ u a. T.confined s p o h x there u now a, λ u a. T.confined s o p x h now u there a)),
-    λ K. wall-of (withAccess m s o x) (wall-kept K),
+    λ K. wall-of (with_access m s o x) (wall-kept K),
   )
 
 -- the owner sets the numbers that the object has: nothing changes, and the state was secure
@@ -65,10 +65,10 @@ unfolding changed
 same-companies-granted m S o live =
     grants-companies m (object m o).owner o (object m o).companies
     (record {
-      there = (S.formed.objects-formed o).owner-enrolled live;
+      there = (S.formed.objects_formed o).owner_enrolled live;
       live = live;
       owned = eq-eqb (object m o).owner _ refl;
-      wall = subst (λ (k : List Object). wallAll k ≡ true)
-          (sym (ap (set m.objects o) (with-companies-same (object m o) _ refl) ∙ set-get_or m.objects o noObject))
+      wall = subst (λ (k : List Object). wall_all k ≡ true)
+          (sym (ap (set m.objects o) (with-companies-same (object m o) _ refl) ∙ set-get_or m.objects o no_object))
           (wall-all-in m.objects (wall-for m S.secure.wall));
     })

@@ -6,12 +6,12 @@ use Rattle.model.specs.declared.Monitor.{Monitor}
 use Rattle.model.specs.declared.Mode.{Mode}
 use Rattle.model.specs.Modes.{add}
 use Rattle.model.specs.Companies.{WallAsks}
-use Rattle.model.specs.State.{noModes, object, heldBy, withRows, withHeld, withObject}
+use Rattle.model.specs.State.{no_modes, object, held_by, with_rows, with_held, with_object}
 use Rattle.model.specs.Properties.{Holds}
 
 -- the state where subject s holds x on object o too, and all else is as it was
-abbrev pub withAccess : Monitor → ℕ → ℕ → Mode → Monitor
-withAccess m s o x = withObject m o (withHeld (object m o) s (add x (heldBy (object m o) s)))
+abbrev pub with_access : Monitor → ℕ → ℕ → Mode → Monitor
+with_access m s o x = with_object m o (with_held (object m o) s (add x (held_by (object m o) s)))
 
 -- the two rules of the wall (change request §10) are kept by each access that subject s holds and access x to object o
 abbrev pub WallByHeld : Monitor → ℕ → ℕ → Mode → Type 0
@@ -19,4 +19,4 @@ WallByHeld m s o x = (p : ℕ) (h : Mode) → Holds m s p h → WallAsks h x (ob
 
 -- the record of an object as if nobody held an access to it
 abbrev pub unheld : Object → Object
-unheld ob = withRows ob ob.rights noModes
+unheld ob = with_rows ob ob.rights no_modes

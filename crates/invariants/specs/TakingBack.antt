@@ -7,7 +7,7 @@ use Rattle.model.specs.declared.Decoded.{Decoded}
 use Rattle.model.specs.declared.Decoded.TheVariants.{Malformed, Says}
 use Rattle.model.specs.Requests.{decode}
 use Rattle.model.specs.Runs.{respond, reply, after}
-use Rattle.model.specs.Journal.{takesChildren, Act, asks, takesBack}
+use Rattle.model.specs.Journal.{takes_children, Act, asks, takes_back}
 
 -- "n requests with reply 0": how many of these replies are 0
 unfoldable pub zeros : List ℕ → ℕ
@@ -15,17 +15,17 @@ zeros [] = 0
 zeros (r ∷ rs) = cond (eqb r 0) (suc (zeros rs)) (zeros rs)
 
 -- the bytes were granted and are "A deletion that took children" (change request §11)
-abbrev pub saidToTake : Decoded → Monitor → Bool
-saidToTake Malformed m = false
-saidToTake (Says q) m = takesChildren q m
+abbrev pub said_to_take : Decoded → Monitor → Bool
+said_to_take Malformed m = false
+said_to_take (Says q) m = takes_children q m
 
-unfoldable pub tookChildren : List ℕ → Monitor → Bool
-tookChildren b m = eqb (reply b m) 0 && saidToTake (decode m.profile b) m
+unfoldable pub took_children : List ℕ → Monitor → Bool
+took_children b m = eqb (reply b m) 0 && said_to_take (decode m.profile b) m
 
 -- none of a list of requests took children
-unfoldable pub noneTook : List (List ℕ) → Monitor → Bool
-noneTook [] m = true
-noneTook (b ∷ bs) m = not (tookChildren b m) && noneTook bs (respond b m).monitor
+unfoldable pub none_took : List (List ℕ) → Monitor → Bool
+none_took [] m = true
+none_took (b ∷ bs) m = not (took_children b m) && none_took bs (respond b m).monitor
 
 -- a list of requests, and no taking-back, leads from one state to the other
 pub record ByRequests (m n : Monitor) : Type 0 where
@@ -41,7 +41,7 @@ pub record History : Type 0 where
 
 -- "for each reply 0", "up to 32", "the oldest .. gives way"; "A deletion that took children empties the journal" (change request §11)
 abbrev pub remembered : List ℕ → Monitor → List Monitor → List Monitor
-remembered b m past = cond (tookChildren b m) [] (cond (eqb (reply b m) 0) (take 32 (m ∷ past)) past)
+remembered b m past = cond (took_children b m) [] (cond (eqb (reply b m) 0) (take 32 (m ∷ past)) past)
 
 -- "restores exactly the state before the latest request"; without one, "state unchanged"
 abbrev pub returned : Monitor → List Monitor → History
@@ -52,4 +52,4 @@ unfoldable pub history : List Act → History → History
 history [] h = h
 history (asks b ∷ l) h =
     history l (record { present = (respond b h.present).monitor; past = remembered b h.present h.past })
-history (takesBack ∷ l) h = history l (returned h.present h.past)
+history (takes_back ∷ l) h = history l (returned h.present h.past)

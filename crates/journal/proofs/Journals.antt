@@ -8,13 +8,13 @@ use mathlib.Core.Logic.{⊎_elim}
 use mathlib.Core.List.{List, [], ◌∷◌}
 use lib.ListN.{length, take, length-replicate, get_or-replicate}
 use lib.Seq.{take_all}
-use Rattle.model.specs.State.{objectCount, noObject}
-use Rattle.model.specs.Journal.{Entry, journalSize, entered}
+use Rattle.model.specs.State.{object_count, no_object}
+use Rattle.model.specs.Journal.{Entry, journal_size, entered}
 use Rattle.model.proofs.Tests.{le-or-lt}
-use Rattle.unit.specs.Rows.{Rows, objectOf, tabulate}
+use Rattle.unit.specs.Rows.{Rows, object_of, tabulate}
 use Rattle.unit.proofs.Tabulated.{tabulate-length, tabulate-same}
-use Rattle.journal.specs.Ring.{journalRows, nextSlot, entryCount, entryIn, slot_of, journalIn}
-use Rattle.journal.specs.Stored.{setSlot, enteredRows, leftRows, noEntries, Whole}
+use Rattle.journal.specs.Ring.{journal_rows, next_slot, entry_count, entry_in, slot_of, journal_in}
+use Rattle.journal.specs.Stored.{set_slot, entered_rows, left_rows, no_entries, Whole}
 use Rattle.journal.proofs.Rings.{zeros}
 use Rattle.journal.proofs.Entries.{whole-ring, ring-next, ring-count, ring-entry, slot_whole, slot_same, slot-other}
 
@@ -32,94 +32,94 @@ take-entries k n f =
     (λ (h : k < n). let e : min n k ≡ k = omega (arith, h) in take-tabulate k n f (omega arith) ∙ ap (λ i. tabulate i f) (sym e))
     (le-or-lt n k)
 
-abbrev noEntry : Entry
-noEntry = record { place = 0; was = noObject }
+abbrev no_entry : Entry
+no_entry = record { place = 0; was = no_object }
 
 -- "up to 32 entries", whatever the rows are
-pub entries_fit : (j : Rows) → length (journalIn j) ≤ journalSize
-unfolding journalIn
-entries_fit j = omega (arith, tabulate-length (entryCount j) (λ i. entryIn j (slot_of j i)))
+pub entries_fit : (j : Rows) → length (journal_in j) ≤ journal_size
+unfolding journal_in
+entries_fit j = omega (arith, tabulate-length (entry_count j) (λ i. entry_in j (slot_of j i)))
 
 -- ---- an entry more
 
 module _ (j : Rows) (W : Whole j) (o : ℕ) (rights held rest : List ℕ) where
-  pub entered-whole : Whole (enteredRows j o rights held rest)
-  unfolding enteredRows
-  entered-whole = whole-ring _ _ _ (slot_whole j W (nextSlot j) o rights held rest (omega arith))
+  pub entered-whole : Whole (entered_rows j o rights held rest)
+  unfolding entered_rows
+  entered-whole = whole-ring _ _ _ (slot_whole j W (next_slot j) o rights held rest (omega arith))
 
   -- where the entries stand behind it
-  next-moved : nextSlot (enteredRows j o rights held rest) ≡ (nextSlot j + 1) % journalSize
-  unfolding enteredRows
-  next-moved = ring-next _ (slot_whole j W (nextSlot j) o rights held rest (omega arith)) _ _ ∙ omega arith
+  next-moved : next_slot (entered_rows j o rights held rest) ≡ (next_slot j + 1) % journal_size
+  unfolding entered_rows
+  next-moved = ring-next _ (slot_whole j W (next_slot j) o rights held rest (omega arith)) _ _ ∙ omega arith
 
-  count-more : entryCount (enteredRows j o rights held rest) ≡ min (entryCount j + 1) journalSize
-  unfolding enteredRows
-  count-more = ring-count _ (slot_whole j W (nextSlot j) o rights held rest (omega arith)) _ _ ∙ omega arith
+  count-more : entry_count (entered_rows j o rights held rest) ≡ min (entry_count j + 1) journal_size
+  unfolding entered_rows
+  count-more = ring-count _ (slot_whole j W (next_slot j) o rights held rest (omega arith)) _ _ ∙ omega arith
 
-  entry_more : (k : ℕ) → k < journalSize → entryIn (enteredRows j o rights held rest) k ≡ entryIn (setSlot j (nextSlot j) o rights held rest) k
-  unfolding enteredRows
-  entry_more k h = ring-entry _ (slot_whole j W (nextSlot j) o rights held rest (omega arith)) _ _ k h
+  entry_more : (k : ℕ) → k < journal_size → entry_in (entered_rows j o rights held rest) k ≡ entry_in (set_slot j (next_slot j) o rights held rest) k
+  unfolding entered_rows
+  entry_more k h = ring-entry _ (slot_whole j W (next_slot j) o rights held rest (omega arith)) _ _ k h
 
   -- the journal that the rows then say: "the oldest entry gives way"
-  pub entered-says : journalIn (enteredRows j o rights held rest) ≡ entered (record { place = o % objectCount; was = objectOf rights held rest }) (journalIn j)
-  unfolding journalIn entered tabulate
+  pub entered-says : journal_in (entered_rows j o rights held rest) ≡ entered (record { place = o % object_count; was = object_of rights held rest }) (journal_in j)
+  unfolding journal_in entered tabulate
   entered-says =
-      let w = enteredRows j o rights held rest in
-      let n = min (entryCount j) 31 in
-      let count : entryCount w ≡ suc n = count-more ∙ omega arith in
-      ap (λ i. tabulate i (λ k. entryIn w (slot_of w k))) count
-      ∙ ap₂ (λ (e : Entry) (l : List Entry). e ∷ l) latest (tabulate-same n (λ i. entryIn j (slot_of j i)) (λ i. entryIn w (slot_of w (suc i))) noEntry earlier)
-      ∙ ap (λ (l : List Entry). record { place = o % objectCount; was = objectOf rights held rest } ∷ l) (sym (take-entries 31 (entryCount j) (λ i. entryIn j (slot_of j i))))
+      let w = entered_rows j o rights held rest in
+      let n = min (entry_count j) 31 in
+      let count : entry_count w ≡ suc n = count-more ∙ omega arith in
+      ap (λ i. tabulate i (λ k. entry_in w (slot_of w k))) count
+      ∙ ap₂ (λ (e : Entry) (l : List Entry). e ∷ l) latest (tabulate-same n (λ i. entry_in j (slot_of j i)) (λ i. entry_in w (slot_of w (suc i))) no_entry earlier)
+      ∙ ap (λ (l : List Entry). record { place = o % object_count; was = object_of rights held rest } ∷ l) (sym (take-entries 31 (entry_count j) (λ i. entry_in j (slot_of j i))))
     where
-      latest : entryIn (enteredRows j o rights held rest) (slot_of (enteredRows j o rights held rest) 0) ≡ record { place = o % objectCount; was = objectOf rights held rest }
+      latest : entry_in (entered_rows j o rights held rest) (slot_of (entered_rows j o rights held rest) 0) ≡ record { place = o % object_count; was = object_of rights held rest }
       latest =
-          let here : slot_of (enteredRows j o rights held rest) 0 ≡ nextSlot j = ap (λ i. (i + (journalSize - 1) - 0) % journalSize) next-moved ∙ omega arith in
-          ap (entryIn (enteredRows j o rights held rest)) here ∙ entry_more (nextSlot j) (omega arith) ∙ slot_same j W (nextSlot j) o rights held rest (omega arith)
+          let here : slot_of (entered_rows j o rights held rest) 0 ≡ next_slot j = ap (λ i. (i + (journal_size - 1) - 0) % journal_size) next-moved ∙ omega arith in
+          ap (entry_in (entered_rows j o rights held rest)) here ∙ entry_more (next_slot j) (omega arith) ∙ slot_same j W (next_slot j) o rights held rest (omega arith)
 
-      earlier : (i : ℕ) → i < min (entryCount j) 31 → entryIn (enteredRows j o rights held rest) (slot_of (enteredRows j o rights held rest) (suc i)) ≡ entryIn j (slot_of j i)
+      earlier : (i : ℕ) → i < min (entry_count j) 31 → entry_in (entered_rows j o rights held rest) (slot_of (entered_rows j o rights held rest) (suc i)) ≡ entry_in j (slot_of j i)
       earlier i h =
-          let there : slot_of (enteredRows j o rights held rest) (suc i) ≡ slot_of j i =
-          ap (λ k. (k + (journalSize - 1) - suc i) % journalSize) next-moved ∙ omega (arith, h) in
-          ap (entryIn (enteredRows j o rights held rest)) there ∙ entry_more (slot_of j i) (omega arith)
-          ∙ slot-other j W (nextSlot j) o rights held rest (omega arith) (slot_of j i) (omega arith) (λ e. absurd (omega (arith, e, h)))
+          let there : slot_of (entered_rows j o rights held rest) (suc i) ≡ slot_of j i =
+          ap (λ k. (k + (journal_size - 1) - suc i) % journal_size) next-moved ∙ omega (arith, h) in
+          ap (entry_in (entered_rows j o rights held rest)) there ∙ entry_more (slot_of j i) (omega arith)
+          ∙ slot-other j W (next_slot j) o rights held rest (omega arith) (slot_of j i) (omega arith) (λ e. absurd (omega (arith, e, h)))
 
 -- ---- the latest goes
 
-pub latest-said : (j : Rows) (n : ℕ) → entryCount j ≡ suc n → journalIn j ≡ entryIn j (slot_of j 0) ∷ tabulate n (λ i. entryIn j (slot_of j (suc i)))
-unfolding journalIn tabulate
-latest-said j n some = ap (λ i. tabulate i (λ k. entryIn j (slot_of j k))) some
+pub latest-said : (j : Rows) (n : ℕ) → entry_count j ≡ suc n → journal_in j ≡ entry_in j (slot_of j 0) ∷ tabulate n (λ i. entry_in j (slot_of j (suc i)))
+unfolding journal_in tabulate
+latest-said j n some = ap (λ i. tabulate i (λ k. entry_in j (slot_of j k))) some
 
 -- the slots behind it, counted from the one that is then the next
-one-back : (k i : ℕ) → k < journalSize → i < 31 → ((k + (journalSize - 1) - 0) % journalSize % journalSize + (journalSize - 1) - i) % journalSize ≡ (k + (journalSize - 1) - suc i) % journalSize
+one-back : (k i : ℕ) → k < journal_size → i < 31 → ((k + (journal_size - 1) - 0) % journal_size % journal_size + (journal_size - 1) - i) % journal_size ≡ (k + (journal_size - 1) - suc i) % journal_size
 one-back zero i h l = omega (arith, l)
-one-back (suc k) i h l = let before : (suc k + (journalSize - 1) - 0) % journalSize % journalSize ≡ k = omega (arith, h) in ap (λ n. (n + (journalSize - 1) - i) % journalSize) before ∙ omega (arith, l)
+one-back (suc k) i h l = let before : (suc k + (journal_size - 1) - 0) % journal_size % journal_size ≡ k = omega (arith, h) in ap (λ n. (n + (journal_size - 1) - i) % journal_size) before ∙ omega (arith, l)
 
-module _ (j : Rows) (W : Whole j) (n : ℕ) (some : entryCount j ≡ suc n) where
-  pub left-whole : Whole (leftRows j)
-  unfolding leftRows
+module _ (j : Rows) (W : Whole j) (n : ℕ) (some : entry_count j ≡ suc n) where
+  pub left-whole : Whole (left_rows j)
+  unfolding left_rows
   left-whole = whole-ring j _ _ W
 
-  pub left-says : journalIn (leftRows j) ≡ tabulate n (λ i. entryIn j (slot_of j (suc i)))
-  unfolding journalIn leftRows
+  pub left-says : journal_in (left_rows j) ≡ tabulate n (λ i. entry_in j (slot_of j (suc i)))
+  unfolding journal_in left_rows
   left-says =
-      let w = leftRows j in
-      let count : entryCount w ≡ n = ring-count j W _ _ ∙ omega (arith, some) in
-      ap (λ i. tabulate i (λ k. entryIn w (slot_of w k))) count
-      ∙ tabulate-same n (λ i. entryIn j (slot_of j (suc i))) (λ i. entryIn w (slot_of w i)) noEntry
+      let w = left_rows j in
+      let count : entry_count w ≡ n = ring-count j W _ _ ∙ omega (arith, some) in
+      ap (λ i. tabulate i (λ k. entry_in w (slot_of w k))) count
+      ∙ tabulate-same n (λ i. entry_in j (slot_of j (suc i))) (λ i. entry_in w (slot_of w i)) no_entry
       (λ i h.
       let there : slot_of w i ≡ slot_of j (suc i) =
-      ap (λ k. (k + (journalSize - 1) - i) % journalSize) (ring-next j W _ _) ∙ one-back (nextSlot j) i (omega arith) (omega (arith, h, some)) in
-      ap (entryIn w) there ∙ ring-entry j W _ _ (slot_of j (suc i)) (omega arith))
+      ap (λ k. (k + (journal_size - 1) - i) % journal_size) (ring-next j W _ _) ∙ one-back (next_slot j) i (omega arith) (omega (arith, h, some)) in
+      ap (entry_in w) there ∙ ring-entry j W _ _ (slot_of j (suc i)) (omega arith))
 
 -- ---- no entry
 
-pub none-whole : Whole noEntries
+pub none-whole : Whole no_entries
 none-whole =
     record {
-      rows = length-replicate journalRows zeros;
-      bytes = λ i a b. ap length (get_or-replicate journalRows i zeros [] b);
+      rows = length-replicate journal_rows zeros;
+      bytes = λ i a b. ap length (get_or-replicate journal_rows i zeros [] b);
     }
 
-pub none-says : journalIn noEntries ≡ []
-unfolding journalIn tabulate
+pub none-says : journal_in no_entries ≡ []
+unfolding journal_in tabulate
 none-says = refl

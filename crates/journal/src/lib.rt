@@ -1,8 +1,11 @@
 // The journal of a unit: up to 32 records that requests changed, each as it was before, in a ring of rows. Every content of the rows is a journal.
+
+#![tactic(auto)]
+
 ghost use Rattle.std.specs.Prelude.{◌≡◌, ◌<◌, length};
-ghost use Rattle.model.specs.Journal.{journalSize};
-ghost use Rattle.journal.specs.Ring.{journalRows, nextSlot, entryCount, slot_of, entryIn};
-ghost use Rattle.journal.specs.Stored.{setRing, setSlot, enteredRows, leftRows, noEntries};
+ghost use Rattle.model.specs.Journal.{journal_size};
+ghost use Rattle.journal.specs.Ring.{journal_rows, next_slot, entry_count, slot_of, entry_in};
+ghost use Rattle.journal.specs.Stored.{set_ring, set_slot, entered_rows, left_rows, no_entries};
 
 use bits::smaller;
 use model::{Monitor, Object};
@@ -20,8 +23,8 @@ pub const ROWS: usize = RING + 1;
 
 // The slot that the next entry takes.
 fn next_slot(journal: &[[u8; 16]]) -> usize
-    requires { length journal.now ≡ journalRows }
-    ensures { result ≡ nextSlot journal.now }
+    requires { length journal.now ≡ journal_rows }
+    ensures { result ≡ next_slot journal.now }
 {
     let n = journal[RING][0] % 32;
     n as usize
@@ -29,8 +32,8 @@ fn next_slot(journal: &[[u8; 16]]) -> usize
 
 // How many entries there are.
 pub fn entry_count(journal: &[[u8; 16]]) -> usize
-    requires { length journal.now ≡ journalRows }
-    ensures { result ≡ entryCount journal.now }
+    requires { length journal.now ≡ journal_rows }
+    ensures { result ≡ entry_count journal.now }
 {
     let n = journal[RING][1];
     if n < 32 { n as usize } else { SLOTS }
@@ -38,7 +41,7 @@ pub fn entry_count(journal: &[[u8; 16]]) -> usize
 
 // The slot of the latest entry.
 pub fn latest_slot(journal: &[[u8; 16]]) -> usize
-    requires { length journal.now ≡ journalRows }
+    requires { length journal.now ≡ journal_rows }
     ensures { result ≡ slot_of journal.now 0 }
 {
     (next_slot(journal) + (SLOTS - 1)) % SLOTS
@@ -46,9 +49,9 @@ pub fn latest_slot(journal: &[[u8; 16]]) -> usize
 
 // The object of a slot.
 pub fn place_in(journal: &[[u8; 16]], k: usize) -> u8
-    requires journal_len { length journal.now ≡ journalRows }
-    requires k_lt_journal_size { k < journalSize }
-    ensures { result ≡ (entryIn journal.now k).place }
+    requires journal_len { length journal.now ≡ journal_rows }
+    requires k_lt_journal_size { k < journal_size }
+    ensures { result ≡ (entry_in journal.now k).place }
 {
     let i = PLACES + k / 16;
     let at = k % 16;
@@ -57,9 +60,9 @@ pub fn place_in(journal: &[[u8; 16]], k: usize) -> u8
 
 // The record of a slot.
 pub fn record_in(journal: &[[u8; 16]], k: usize) -> Object
-    requires journal_len { length journal.now ≡ journalRows }
-    requires k_lt_journal_size { k < journalSize }
-    ensures { result ≡ (entryIn journal.now k).was }
+    requires journal_len { length journal.now ≡ journal_rows }
+    requires k_lt_journal_size { k < journal_size }
+    ensures { result ≡ (entry_in journal.now k).was }
 {
     let rights = journal[3 * k];
     let held = journal[3 * k + 1];
@@ -68,8 +71,8 @@ pub fn record_in(journal: &[[u8; 16]], k: usize) -> Object
 }
 
 fn set_ring(journal: &mut [[u8; 16]], next: u8, count: u8)
-    requires* { do ⌜ (← ⟦journal.len()⟧) ≡ journalRows ⌝ }
-    ensures { journal.new ≡ setRing journal.old next count }
+    requires journal_len { length journal.old ≡ journal_rows }
+    ensures { journal.new ≡ set_ring journal.old next count }
 {
     journal[RING][0] = next;
     journal[RING][1] = count;
@@ -83,9 +86,9 @@ fn set_slot(
     held: [u8; 16],
     rest: [u8; 16],
 )
-    requires* do_value { do ⌜ (← ⟦journal.len()⟧) ≡ journalRows ⌝ }
-    requires k_lt_journal_size { k < journalSize }
-    ensures { journal.new ≡ setSlot journal.old k o rights held rest }
+    requires journal_len { length journal.old ≡ journal_rows }
+    requires k_lt_journal_size { k < journal_size }
+    ensures { journal.new ≡ set_slot journal.old k o rights held rest }
 {
     journal[3 * k] = rights;
     journal[3 * k + 1] = held;
@@ -97,8 +100,8 @@ fn set_slot(
 
 // The rows of an object become the latest entry; where all slots are taken, in the place of the oldest.
 pub fn enter(journal: &mut [[u8; 16]], o: u8, rights: [u8; 16], held: [u8; 16], rest: [u8; 16])
-    requires* { do ⌜ (← ⟦journal.len()⟧) ≡ journalRows ⌝ }
-    ensures { journal.new ≡ enteredRows journal.old o rights held rest }
+    requires journal_len { length journal.old ≡ journal_rows }
+    ensures { journal.new ≡ entered_rows journal.old o rights held rest }
 {
     let k = next_slot(journal);
     let count = entry_count(journal);
@@ -110,9 +113,9 @@ pub fn enter(journal: &mut [[u8; 16]], o: u8, rights: [u8; 16], held: [u8; 16], 
 
 // The latest entry goes; there is one.
 pub fn leave(journal: &mut [[u8; 16]])
-    requires* do_value { do ⌜ (← ⟦journal.len()⟧) ≡ journalRows ⌝ }
-    requires journal_nonzero { 0 < entryCount journal.old }
-    ensures { journal.new ≡ leftRows journal.old }
+    requires journal_len { length journal.old ≡ journal_rows }
+    requires journal_nonzero { 0 < entry_count journal.old }
+    ensures { journal.new ≡ left_rows journal.old }
 {
     let k = latest_slot(journal);
     let count = entry_count(journal);
@@ -121,8 +124,8 @@ pub fn leave(journal: &mut [[u8; 16]])
 
 // No entry: every row is 0.
 pub fn clear(journal: &mut [[u8; 16]])
-    requires* { do ⌜ (← ⟦journal.len()⟧) ≡ journalRows ⌝ }
-    ensures { journal.new ≡ noEntries }
+    requires journal_len { length journal.old ≡ journal_rows }
+    ensures { journal.new ≡ no_entries }
 {
     let mut i = 0usize;
     while i < ROWS {

@@ -1,7 +1,7 @@
 // A unit begun from a table or an image: the rows of the monitor, and an empty journal.
 ghost use Rattle.std.specs.Prelude.{◌≡◌};
-ghost use Rattle.model.specs.Reading.{readTable, readImage};
-ghost use Rattle.journaled.specs.Units.{unitRows, begunRows};
+ghost use Rattle.model.specs.Reading.{read_table, read_image};
+ghost use Rattle.journaled.specs.Units.{unit_rows, begun_rows};
 
 use crate::ROWS;
 use journal::clear;
@@ -9,8 +9,8 @@ use model::{Decision, Profile};
 
 // Begins from an image; a refused one leaves the empty monitor.
 pub fn open(unit: &mut [[u8; 16]], profile: Profile, image: &[u8]) -> Decision
-    requires* { do ⌜ (← ⟦unit.len()⟧) ≡ unitRows ⌝ }
-    ensures { (result ≡ (readImage profile image.now).decision) × (unit.new ≡ begunRows (readImage profile image.now).monitor) }
+    requires unit_len { length unit.old ≡ unit_rows }
+    ensures { (result ≡ (read_image profile image.now).decision) × (unit.new ≡ begun_rows (read_image profile image.now).monitor) }
 {
     let opened = image::open(&mut unit[0..unit::ROWS], profile, image);
     clear(&mut unit[unit::ROWS..ROWS]);
@@ -19,8 +19,8 @@ pub fn open(unit: &mut [[u8; 16]], profile: Profile, image: &[u8]) -> Decision
 
 // Begins from a table; a refused one leaves the empty monitor.
 pub fn start(unit: &mut [[u8; 16]], profile: Profile, table: &[u8]) -> Decision
-    requires* { do ⌜ (← ⟦unit.len()⟧) ≡ unitRows ⌝ }
-    ensures { (result ≡ (readTable profile table.now).decision) × (unit.new ≡ begunRows (readTable profile table.now).monitor) }
+    requires unit_len { length unit.old ≡ unit_rows }
+    ensures { (result ≡ (read_table profile table.now).decision) × (unit.new ≡ begun_rows (read_table profile table.now).monitor) }
 {
     let started = image::start(&mut unit[0..unit::ROWS], profile, table);
     clear(&mut unit[unit::ROWS..ROWS]);

@@ -1,15 +1,18 @@
 // A unit: the rows of a monitor and, behind them, those of its journal. It is begun, asked, and taken back.
+
+#![tactic(auto)]
+
 mod beginning;
 
 ghost use Rattle.std.specs.Prelude.{◌≡◌, cond, ◌&&◌, ◌<◌, length};
 ghost use Rattle.model.specs.Runs.{reply};
-ghost use Rattle.model.specs.Journal.{takingBack};
-ghost use Rattle.model.specs.State.{objectCount};
-ghost use Rattle.model.specs.Hierarchy.{hasChild};
-ghost use Rattle.unit.specs.Rows.{rowCount, objectsIn, stateIn};
-ghost use Rattle.journal.specs.Ring.{journalRows, entryCount};
-ghost use Rattle.journal.specs.Stored.{enteredRows, noEntries};
-ghost use Rattle.journaled.specs.Units.{unitRows, journalPart, saidBy, named, deletes, askedUnit, restoredUnit, takenUnit};
+ghost use Rattle.model.specs.Journal.{taking_back};
+ghost use Rattle.model.specs.State.{object_count};
+ghost use Rattle.model.specs.Hierarchy.{has_child};
+ghost use Rattle.unit.specs.Rows.{row_count, objects_in, state_in};
+ghost use Rattle.journal.specs.Ring.{journal_rows, entry_count};
+ghost use Rattle.journal.specs.Stored.{entered_rows, no_entries};
+ghost use Rattle.journaled.specs.Units.{unit_rows, journal_part, said_by, named, deletes, asked_unit, restored_unit, taken_unit};
 
 pub use beginning::{open, start};
 use bits::read_word;
@@ -46,9 +49,9 @@ fn deletes(bytes: &[u8]) -> bool
 
 // Whether the bytes ask for a deletion, of object o, that takes children: no other request looks for these.
 fn takes_children(unit: &[[u8; 16]], bytes: &[u8], o: u8) -> bool
-    requires unit_len { length unit.now ≡ rowCount }
-    requires o_lt_object_count { o < objectCount }
-    ensures { result ≡ (deletes bytes.now && hasChild (objectsIn unit.now) o) }
+    requires unit_len { length unit.now ≡ row_count }
+    requires o_lt_object_count { o < object_count }
+    ensures { result ≡ (deletes bytes.now && has_child (objects_in unit.now) o) }
 {
     if !deletes(bytes) {
         return false;
@@ -65,8 +68,8 @@ fn enter_request(
     held: [u8; 16],
     rest: [u8; 16],
 )
-    requires* { do ⌜ (← ⟦journal.len()⟧) ≡ journalRows ⌝ }
-    ensures { journal.new ≡ cond took noEntries (enteredRows journal.old o rights held rest) }
+    requires journal_len { length journal.old ≡ journal_rows }
+    ensures { journal.new ≡ cond took no_entries (entered_rows journal.old o rights held rest) }
 {
     if took {
         clear(journal);
@@ -77,8 +80,8 @@ fn enter_request(
 
 // The reply to a byte string of any length and content; the unit is the state after it.
 pub fn ask(unit: &mut [[u8; 16]], bytes: &[u8]) -> u8
-    requires* { do ⌜ (← ⟦unit.len()⟧) ≡ unitRows ⌝ }
-    ensures { (result ≡ reply bytes.now (stateIn unit.old)) × (unit.new ≡ askedUnit bytes.now unit.old) }
+    requires unit_len { length unit.old ≡ unit_rows }
+    ensures { (result ≡ reply bytes.now (state_in unit.old)) × (unit.new ≡ asked_unit bytes.now unit.old) }
 {
     let o = named(bytes);
     let i = o as usize;
@@ -95,9 +98,9 @@ pub fn ask(unit: &mut [[u8; 16]], bytes: &[u8]) -> u8
 
 // The record of the latest entry is restored, and the entry goes; there is one.
 fn restore(unit: &mut [[u8; 16]])
-    requires* do_value { do ⌜ (← ⟦unit.len()⟧) ≡ unitRows ⌝ }
-    requires nonzero { 0 < entryCount (journalPart unit.old) }
-    ensures { unit.new ≡ restoredUnit unit.old }
+    requires unit_len { length unit.old ≡ unit_rows }
+    requires nonzero { 0 < entry_count (journal_part unit.old) }
+    ensures { unit.new ≡ restored_unit unit.old }
 {
     let k = latest_slot(&unit[unit::ROWS..ROWS]);
     let o = place_in(&unit[unit::ROWS..ROWS], k);
@@ -108,8 +111,8 @@ fn restore(unit: &mut [[u8; 16]])
 
 // Takes back the latest request that is still in the journal; an empty journal leaves every byte.
 pub fn take_back(unit: &mut [[u8; 16]]) -> Decision
-    requires* { do ⌜ (← ⟦unit.len()⟧) ≡ unitRows ⌝ }
-    ensures { (result ≡ takingBack (saidBy unit.old).journal) × (unit.new ≡ takenUnit unit.old) }
+    requires unit_len { length unit.old ≡ unit_rows }
+    ensures { (result ≡ taking_back (said_by unit.old).journal) × (unit.new ≡ taken_unit unit.old) }
 {
     if entry_count(&unit[unit::ROWS..ROWS]) == 0 {
         return Decision::EmptyJournal;

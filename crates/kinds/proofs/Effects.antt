@@ -10,20 +10,20 @@ use Rattle.model.specs.declared.Request.TheVariants.{Get, Release, Give, Rescind
 use Rattle.model.specs.declared.Decision.TheVariants.{Granted, Already}
 use Rattle.model.specs.declared.Monitor.{Monitor}
 use Rattle.model.specs.declared.Response.{Response}
-use Rattle.model.specs.State.{object, heldBy}
+use Rattle.model.specs.State.{object, held_by}
 use Rattle.model.specs.Decisions.{refuses}
 use Rattle.model.specs.Requests.{InRange}
 use Rattle.model.specs.Rules.{target, created, already, changed, afterwards, checks, answer, step}
 use Rattle.model.proofs.Tests.{split, cond-true, cond-false, cond-all}
-use Rattle.unit.specs.Rows.{Rows, rowCount, stateIn}
-use Rattle.unit.specs.Stored.{setHeld, setObject}
+use Rattle.unit.specs.Rows.{Rows, row_count, state_in}
+use Rattle.unit.specs.Stored.{set_held, set_object}
 use Rattle.unit.proofs.Readings.{read_held}
 use Rattle.unit.proofs.Stores.{rights-stored, held-stored, sets-stored, label-stored, companies-stored, object-stored, held-put-back}
 use Rattle.hierarchy.proofs.Rowed.{removed-length}
 use Rattle.hierarchy.proofs.Deleted.{removed-state}
 use Rattle.kinds.specs.Carried.{stores, carried}
 
-pub stored-state : (q : Request) (u : Rows) → length u ≡ rowCount → InRange q → stateIn (stores q u) ≡ afterwards q (stateIn u)
+pub stored-state : (q : Request) (u : Rows) → length u ≡ row_count → InRange q → state_in (stores q u) ≡ afterwards q (state_in u)
 unfolding stores changed
 stored-state (Get s o x) u n r = held-stored u n o r.1 s _
 stored-state (Release s o x) u n r = held-stored u n o r.1 s _
@@ -36,7 +36,7 @@ stored-state (SetCompanies s o k) u n r = companies-stored u n o r.1 k
 
 -- no request changes how many rows there are
 stores-length : (q : Request) (u : Rows) → length (stores q u) ≡ length u
-unfolding stores setObject
+unfolding stores set_object
 stores-length (Get s o x) u = simp length-set
 stores-length (Release s o x) u = simp length-set
 stores-length (Give s t o x) u = simp length-set
@@ -48,11 +48,11 @@ stores-length (SetCompanies s o k) u = simp length-set
 
 pub carried-length : (q : Request) (u : Rows) → length (carried q u) ≡ length u
 unfolding carried
-carried-length q u = cond-all (λ (w : Rows). length w ≡ length u) (refuses (step q (stateIn u)).decision) u (stores q u) (λ e. refl) (λ e. stores-length q u)
+carried-length q u = cond-all (λ (w : Rows). length w ≡ length u) (refuses (step q (state_in u)).decision) u (stores q u) (λ e. refl) (λ e. stores-length q u)
 
 -- an access that is taken back
-pub held_back : (u : Rows) → length u ≡ rowCount → (o : ℕ) → o < 64 → (s k : ℕ) → setHeld (setHeld u o s k) o s (heldBy (object (stateIn u) o) s) ≡ u
-held_back u n o h s k = ap (setHeld (setHeld u o s k) o s) (sym (read_held u o h s)) ∙ held-put-back u n o h s k
+pub held_back : (u : Rows) → length u ≡ row_count → (o : ℕ) → o < 64 → (s k : ℕ) → set_held (set_held u o s k) o s (held_by (object (state_in u) o) s) ≡ u
+held_back u n o h s k = ap (set_held (set_held u o s k) o s) (sym (read_held u o h s)) ∙ held-put-back u n o h s k
 
 -- ---- a step, refused or granted
 
@@ -73,11 +73,11 @@ pub granted : (q : Request) (m : Monitor) → refuses (checks q m) ≡ false →
 granted q m t = ap (λ (x : Response). refuses x.decision) (step-granted q m t) ∙ granted-passes (already q (object m (target q)))
 
 -- the rows after a request say the state after it
-pub carried-state : (q : Request) (u : Rows) → length u ≡ rowCount → InRange q → stateIn (carried q u) ≡ (step q (stateIn u)).monitor
+pub carried-state : (q : Request) (u : Rows) → length u ≡ row_count → InRange q → state_in (carried q u) ≡ (step q (state_in u)).monitor
 unfolding carried
 carried-state q u n r =
-    split (refuses (checks q (stateIn u)))
-    (λ t. let e = step-refused q (stateIn u) t in
-    ap stateIn (cond-true _ u (stores q u) (ap (λ (x : Response). refuses x.decision) e ∙ t)) ∙ ap (λ (x : Response). x.monitor) (sym e))
-    (λ t. let e = step-granted q (stateIn u) t in
-    ap stateIn (cond-false _ u (stores q u) (granted q (stateIn u) t)) ∙ stored-state q u n r ∙ ap (λ (x : Response). x.monitor) (sym e))
+    split (refuses (checks q (state_in u)))
+    (λ t. let e = step-refused q (state_in u) t in
+    ap state_in (cond-true _ u (stores q u) (ap (λ (x : Response). refuses x.decision) e ∙ t)) ∙ ap (λ (x : Response). x.monitor) (sym e))
+    (λ t. let e = step-granted q (state_in u) t in
+    ap state_in (cond-false _ u (stores q u) (granted q (state_in u) t)) ∙ stored-state q u n r ∙ ap (λ (x : Response). x.monitor) (sym e))

@@ -1,9 +1,12 @@
 // Labels and answers. Each function computes the definition that its contract names, for every argument.
+
+#![tactic(auto)]
+
 ghost use Rattle.std.specs.Prelude.{◌≡◌, ◌&&◌};
 ghost use Rattle.model.specs.Tests.{implies, unless};
-ghost use Rattle.model.specs.Levels.{subset, at_least, answered, compare, equalOrAbove, dominates, present, sameLabel};
+ghost use Rattle.model.specs.Levels.{subset, at_least, answered, compare, equal_or_above, dominates, present, same_label};
 ghost use Rattle.model.specs.Decisions.{number, refuses};
-ghost use Rattle.model.specs.Rules.{notLowered};
+ghost use Rattle.model.specs.Rules.{not_lowered};
 
 use model::{Comparison, Decision, Label, Level};
 
@@ -69,7 +72,7 @@ pub fn compare(a: Level, b: Level) -> Comparison
 }
 
 fn equal_or_above(c: Comparison) -> bool
-    ensures { result ≡ equalOrAbove c }
+    ensures { result ≡ equal_or_above c }
 {
     match c {
         Comparison::Equal => true,
@@ -102,7 +105,7 @@ pub fn is_present(l: Label) -> bool
 
 // The label is there and is the level v.
 pub fn is_level(l: Label, v: Level) -> bool
-    ensures { result ≡ sameLabel l (Label.Present v) }
+    ensures { result ≡ same_label l (Label.Present v) }
 {
     match l {
         Label::Absent => false,
@@ -112,7 +115,7 @@ pub fn is_level(l: Label, v: Level) -> bool
 
 // Whether the level may follow the label of an object: it dominates the label, or there is none yet.
 pub fn not_lowered(old: Label, new: Level) -> bool
-    ensures { result ≡ notLowered old (Label.Present new) }
+    ensures { result ≡ not_lowered old (Label.Present new) }
 {
     implies(is_present(old), dominates(Label::Present(new), old))
 }

@@ -22,13 +22,13 @@ coded held = 2
 coded both = 3
 
 -- all that the entries in the row of a mode ask, as such a number
-abbrev pub rowAsks : Mode → ℕ
-rowAsks x = bit_or (bit_or (bit_or (coded (entry x Read)) (coded (entry x Write))) (coded (entry x Append))) (coded (entry x Execute))
+abbrev pub row_asks : Mode → ℕ
+row_asks x = bit_or (bit_or (bit_or (coded (entry x Read)) (coded (entry x Write))) (coded (entry x Append))) (coded (entry x Execute))
 
 -- a mode as a set where its row asks it of the label that k names, 1 or 2, or of one of both, 3; else no mode
-abbrev pub ifAsking : Mode → ℕ → ℕ
-ifAsking x k = cond (eqb (bit_and (rowAsks x) k) 0) 0 (weight x)
+abbrev pub if_asking : Mode → ℕ → ℕ
+if_asking x k = cond (eqb (bit_and (row_asks x) k) 0) 0 (weight x)
 
 -- the modes whose rows ask it
-abbrev pub modesAsking : ℕ → ℕ
-modesAsking k = bit_or (bit_or (bit_or (ifAsking Read k) (ifAsking Write k)) (ifAsking Append k)) (ifAsking Execute k)
+abbrev pub modes_asking : ℕ → ℕ
+modes_asking k = bit_or (bit_or (bit_or (if_asking Read k) (if_asking Write k)) (if_asking Append k)) (if_asking Execute k)

@@ -1,7 +1,10 @@
 // Mode pairs: for each mode held and mode wanted, which label the star property asks to dominate which. The check decides by this table.
+
+#![tactic(auto)]
+
 ghost use Rattle.std.specs.Prelude.{◌≡◌};
-ghost use Rattle.model.specs.Modes.{anyObserves, anyAlters, anyNeedsLabel};
-ghost use Rattle.mode_pairs.specs.Table.{place, coded, rowAsks, ifAsking, modesAsking};
+ghost use Rattle.model.specs.Modes.{any_observes, any_alters, any_needs_label};
+ghost use Rattle.mode_pairs.specs.Table.{place, coded, row_asks, if_asking, modes_asking};
 ghost use Rattle.model.specs.ModePairs.{entry, kept};
 
 use labels::{dominates, implies};
@@ -50,7 +53,7 @@ fn entry(held: Mode, wanted: Mode) -> u8
 
 // All that the entries of a row ask: NEITHER, WANTED, HELD or BOTH.
 fn row_asks(held: Mode) -> u8
-    ensures { result ≡ rowAsks held }
+    ensures { result ≡ row_asks held }
 {
     entry(held, Mode::Read)
         | entry(held, Mode::Write)
@@ -60,7 +63,7 @@ fn row_asks(held: Mode) -> u8
 
 // The mode alone, as a set, where its row asks that this label dominate: WANTED, HELD, or BOTH for one of the two; else no mode.
 fn if_asking(held: Mode, which: u8) -> u8
-    ensures { result ≡ ifAsking held which }
+    ensures { result ≡ if_asking held which }
 {
     if row_asks(held) & which != 0 {
         add(held, 0)
@@ -71,7 +74,7 @@ fn if_asking(held: Mode, which: u8) -> u8
 
 // The modes whose rows ask it.
 fn modes_asking(which: u8) -> u8
-    ensures { result ≡ modesAsking which }
+    ensures { result ≡ modes_asking which }
 {
     if_asking(Mode::Read, which)
         | if_asking(Mode::Write, which)
@@ -81,21 +84,21 @@ fn modes_asking(which: u8) -> u8
 
 // Whether a mode of the set observes: its row asks that the label of the object wanted dominate.
 pub fn table_observes(n: u8) -> bool
-    ensures { result ≡ anyObserves n }
+    ensures { result ≡ any_observes n }
 {
     n & modes_asking(WANTED) != 0
 }
 
 // Whether a mode of the set alters: its row asks that the label of the object held, its own, dominate.
 pub fn table_alters(n: u8) -> bool
-    ensures { result ≡ anyAlters n }
+    ensures { result ≡ any_alters n }
 {
     n & modes_asking(HELD) != 0
 }
 
 // Whether the table asks anything of a mode of the set.
 pub fn table_asks(n: u8) -> bool
-    ensures { result ≡ anyNeedsLabel n }
+    ensures { result ≡ any_needs_label n }
 {
     n & modes_asking(BOTH) != 0
 }

@@ -1,7 +1,10 @@
 // Modes and sets of modes. Each function computes the definition that its contract names, for every argument.
+
+#![tactic(auto)]
+
 ghost use Rattle.std.specs.Prelude.{◌≡◌};
 ghost use Rattle.model.specs.Levels.{subset};
-ghost use Rattle.model.specs.Modes.{weight, has, add, remove, observes, alters, needsLabel, anyObserves, anyAlters, anyNeedsLabel, anyHeld};
+ghost use Rattle.model.specs.Modes.{weight, has, add, remove, observes, alters, needs_label, any_observes, any_alters, any_needs_label, any_held};
 
 use model::Mode;
 
@@ -41,7 +44,7 @@ pub fn alters(x: Mode) -> bool
 }
 
 pub fn needs_label(x: Mode) -> bool
-    ensures { result ≡ needsLabel x }
+    ensures { result ≡ needs_label x }
 {
     match x {
         Mode::Read => true,
@@ -73,28 +76,28 @@ pub fn remove(x: Mode, n: u8) -> u8
 
 // r or w
 pub fn any_observes(n: u8) -> bool
-    ensures { result ≡ anyObserves n }
+    ensures { result ≡ any_observes n }
 {
     n & 12 != 0
 }
 
 // w or a
 pub fn any_alters(n: u8) -> bool
-    ensures { result ≡ anyAlters n }
+    ensures { result ≡ any_alters n }
 {
     n & 6 != 0
 }
 
 // r, w or a
 pub fn any_needs_label(n: u8) -> bool
-    ensures { result ≡ anyNeedsLabel n }
+    ensures { result ≡ any_needs_label n }
 {
     n & 14 != 0
 }
 
 // any of the four
 pub fn any_held(n: u8) -> bool
-    ensures { result ≡ anyHeld n }
+    ensures { result ≡ any_held n }
 {
     n & 15 != 0
 }

@@ -10,28 +10,28 @@ use lib.Seq.{take_at, drop_at, drop-drop, length-take-le}
 use borrow.Author.Tests.{lt-ltb, le-ltb, ltb-true, ltb-false}
 use Rattle.model.specs.declared.Monitor.{Monitor}
 use Rattle.model.specs.declared.Decision.TheVariants.{Granted, ShortBuffer}
-use Rattle.model.specs.Layout.{imageSize, image_of}
-use Rattle.model.specs.Buffers.{tooShort, front, filled, put}
+use Rattle.model.specs.Layout.{image_size, image_of}
+use Rattle.model.specs.Buffers.{too_short, front, filled, put}
 use Rattle.model.specs.Writing.{writing, written}
 use Rattle.model.proofs.Tests.{split, cond-true, cond-false}
 
 -- ---- too short or not
 
 module _ (n : ℕ) (buffer : List ℕ) where
-  pub short-is : length buffer < n → tooShort n buffer ≡ true
-  unfolding tooShort
+  pub short-is : length buffer < n → too_short n buffer ≡ true
+  unfolding too_short
   short-is h = lt-ltb (length buffer) n h
 
-  pub room-is : n ≤ length buffer → tooShort n buffer ≡ false
-  unfolding tooShort
+  pub room-is : n ≤ length buffer → too_short n buffer ≡ false
+  unfolding too_short
   room-is h = le-ltb (length buffer) n h
 
-  pub is-short : tooShort n buffer ≡ true → length buffer < n
-  unfolding tooShort
+  pub is-short : too_short n buffer ≡ true → length buffer < n
+  unfolding too_short
   is-short e = ltb-true (length buffer) n e
 
-  pub has_room : tooShort n buffer ≡ false → n ≤ length buffer
-  unfolding tooShort
+  pub has_room : too_short n buffer ≡ false → n ≤ length buffer
+  unfolding too_short
   has_room e = ltb-false (length buffer) n e
 
 -- ---- new bytes in front
@@ -49,40 +49,40 @@ module _ (n : ℕ) (new buffer : List ℕ) (size : length new ≡ n) where
 module _ (room n : ℕ) (new buffer : List ℕ) where
   -- a refused writing leaves every byte
   pub filled-short : length buffer < room → filled room n new buffer ≡ buffer
-  filled-short h = cond-true (tooShort room buffer) buffer (front n new buffer) (short-is room buffer h)
+  filled-short h = cond-true (too_short room buffer) buffer (front n new buffer) (short-is room buffer h)
 
   pub filled-front : room ≤ length buffer → filled room n new buffer ≡ front n new buffer
-  filled-front h = cond-false (tooShort room buffer) buffer (front n new buffer) (room-is room buffer h)
+  filled-front h = cond-false (too_short room buffer) buffer (front n new buffer) (room-is room buffer h)
 
   -- later bytes are left, whether it was refused or not
   pub filled-later : length new ≡ n → drop n (filled room n new buffer) ≡ drop n buffer
   filled-later size =
-      split (tooShort room buffer)
+      split (too_short room buffer)
       (λ e. ap (drop n) (filled-short (is-short room buffer e)))
       (λ e. ap (drop n) (filled-front (has_room room buffer e)) ∙ front-later n new buffer size)
 
   -- and there are as many bytes as before
   pub filled-length : length new ≡ n → n ≤ room → length (filled room n new buffer) ≡ length buffer
   filled-length size h =
-      split (tooShort room buffer)
+      split (too_short room buffer)
       (λ e. ap length (filled-short (is-short room buffer e)))
       (λ e. ap length (filled-front (has_room room buffer e)) ∙ front_length n new buffer size (omega (arith, h, has_room room buffer e)))
 
 -- ---- the two answers of writing an image
 
-pub writing-short : (m : Monitor) (buffer : List ℕ) → length buffer < imageSize → (ShortBuffer ≡ writing buffer) × (buffer ≡ written m buffer)
+pub writing-short : (m : Monitor) (buffer : List ℕ) → length buffer < image_size → (ShortBuffer ≡ writing buffer) × (buffer ≡ written m buffer)
 unfolding writing written
 writing-short m buffer h = (
-  sym (cond-true (tooShort imageSize buffer) ShortBuffer Granted (short-is imageSize buffer h)),
-  sym (filled-short imageSize imageSize (image_of m) buffer h),
+  sym (cond-true (too_short image_size buffer) ShortBuffer Granted (short-is image_size buffer h)),
+  sym (filled-short image_size image_size (image_of m) buffer h),
 )
 
-pub writing-done : (m : Monitor) (buffer last : List ℕ) → imageSize ≤ length buffer → last ≡ front imageSize (image_of m) buffer
+pub writing-done : (m : Monitor) (buffer last : List ℕ) → image_size ≤ length buffer → last ≡ front image_size (image_of m) buffer
     → (Granted ≡ writing buffer) × (last ≡ written m buffer)
 unfolding writing written
 writing-done m buffer last h e = (
-  sym (cond-false (tooShort imageSize buffer) ShortBuffer Granted (room-is imageSize buffer h)),
-  e ∙ sym (filled-front imageSize imageSize (image_of m) buffer h),
+  sym (cond-false (too_short image_size buffer) ShortBuffer Granted (room-is image_size buffer h)),
+  e ∙ sym (filled-front image_size image_size (image_of m) buffer h),
 )
 
 -- ---- bytes put from a place on

@@ -5,7 +5,7 @@ use mathlib.Core.Path.{◌≡◌, refl}
 use mathlib.Core.Bool.{true, false}
 use mathlib.Core.List.{List, [], ◌∷◌, map}
 use lib.ListN.{take}
-use Rattle.bits.specs.Bits.{odd, to_bits, fromBits, bytesToBits, field, cut}
+use Rattle.bits.specs.Bits.{odd, to_bits, from_bits, bytes_to_bits, field, cut}
 use Rattle.model.specs.declared.Level.{Level}
 use Rattle.model.specs.declared.Label.TheVariants.{Present}
 use Rattle.model.specs.declared.Object.{Object}
@@ -14,10 +14,10 @@ use Rattle.model.specs.declared.Request.TheVariants.{Get, Release, Give, Rescind
 use Rattle.model.specs.declared.Decoded.TheVariants.{Says}
 use Rattle.model.specs.Tests.{implies}
 use Rattle.model.specs.Levels.{need}
-use Rattle.model.specs.State.{widest, noObject, withOwner, withLabel, withCompanies, withParent, withRows}
-use Rattle.model.specs.Requests.{fields, modeAllowed, unusedZero, parentWithin, fieldsFormed, within, wellFormed, request, creation, decodeFields, decode}
-use Rattle.model.specs.Layout.{labelWidth, objectWidth, tableWidth, tableSize, objectsWidth, objectsSize, imageSize, labelBits, setsBits, objectBits}
-use Rattle.model.specs.Reading.{labelFrom, labelForm, objectFrom, objectForm}
+use Rattle.model.specs.State.{widest, no_object, with_owner, with_label, with_companies, with_parent, with_rows}
+use Rattle.model.specs.Requests.{fields, mode_allowed, unused_zero, parent_within, fields_formed, within, well_formed, request, creation, decode_fields, decode}
+use Rattle.model.specs.Layout.{label_width, object_width, table_width, table_size, objects_width, objects_size, image_size, label_bits, sets_bits, object_bits}
+use Rattle.model.specs.Reading.{label_from, label_form, object_from, object_form}
 
 -- ---- requests
 
@@ -25,7 +25,7 @@ use Rattle.model.specs.Reading.{labelFrom, labelForm, objectFrom, objectForm}
 -- 1010 10101 01100 1001101 110 1001 1011001111000101 1110
 pub every-field : fields (0xAA ∷ 0xB2 ∷ 0x6E ∷ 0x9B ∷ 0x3C ∷ 0x5E ∷ [])
     ≡ record { kind = 10; actor = 21; other = 12; object = 77; mode = 6; class = 9; needs = 0xB3C5; spare = 14 }
-unfolding fields field bytesToBits to_bits odd fromBits
+unfolding fields field bytes_to_bits to_bits odd from_bits
 every-field = refl
 
 abbrev level : ℕ → ℕ → Level
@@ -54,7 +54,7 @@ pub every-kind : map (decode widest)
     ∷ ChangeLevel 5 42 (level 11 0x1234)
     ∷ SetCompanies 5 42 0x1234
     ∷ [])
-unfolding decode decodeFields fields field bytesToBits to_bits odd fromBits wellFormed fieldsFormed within modeAllowed unusedZero parentWithin implies request
+unfolding decode decode_fields fields field bytes_to_bits to_bits odd from_bits well_formed fields_formed within mode_allowed unused_zero parent_within implies request
 every-kind = refl
 
 -- "need k weighs 2^k": 8005 has the needs 0, 2 and 15
@@ -65,7 +65,7 @@ need-weights = refl
 -- ---- sizes
 
 -- the numbers that the scope prints, and whole bytes: no bit is lost by a division
-pub every-size : (labelWidth ≡ 21) × (objectWidth ≡ 177) × (tableSize ≡ 42) × (imageSize ≡ 1458) × (tableWidth ≡ 8 * tableSize) × (objectsWidth ≡ 8 * objectsSize)
+pub every-size : (label_width ≡ 21) × (object_width ≡ 177) × (table_size ≡ 42) × (image_size ≡ 1458) × (table_width ≡ 8 * table_size) × (objects_width ≡ 8 * objects_size)
 every-size = (refl, refl, refl, refl, refl, refl)
 
 -- ---- an object record
@@ -74,20 +74,20 @@ every-size = (refl, refl, refl, refl, refl, refl)
 -- 15 has r, a and e and holds e; object 41 is its parent
 abbrev trace : Object
 trace =
-    withOwner (withParent (withRows (withCompanies (withLabel noObject (Present (level 9 0x1234))) 0x50C3)
+    with_owner (with_parent (with_rows (with_companies (with_label no_object (Present (level 9 0x1234))) 0x50C3)
     (12 ∷ 6 ∷ 0 ∷ 0 ∷ 0 ∷ 15 ∷ 0 ∷ 0 ∷ 0 ∷ 0 ∷ 0 ∷ 0 ∷ 0 ∷ 0 ∷ 0 ∷ 11 ∷ [])
     (8 ∷ 2 ∷ 0 ∷ 0 ∷ 0 ∷ 4 ∷ 0 ∷ 0 ∷ 0 ∷ 0 ∷ 0 ∷ 0 ∷ 0 ∷ 0 ∷ 0 ∷ 1 ∷ [])) 42) 5
 
 -- "live 1, owner 4, label present 1, class 4, needs 16", the company numbers "after the needs" in 16, "then for subjects 0 to 15 four right
 -- bits and four access bits, each r, w, a, e": 1 0101 1 1001 0001001000110100, 0101000011000011, then 1100 1000, 0110 0010, three times 0, 1111 0100, nine times 0, 1011 0001, the parent "number plus one", 0101010, and seven bits behind it
-abbrev traceBytes : List ℕ
-traceBytes =
+abbrev trace_bytes : List ℕ
+trace_bytes =
     0xAE ∷ 0x44 ∷ 0x8D ∷ 0x14 ∷ 0x30 ∷ 0xF2 ∷ 0x18 ∷ 0x80 ∷ 0x00 ∷ 0x00 ∷ 0x3D ∷ 0x00 ∷ 0x00 ∷ 0x00 ∷ 0x00 ∷ 0x00 ∷ 0x00 ∷ 0x00 ∷ 0x00 ∷ 0x00 ∷ 0x2C ∷ 0x55 ∷ 0x00 ∷ []
 
-pub record-bits : objectBits trace ≡ take objectWidth (bytesToBits traceBytes)
-unfolding objectBits labelBits setsBits bytesToBits to_bits odd
+pub record-bits : object_bits trace ≡ take object_width (bytes_to_bits trace_bytes)
+unfolding object_bits label_bits sets_bits bytes_to_bits to_bits odd
 record-bits = refl
 
-pub record-read : (objectFrom (take objectWidth (bytesToBits traceBytes)) ≡ trace) × (objectForm (take objectWidth (bytesToBits traceBytes)) ≡ true)
-unfolding objectFrom objectForm labelFrom labelForm bytesToBits to_bits odd fromBits cut
+pub record-read : (object_from (take object_width (bytes_to_bits trace_bytes)) ≡ trace) × (object_form (take object_width (bytes_to_bits trace_bytes)) ≡ true)
+unfolding object_from object_form label_from label_form bytes_to_bits to_bits odd from_bits cut
 record-read = (refl, refl)

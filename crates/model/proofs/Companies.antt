@@ -10,7 +10,7 @@ use borrow.Author.Tests.{eqb-true, eq-eqb}
 use Rattle.model.specs.declared.Mode.{Mode}
 use Rattle.model.specs.Tests.{implies}
 use Rattle.model.specs.Modes.{observes, alters}
-use Rattle.model.specs.Companies.{company, Compatible, Confined, compatible, confined, WallAsks, wallKept}
+use Rattle.model.specs.Companies.{company, Compatible, Confined, compatible, confined, WallAsks, wall_kept}
 use Rattle.model.proofs.Tests.{split, apart, and_left, and_right, and_both, implies-out, implies-in, or_cases, or_left, or_right, below_out, below_in}
 
 -- ---- "four 4-bit company numbers, .. first class highest"
@@ -58,8 +58,8 @@ confined-decides p q =
     )
 
 -- both rules, for two accesses
-pub wall-kept-decides : (x y : Mode) (p q : ℕ) → (wallKept x y p q ≡ true) ↔ WallAsks x y p q
-unfolding wallKept
+pub wall-kept-decides : (x y : Mode) (p q : ℕ) → (wall_kept x y p q ≡ true) ↔ WallAsks x y p q
+unfolding wall_kept
 wall-kept-decides x y p q = (
   λ e.
       let later = and_right (compatible p q) _ e in (

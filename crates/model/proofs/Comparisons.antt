@@ -12,7 +12,7 @@ use Rattle.model.specs.declared.Label.{Label}
 use Rattle.model.specs.declared.Label.TheVariants.{Absent, Present}
 use Rattle.model.specs.declared.Comparison.{Comparison}
 use Rattle.model.specs.declared.Comparison.TheVariants.{Equal, Above, Below, Apart}
-use Rattle.model.specs.Levels.{LevelDominates, subset, at_least, answered, compare, equalOrAbove, levelDominates, dominates}
+use Rattle.model.specs.Levels.{LevelDominates, subset, at_least, answered, compare, equal_or_above, level_dominates, dominates}
 use Rattle.model.proofs.Tests.{split, apart}
 use Rattle.model.proofs.Levels.{answered-first, at-least-decides, at-least-refl, at-least-antisym, level-at-least}
 
@@ -36,18 +36,18 @@ unfolding compare
 compare-mirror a b = answered-mirror (at_least a b) (at_least b a)
 
 -- the test of the other direction
-pub level-back : (a b : Level) → levelDominates b a ≡ equalOrAbove (mirror (compare a b))
-unfolding levelDominates
-level-back a b = ap equalOrAbove (compare-mirror a b)
+pub level-back : (a b : Level) → level_dominates b a ≡ equal_or_above (mirror (compare a b))
+unfolding level_dominates
+level-back a b = ap equal_or_above (compare-mirror a b)
 
-answered-second : (p q : Bool) → equalOrAbove (mirror (answered p q)) ≡ q
-answered-second p q = ap equalOrAbove (sym (answered-mirror p q)) ∙ answered-first q p
+answered-second : (p q : Bool) → equal_or_above (mirror (answered p q)) ≡ q
+answered-second p q = ap equal_or_above (sym (answered-mirror p q)) ∙ answered-first q p
 
 answered-exactly : (p q r s : Bool) → (answered p q ≡ answered r s) ↔ ((p ≡ r) × (q ≡ s))
 answered-exactly p q r s = (
   λ e. (
-    sym (answered-first p q) ∙ ap equalOrAbove e ∙ answered-first r s,
-    sym (answered-second p q) ∙ ap (λ (c : Comparison). equalOrAbove (mirror c)) e ∙ answered-second r s,
+    sym (answered-first p q) ∙ ap equal_or_above e ∙ answered-first r s,
+    sym (answered-second p q) ∙ ap (λ (c : Comparison). equal_or_above (mirror c)) e ∙ answered-second r s,
   ),
   λ e. ap₂ answered e.0 e.1,
 )
@@ -99,23 +99,23 @@ module _ (a b : Level) where
 -- ---- "Every check that uses the comparison follows the new meaning"
 
 -- of two levels the test behind the checks passes exactly where the answer is equal or above
-pub dominates-by-answer : (a b : Level) → dominates (Present a) (Present b) ≡ equalOrAbove (compare a b)
-unfolding dominates levelDominates
+pub dominates-by-answer : (a b : Level) → dominates (Present a) (Present b) ≡ equal_or_above (compare a b)
+unfolding dominates level_dominates
 dominates-by-answer a b = refl
 
 -- ---- "Replies don't move"
 
 -- the tests as they stood before there were four answers
-abbrev levelBefore : Level → Level → Bool
-levelBefore a b = leb b.class a.class && subset 16 b.needs a.needs
+abbrev level_before : Level → Level → Bool
+level_before a b = leb b.class a.class && subset 16 b.needs a.needs
 
-abbrev dominatesBefore : Label → Label → Bool
-dominatesBefore Absent b = false
-dominatesBefore (Present a) Absent = false
-dominatesBefore (Present a) (Present b) = levelBefore a b
+abbrev dominates_before : Label → Label → Bool
+dominates_before Absent b = false
+dominates_before (Present a) Absent = false
+dominates_before (Present a) (Present b) = level_before a b
 
 -- the test behind the checks says of all labels what it said then
-pub dominates-as-before : (a b : Label) → dominates a b ≡ dominatesBefore a b
+pub dominates-as-before : (a b : Label) → dominates a b ≡ dominates_before a b
 unfolding dominates
 dominates-as-before Absent b = refl
 dominates-as-before (Present a) Absent = refl

@@ -12,7 +12,7 @@ use Rattle.model.specs.declared.Object.{Object}
 use Rattle.model.specs.declared.Monitor.{Monitor}
 use Rattle.model.specs.declared.Mode.{Mode}
 use Rattle.model.specs.Modes.{has}
-use Rattle.model.specs.State.{nobody, noObject, clearance, object, rightsOf, heldBy, withRights, withHeld, withLabel, withCompanies, withObject, WellFormedObject, WellFormed}
+use Rattle.model.specs.State.{nobody, no_object, clearance, object, rights_of, held_by, with_rights, with_held, with_label, with_companies, with_object, WellFormedObject, WellFormed}
 use Rattle.model.proofs.Modes.{modes-ext}
 
 -- ---- field by field
@@ -34,42 +34,42 @@ row-ext a b p q u v h = ext_get_or 0 a b (p ∙ sym q) (λ s l. modes-ext _ _ (u
 
 pub object-same : {k l : List Subject} (a b : Object) → WellFormedObject k a → WellFormedObject l b
     → a.live ≡ b.live → a.owner ≡ b.owner → a.parent ≡ b.parent → a.label ≡ b.label → a.companies ≡ b.companies
-    → ((s : ℕ) → s < 16 → (x : Mode) → has x (rightsOf a s) ≡ has x (rightsOf b s))
-    → ((s : ℕ) → s < 16 → (x : Mode) → has x (heldBy a s) ≡ has x (heldBy b s)) → a ≡ b
+    → ((s : ℕ) → s < 16 → (x : Mode) → has x (rights_of a s) ≡ has x (rights_of b s))
+    → ((s : ℕ) → s < 16 → (x : Mode) → has x (held_by a s) ≡ has x (held_by b s)) → a ≡ b
 object-same a b F G live owner parent label companies rights held =
     object-ext a b live owner label companies
-    (row-ext a.rights b.rights F.shape.rights-length G.shape.rights-length F.shape.rights-fit G.shape.rights-fit rights)
-    (row-ext a.held b.held F.shape.held-length G.shape.held-length F.shape.held-fit G.shape.held-fit held)
+    (row-ext a.rights b.rights F.shape.rights_length G.shape.rights_length F.shape.rights-fit G.shape.rights-fit rights)
+    (row-ext a.held b.held F.shape.held_length G.shape.held_length F.shape.held_fit G.shape.held_fit held)
     parent
 
 pub state-same : (m n : Monitor) → WellFormed m → WellFormed n → m.profile ≡ n.profile
     → ((s : ℕ) → s < 16 → clearance m s ≡ clearance n s) → ((o : ℕ) → o < 64 → object m o ≡ object n o) → m ≡ n
 state-same m n M N profile clearances objects =
     monitor-ext m n profile
-    (ext_get_or nobody m.subjects n.subjects (M.subjects-length ∙ sym N.subjects-length)
-    (λ s h. ap (λ (l : Label). record { clearance = l }) (clearances s (omega (arith, M.subjects-length)))))
-    (ext_get_or noObject m.objects n.objects (M.objects-length ∙ sym N.objects-length) (λ o h. objects o (omega (arith, M.objects-length))))
+    (ext_get_or nobody m.subjects n.subjects (M.subjects_length ∙ sym N.subjects_length)
+    (λ s h. ap (λ (l : Label). record { clearance = l }) (clearances s (omega (arith, M.subjects_length)))))
+    (ext_get_or no_object m.objects n.objects (M.objects-length ∙ sym N.objects-length) (λ o h. objects o (omega (arith, M.objects-length))))
 
 -- ---- a store of what stood there
 
-pub with-rights-same : (ob : Object) (s n : ℕ) → n ≡ rightsOf ob s → withRights ob s n ≡ ob
+pub with-rights-same : (ob : Object) (s n : ℕ) → n ≡ rights_of ob s → with_rights ob s n ≡ ob
 with-rights-same ob s n e =
-    object-ext (withRights ob s n) ob refl refl refl refl (ap (λ (k : ℕ). set ob.rights s k) e ∙ set-get_or ob.rights s 0) refl refl
+    object-ext (with_rights ob s n) ob refl refl refl refl (ap (λ (k : ℕ). set ob.rights s k) e ∙ set-get_or ob.rights s 0) refl refl
 
-pub with-held-same : (ob : Object) (s n : ℕ) → n ≡ heldBy ob s → withHeld ob s n ≡ ob
+pub with-held-same : (ob : Object) (s n : ℕ) → n ≡ held_by ob s → with_held ob s n ≡ ob
 with-held-same ob s n e =
-    object-ext (withHeld ob s n) ob refl refl refl refl refl (ap (λ (k : ℕ). set ob.held s k) e ∙ set-get_or ob.held s 0) refl
+    object-ext (with_held ob s n) ob refl refl refl refl refl (ap (λ (k : ℕ). set ob.held s k) e ∙ set-get_or ob.held s 0) refl
 
-pub with-label-same : (ob : Object) (l : Label) → l ≡ ob.label → withLabel ob l ≡ ob
-with-label-same ob l e = object-ext (withLabel ob l) ob refl refl e refl refl refl refl
+pub with-label-same : (ob : Object) (l : Label) → l ≡ ob.label → with_label ob l ≡ ob
+with-label-same ob l e = object-ext (with_label ob l) ob refl refl e refl refl refl refl
 
-pub with-companies-same : (ob : Object) (n : ℕ) → n ≡ ob.companies → withCompanies ob n ≡ ob
-with-companies-same ob n e = object-ext (withCompanies ob n) ob refl refl refl e refl refl refl
+pub with-companies-same : (ob : Object) (n : ℕ) → n ≡ ob.companies → with_companies ob n ≡ ob
+with-companies-same ob n e = object-ext (with_companies ob n) ob refl refl refl e refl refl refl
 
-pub with-object-same : (m : Monitor) (o : ℕ) (ob : Object) → ob ≡ object m o → withObject m o ob ≡ m
+pub with-object-same : (m : Monitor) (o : ℕ) (ob : Object) → ob ≡ object m o → with_object m o ob ≡ m
 with-object-same m o ob e =
-    monitor-ext (withObject m o ob) m refl refl (ap (λ (k : Object). set m.objects o k) e ∙ set-get_or m.objects o noObject)
+    monitor-ext (with_object m o ob) m refl refl (ap (λ (k : Object). set m.objects o k) e ∙ set-get_or m.objects o no_object)
 
 -- what was stored in place of a record, and the record put back
-pub with-object-back : (m : Monitor) (o : ℕ) (ob : Object) → withObject (withObject m o ob) o (object m o) ≡ m
-with-object-back m o ob = monitor-ext _ m refl refl (set-set m.objects o ob (object m o) ∙ set-get_or m.objects o noObject)
+pub with-object-back : (m : Monitor) (o : ℕ) (ob : Object) → with_object (with_object m o ob) o (object m o) ≡ m
+with-object-back m o ob = monitor-ext _ m refl refl (set-set m.objects o ob (object m o) ∙ set-get_or m.objects o no_object)

@@ -13,7 +13,7 @@ use Rattle.bits.specs.Bits.{odd}
 use Rattle.model.specs.declared.Level.{Level}
 use Rattle.model.specs.declared.Label.{Label}
 use Rattle.model.specs.declared.Label.TheVariants.{Absent, Present}
-use Rattle.model.specs.Levels.{need, LevelDominates, Dominates, subset, at_least, answered, compare, equalOrAbove, levelDominates, dominates, present, sameLabel}
+use Rattle.model.specs.Levels.{need, LevelDominates, Dominates, subset, at_least, answered, compare, equal_or_above, level_dominates, dominates, present, same_label}
 use Rattle.model.proofs.Tests.{and_left, and_right, and_both, clash}
 
 -- ---- the test over needs
@@ -66,17 +66,17 @@ at-least-decides a b = (
 )
 
 -- of the two tests that an answer is made of, equal or above tells the first
-pub answered-first : (p q : Bool) → equalOrAbove (answered p q) ≡ p
+pub answered-first : (p q : Bool) → equal_or_above (answered p q) ≡ p
 answered-first true true = refl
 answered-first true false = refl
 answered-first false true = refl
 answered-first false false = refl
 
-pub level-at-least : (a b : Level) → levelDominates a b ≡ at_least a b
-unfolding levelDominates compare
+pub level-at-least : (a b : Level) → level_dominates a b ≡ at_least a b
+unfolding level_dominates compare
 level-at-least a b = answered-first (at_least a b) (at_least b a)
 
-pub level-decides : (a b : Level) → (levelDominates a b ≡ true) ↔ LevelDominates a b
+pub level-decides : (a b : Level) → (level_dominates a b ≡ true) ↔ LevelDominates a b
 level-decides a b = (
   λ e. (at-least-decides a b).0 (sym (level-at-least a b) ∙ e),
   λ d. level-at-least a b ∙ (at-least-decides a b).1 d,
@@ -98,7 +98,7 @@ subset-refl (suc k) n = and_both (le-leb (n % 2) (n % 2) (omega arith)) (subset-
 pub at-least-refl : (a : Level) → at_least a a ≡ true
 at-least-refl a = and_both (le-leb a.class a.class (omega arith)) (subset-refl 16 a.needs)
 
-pub level-refl : (a : Level) → levelDominates a a ≡ true
+pub level-refl : (a : Level) → level_dominates a a ≡ true
 level-refl a = level-at-least a a ∙ at-least-refl a
 
 -- what dominates is there, and what is there dominates itself
@@ -142,8 +142,8 @@ at-least-antisym a b p q e f =
 
 -- ---- the test of sameness decides equality
 
-pub same-label : (a b : Label) → sameLabel a b ≡ true → a ≡ b
-unfolding sameLabel
+pub same-label : (a b : Label) → same_label a b ≡ true → a ≡ b
+unfolding same_label
 same-label Absent Absent e = refl
 same-label Absent (Present b) e = clash (sym e)
 same-label (Present a) Absent e = clash (sym e)
@@ -152,13 +152,13 @@ same-label (Present a) (Present b) e =
     let q : a.needs ≡ b.needs = eqb-true _ _ (and_right (eqb a.class b.class) _ e) in
     λ i. Present (record { class = p i; needs = q i })
 
-itself : (a : Label) → sameLabel a a ≡ true
-unfolding sameLabel
+itself : (a : Label) → same_label a a ≡ true
+unfolding same_label
 itself Absent = refl
 itself (Present a) = and_both (eq-eqb a.class a.class refl) (eq-eqb a.needs a.needs refl)
 
-pub label_same : (a b : Label) → a ≡ b → sameLabel a b ≡ true
-label_same a b e = subst (λ (c : Label). sameLabel a c ≡ true) e (itself a)
+pub label_same : (a b : Label) → a ≡ b → same_label a b ≡ true
+label_same a b e = subst (λ (c : Label). same_label a c ≡ true) e (itself a)
 
 -- what is not there is absent
 pub absent : (l : Label) → present l ≡ false → l ≡ Absent

@@ -9,12 +9,12 @@ use Rattle.model.specs.declared.Mode.{Mode}
 use Rattle.model.specs.declared.Mode.TheVariants.{Read, Write, Append, Execute}
 use Rattle.model.specs.declared.Monitor.{Monitor}
 use Rattle.model.specs.Tests.{implies}
-use Rattle.model.specs.Levels.{Dominates, compare, levelDominates, dominates}
-use Rattle.model.specs.Modes.{observes, alters, needsLabel}
+use Rattle.model.specs.Levels.{Dominates, compare, level_dominates, dominates}
+use Rattle.model.specs.Modes.{observes, alters, needs_label}
 use Rattle.model.specs.Properties.{Star}
-use Rattle.model.specs.ModePairs.{Asked, neither, wanted, held, both, entry, Kept, StarAsks, Tabled, asksWanted, asksHeld, kept}
+use Rattle.model.specs.ModePairs.{Asked, neither, wanted, held, both, entry, Kept, StarAsks, Tabled, asks_wanted, asks_held, kept}
 use Rattle.model.proofs.Tests.{split, apart, clash, and_left, and_right, and_both, or_left, or_right, implies-in, implies-out, same_bool}
-use Rattle.model.proofs.Modes.{allModes, modes-out}
+use Rattle.model.proofs.Modes.{all_modes, modes-out}
 use Rattle.model.proofs.Levels.{dominates-decides, dominates-refl}
 
 -- ---- what each word asks
@@ -27,15 +27,15 @@ abbrev high : Label
 high = Present (record { class = 1; needs = 0 })
 
 high-low : Dominates high low
-unfolding dominates levelDominates compare
+unfolding dominates level_dominates compare
 high-low = (dominates-decides high low).0 refl
 
 low-low : Dominates low low
-unfolding dominates levelDominates compare
+unfolding dominates level_dominates compare
 low-low = (dominates-decides low low).0 refl
 
 low-high : {P : Type 0} → Dominates low high → P
-unfolding dominates levelDominates compare
+unfolding dominates level_dominates compare
 low-high d = apart ((dominates-decides low high).1 d) refl
 
 -- computed: an object held that is labelled above the one wanted, the other way, and both alike
@@ -48,21 +48,21 @@ each_word = (tt, tt, high-low, low-high, high-low, low-high, (low-low, low-low),
 -- ---- each entry
 
 -- a test at each two modes
-pub pairs-out : (f : Mode → Mode → Bool) → allModes (λ x. allModes (f x)) ≡ true → (x y : Mode) → f x y ≡ true
-pairs-out f e x y = modes-out (f x) (modes-out (λ x. allModes (f x)) e x) y
+pub pairs-out : (f : Mode → Mode → Bool) → all_modes (λ x. all_modes (f x)) ≡ true → (x y : Mode) → f x y ≡ true
+pairs-out f e x y = modes-out (f x) (modes-out (λ x. all_modes (f x)) e x) y
 
 -- the test over the sixteen entries: the label wanted where the mode held observes and the one wanted alters, the label held the other way
-abbrev asStar : Mode → Mode → Bool
-asStar x y = beq (asksWanted (entry x y)) (observes x && alters y) && beq (asksHeld (entry x y)) (observes y && alters x)
+abbrev as_star : Mode → Mode → Bool
+as_star x y = beq (asks_wanted (entry x y)) (observes x && alters y) && beq (asks_held (entry x y)) (observes y && alters x)
 
-sixteen : allModes (λ x. allModes (asStar x)) ≡ true
+sixteen : all_modes (λ x. all_modes (as_star x)) ≡ true
 sixteen = refl
 
-pub asks-wanted : (x y : Mode) → asksWanted (entry x y) ≡ (observes x && alters y)
-asks-wanted x y = same_bool _ _ (and_left (beq (asksWanted (entry x y)) (observes x && alters y)) _ (pairs-out asStar sixteen x y))
+pub asks-wanted : (x y : Mode) → asks_wanted (entry x y) ≡ (observes x && alters y)
+asks-wanted x y = same_bool _ _ (and_left (beq (asks_wanted (entry x y)) (observes x && alters y)) _ (pairs-out as_star sixteen x y))
 
-pub asks-held : (x y : Mode) → asksHeld (entry x y) ≡ (observes y && alters x)
-asks-held x y = same_bool _ _ (and_right (beq (asksWanted (entry x y)) (observes x && alters y)) _ (pairs-out asStar sixteen x y))
+pub asks-held : (x y : Mode) → asks_held (entry x y) ≡ (observes y && alters x)
+asks-held x y = same_bool _ _ (and_right (beq (asks_wanted (entry x y)) (observes x && alters y)) _ (pairs-out as_star sixteen x y))
 
 -- some mode passes the test
 abbrev some : (Mode → Bool) → Bool
@@ -70,14 +70,14 @@ some f = f Read || (f Write || (f Append || f Execute))
 
 -- a mode observes where an entry of its row asks that the label of the object wanted dominate, and alters where one asks it of that of
 -- its own object, which is held
-pub row-observes : (x : Mode) → some (λ y. asksWanted (entry x y)) ≡ observes x
-row-observes x = same_bool _ _ (modes-out (λ x. beq (some (λ y. asksWanted (entry x y))) (observes x)) refl x)
+pub row-observes : (x : Mode) → some (λ y. asks_wanted (entry x y)) ≡ observes x
+row-observes x = same_bool _ _ (modes-out (λ x. beq (some (λ y. asks_wanted (entry x y))) (observes x)) refl x)
 
-pub row-alters : (x : Mode) → some (λ y. asksHeld (entry x y)) ≡ alters x
-row-alters x = same_bool _ _ (modes-out (λ x. beq (some (λ y. asksHeld (entry x y))) (alters x)) refl x)
+pub row-alters : (x : Mode) → some (λ y. asks_held (entry x y)) ≡ alters x
+row-alters x = same_bool _ _ (modes-out (λ x. beq (some (λ y. asks_held (entry x y))) (alters x)) refl x)
 
 -- what an entry asks, by the two tests
-pub kept_by : (a : Asked) (p q : Label) → Kept a p q ↔ ((asksWanted a ≡ true → Dominates q p) × (asksHeld a ≡ true → Dominates p q))
+pub kept_by : (a : Asked) (p q : Label) → Kept a p q ↔ ((asks_wanted a ≡ true → Dominates q p) × (asks_held a ≡ true → Dominates p q))
 kept_by neither p q = (λ k. (λ e. clash (sym e), λ e. clash (sym e)), λ h. tt)
 kept_by wanted p q = (λ k. (λ e. k, λ e. clash (sym e)), λ h. h.0 refl)
 kept_by held p q = (λ k. (λ e. clash (sym e), λ e. k), λ h. h.1 refl)
@@ -89,8 +89,8 @@ unfolding kept
 kept-decides a p q =
     let b = kept_by a p q in (
       λ e. b.1 (
-        λ w. (dominates-decides q p).0 (implies-out _ _ (and_left (implies (asksWanted a) (dominates q p)) _ e) w),
-        λ w. (dominates-decides p q).0 (implies-out _ _ (and_right (implies (asksWanted a) (dominates q p)) _ e) w),
+        λ w. (dominates-decides q p).0 (implies-out _ _ (and_left (implies (asks_wanted a) (dominates q p)) _ e) w),
+        λ w. (dominates-decides p q).0 (implies-out _ _ (and_right (implies (asks_wanted a) (dominates q p)) _ e) w),
       ),
       λ k. and_both (implies-in _ _ (λ w. (dominates-decides q p).1 ((b.0 k).0 w))) (implies-in _ _ (λ w. (dominates-decides p q).1 ((b.0 k).1 w))),
     )
@@ -110,16 +110,16 @@ entry-star x y p q =
 -- ---- and no other table has this
 
 -- by these two an entry is known
-wanted-shown : (a : Asked) → Kept a high low → asksWanted a ≡ false
-wanted-shown a k = split (asksWanted a) (λ e. low-high (((kept_by a high low).0 k).0 e)) (λ e. e)
+wanted-shown : (a : Asked) → Kept a high low → asks_wanted a ≡ false
+wanted-shown a k = split (asks_wanted a) (λ e. low-high (((kept_by a high low).0 k).0 e)) (λ e. e)
 
-shown-wanted : (a : Asked) → asksWanted a ≡ false → Kept a high low
+shown-wanted : (a : Asked) → asks_wanted a ≡ false → Kept a high low
 shown-wanted a f = (kept_by a high low).1 (λ e. apart e f, λ e. high-low)
 
-held-shown : (a : Asked) → Kept a low high → asksHeld a ≡ false
-held-shown a k = split (asksHeld a) (λ e. low-high (((kept_by a low high).0 k).1 e)) (λ e. e)
+held-shown : (a : Asked) → Kept a low high → asks_held a ≡ false
+held-shown a k = split (asks_held a) (λ e. low-high (((kept_by a low high).0 k).1 e)) (λ e. e)
 
-shown-held : (a : Asked) → asksHeld a ≡ false → Kept a low high
+shown-held : (a : Asked) → asks_held a ≡ false → Kept a low high
 shown-held a f = (kept_by a low high).1 (λ e. high-low, λ e. apart e f)
 
 abbrev asked : Bool → Bool → Asked
@@ -128,7 +128,7 @@ asked true false = wanted
 asked false true = held
 asked false false = neither
 
-asked-back : (a : Asked) → asked (asksWanted a) (asksHeld a) ≡ a
+asked-back : (a : Asked) → asked (asks_wanted a) (asks_held a) ≡ a
 asked-back neither = refl
 asked-back wanted = refl
 asked-back held = refl
@@ -141,9 +141,9 @@ off-same false b f g = sym (f refl)
 -- two entries that ask the same of all labels are one
 pub same_asked : (a b : Asked) → ((p q : Label) → Kept a p q ↔ Kept b p q) → a ≡ b
 same_asked a b h =
-    let w : asksWanted a ≡ asksWanted b =
+    let w : asks_wanted a ≡ asks_wanted b =
     off-same _ _ (λ e. wanted-shown b ((h high low).0 (shown-wanted a e))) (λ e. wanted-shown a ((h high low).1 (shown-wanted b e))) in
-    let u : asksHeld a ≡ asksHeld b =
+    let u : asks_held a ≡ asks_held b =
     off-same _ _ (λ e. held-shown b ((h low high).0 (shown-held a e))) (λ e. held-shown a ((h low high).1 (shown-held b e))) in
     sym (asked-back a) ∙ ap₂ asked w u ∙ asked-back b
 
@@ -158,7 +158,7 @@ pub turned : (x y : Mode) (p q : Label) → Kept (entry x y) p q → Kept (entry
 turned x y p q k = let d = (entry-star x y p q).0 k in (entry-star y x q p).1 (d.1, d.0)
 
 -- two accesses to one object, labelled where one of them needs it, ask nothing
-pub same_object : (x y : Mode) (l : Label) → (needsLabel x ≡ true → l ≢ Absent) → Kept (entry x y) l l
+pub same_object : (x y : Mode) (l : Label) → (needs_label x ≡ true → l ≢ Absent) → Kept (entry x y) l l
 same_object x y l h =
     (entry-star x y l l).1 (λ o a. dominates-refl l (h (or_left (observes x) (alters x) o)), λ o a. dominates-refl l (h (or_right (observes x) (alters x) a)))
 

@@ -17,32 +17,32 @@ use Rattle.model.specs.declared.Request.{Request}
 use Rattle.model.specs.declared.Request.TheVariants.{Get, Release, Give, Rescind, Create, Delete, ChangeLevel, SetCompanies}
 use Rattle.model.specs.declared.Decoded.{Decoded}
 use Rattle.model.specs.declared.Decoded.TheVariants.{Malformed, Says}
-use Rattle.model.specs.Requests.{requestSize, fields, modeNumber, mode_of, modeAllowed, unusedZero, parentWithin, fieldsFormed, wellFormed, request, creation, decodeFields, decode, fields_of, pack, encode, InRange, Within}
+use Rattle.model.specs.Requests.{request_size, fields, mode_number, mode_of, mode_allowed, unused_zero, parent_within, fields_formed, well_formed, request, creation, decode_fields, decode, fields_of, pack, encode, InRange, Within}
 use Rattle.model.proofs.Tests.{and_left, and_right, and_both, or_cases, split, clash, apart, cond-true, cond-false, cond-all}
-use Rattle.model.proofs.Within.{formed-of, within_of, well-formed, parent-within, within-parent, request-within, fieldsOf-within}
+use Rattle.model.proofs.Within.{formed-of, within_of, well-formed, parent-within, within-parent, request-within, fields_of-within}
 use Rattle.model.proofs.Packing.{FieldsFit, fields_fit, pack-length, fields-packed, packed-fields}
 
 -- ---- what a request says, and back
 
-mode-back : (x : Mode) → mode_of (modeNumber x) ≡ x
+mode-back : (x : Mode) → mode_of (mode_number x) ≡ x
 mode-back Read = refl
 mode-back Write = refl
 mode-back Append = refl
 mode-back Execute = refl
 
-mode-moded : (x : Mode) → (leb 1 (modeNumber x) && leb (modeNumber x) 4) ≡ true
+mode-moded : (x : Mode) → (leb 1 (mode_number x) && leb (mode_number x) 4) ≡ true
 mode-moded Read = refl
 mode-moded Write = refl
 mode-moded Append = refl
 mode-moded Execute = refl
 
-mode-below : (x : Mode) → modeNumber x < 2 ^ 3
+mode-below : (x : Mode) → mode_number x < 2 ^ 3
 mode-below Read = omega arith
 mode-below Write = omega arith
 mode-below Append = omega arith
 mode-below Execute = omega arith
 
-mode-number : (x : ℕ) → (leb 1 x && leb x 4) ≡ true → modeNumber (mode_of x) ≡ x
+mode-number : (x : ℕ) → (leb 1 x && leb x 4) ≡ true → mode_number (mode_of x) ≡ x
 mode-number zero e = clash (sym e)
 mode-number (suc zero) e = refl
 mode-number (suc (suc zero)) e = refl
@@ -57,17 +57,17 @@ create-number x e =
     (λ q. let z : x ≡ 4 = eqb-true x 4 q in ap (λ (y : ℕ). cond (eqb y 4) 4 0) z ∙ sym z)
 
 -- the parts of the test of the fields
-module _ (f : Fields) (e : fieldsFormed f ≡ true) where
+module _ (f : Fields) (e : fields_formed f ≡ true) where
   pub in-kinds : (leb 1 f.kind && leb f.kind 8) ≡ true
-  unfolding fieldsFormed
+  unfolding fields_formed
   in-kinds = and_left (leb 1 f.kind && leb f.kind 8) _ e
 
   pub actor-in : f.actor < 16
-  unfolding fieldsFormed
+  unfolding fields_formed
   actor-in = ltb-true _ _ (and_left (ltb f.actor 16) _ (and_right (leb 1 f.kind && leb f.kind 8) _ e))
 
-  after-actor : (ltb f.other 16 && (ltb f.object 64 && (parentWithin 64 f && (modeAllowed f.kind f.mode && unusedZero f)))) ≡ true
-  unfolding fieldsFormed
+  after-actor : (ltb f.other 16 && (ltb f.object 64 && (parent_within 64 f && (mode_allowed f.kind f.mode && unused_zero f)))) ≡ true
+  unfolding fields_formed
   after-actor = and_right (ltb f.actor 16) _ (and_right (leb 1 f.kind && leb f.kind 8) _ e)
 
   pub other-in : f.other < 16
@@ -76,37 +76,37 @@ module _ (f : Fields) (e : fieldsFormed f ≡ true) where
   pub object-in : f.object < 64
   object-in = ltb-true _ _ (and_left (ltb f.object 64) _ (and_right (ltb f.other 16) _ after-actor))
 
-  pub last-two : (modeAllowed f.kind f.mode && unusedZero f) ≡ true
-  last-two = and_right (parentWithin 64 f) _ (and_right (ltb f.object 64) _ (and_right (ltb f.other 16) _ after-actor))
+  pub last-two : (mode_allowed f.kind f.mode && unused_zero f) ≡ true
+  last-two = and_right (parent_within 64 f) _ (and_right (ltb f.object 64) _ (and_right (ltb f.other 16) _ after-actor))
 
   pub parent_in : eqb f.kind 5 ≡ true → f.needs ≤ 64
-  parent_in = parent-within 64 f (and_left (parentWithin 64 f) _ (and_right (ltb f.object 64) _ (and_right (ltb f.other 16) _ after-actor)))
+  parent_in = parent-within 64 f (and_left (parent_within 64 f) _ (and_right (ltb f.object 64) _ (and_right (ltb f.other 16) _ after-actor)))
 
 -- the parts of the test of unused fields, where its kind is known
 module _ (k a t o x c n z : ℕ) where
   abbrev it : Fields
   it = record { kind = k; actor = a; other = t; object = o; mode = x; class = c; needs = n; spare = z }
 
-  spare-zero : unusedZero it ≡ true → z ≡ 0
-  unfolding unusedZero
+  spare-zero : unused_zero it ≡ true → z ≡ 0
+  unfolding unused_zero
   spare-zero e =
       eqb-true z 0
       (and_right (eqb k 5 || (eqb k 7 || (eqb k 8 || eqb n 0))) (eqb z 0) (and_right (eqb k 7 || eqb c 0) _ (and_right (eqb k 3 || (eqb k 4 || eqb t 0)) _ e)))
 
-  other-zero : eqb k 3 ≡ false → eqb k 4 ≡ false → unusedZero it ≡ true → t ≡ 0
-  unfolding unusedZero
+  other-zero : eqb k 3 ≡ false → eqb k 4 ≡ false → unused_zero it ≡ true → t ≡ 0
+  unfolding unused_zero
   other-zero p q e =
       or_cases (eqb k 3) (eqb k 4 || eqb t 0) (and_left (eqb k 3 || (eqb k 4 || eqb t 0)) _ e) (λ w. apart w p)
       (λ w. or_cases (eqb k 4) (eqb t 0) w (λ v. apart v q) (λ v. eqb-true t 0 v))
 
-  class-zero : eqb k 7 ≡ false → unusedZero it ≡ true → c ≡ 0
-  unfolding unusedZero
+  class-zero : eqb k 7 ≡ false → unused_zero it ≡ true → c ≡ 0
+  unfolding unused_zero
   class-zero p e =
       or_cases (eqb k 7) (eqb c 0) (and_left (eqb k 7 || eqb c 0) _ (and_right (eqb k 3 || (eqb k 4 || eqb t 0)) _ e))
       (λ w. apart w p) (λ w. eqb-true c 0 w)
 
-  needs-zero : eqb k 5 ≡ false → eqb k 7 ≡ false → eqb k 8 ≡ false → unusedZero it ≡ true → n ≡ 0
-  unfolding unusedZero
+  needs-zero : eqb k 5 ≡ false → eqb k 7 ≡ false → eqb k 8 ≡ false → unused_zero it ≡ true → n ≡ 0
+  unfolding unused_zero
   needs-zero j p q e =
       or_cases (eqb k 5) (eqb k 7 || (eqb k 8 || eqb n 0))
       (and_left (eqb k 5 || (eqb k 7 || (eqb k 8 || eqb n 0))) _ (and_right (eqb k 7 || eqb c 0) _ (and_right (eqb k 3 || (eqb k 4 || eqb t 0)) _ e)))
@@ -114,7 +114,7 @@ module _ (k a t o x c n z : ℕ) where
       (λ v. or_cases (eqb k 8) (eqb n 0) v (λ g. apart g q) (λ g. eqb-true n 0 g)))
 
   -- of a kind that has no level, where d is what its needs field holds
-  plain_back : (u y d : ℕ) → eqb k 7 ≡ false → unusedZero it ≡ true → u ≡ t → y ≡ x → d ≡ n
+  plain_back : (u y d : ℕ) → eqb k 7 ≡ false → unused_zero it ≡ true → u ≡ t → y ≡ x → d ≡ n
       → ◌≡◌ {A = Fields} (record { kind = k; actor = a; other = u; object = o; mode = y; class = 0; needs = d; spare = 0 }) it
   plain_back u y d e h p q s =
       let r = sym (class-zero e h) in
@@ -125,9 +125,9 @@ beyond-eight : {P : Type 0} (k : ℕ) → (leb 1 k && leb k 8) ≡ true → 8 < 
 beyond-eight k h g = absurd (omega (arith, g, leb-true k 8 (and_right (leb 1 k) (leb k 8) h)))
 
 -- the fields of the request that well-formed fields say
-request-fields : (k a t o x c n z : ℕ) → (leb 1 k && leb k 8) ≡ true → modeAllowed k x ≡ true → unusedZero (it k a t o x c n z) ≡ true
+request-fields : (k a t o x c n z : ℕ) → (leb 1 k && leb k 8) ≡ true → mode_allowed k x ≡ true → unused_zero (it k a t o x c n z) ≡ true
     → fields_of (request (it k a t o x c n z)) ≡ it k a t o x c n z
-unfolding request modeAllowed
+unfolding request mode_allowed
 request-fields zero a t o x c n z h m u = clash (sym h)
 request-fields (suc zero) a t o x c n z h m u =
     plain_back 1 a t o x c n z 0 _ 0 refl u (sym (other-zero 1 a t o x c n z refl refl u)) (mode-number x m) (sym (needs-zero 1 a t o x c n z refl refl refl u))
@@ -152,7 +152,7 @@ request-fields (suc (suc (suc (suc (suc (suc (suc (suc (suc k))))))))) a t o x c
     beyond-eight (suc (suc (suc (suc (suc (suc (suc (suc (suc k))))))))) h (omega arith)
 
 -- what the fields say is in range
-request-in : (f : Fields) → FieldsFit f → fieldsFormed f ≡ true → InRange (request f)
+request-in : (f : Fields) → FieldsFit f → fields_formed f ≡ true → InRange (request f)
 unfolding request
 request-in f F e =
     let a = actor-in f e in
@@ -173,11 +173,11 @@ request-in f F e =
 -- ---- decoding
 
 -- what a byte string that is not malformed says: its length, its fields, the request
-pub decode-says : (p : Profile) (b : List ℕ) (q : Request) → decode p b ≡ Says q → (length b ≡ requestSize) × (wellFormed p (fields b) ≡ true) × (request (fields b) ≡ q)
-unfolding decode decodeFields
+pub decode-says : (p : Profile) (b : List ℕ) (q : Request) → decode p b ≡ Says q → (length b ≡ request_size) × (well_formed p (fields b) ≡ true) × (request (fields b) ≡ q)
+unfolding decode decode_fields
 decode-says p b q e =
     split (eqb (length b) 6)
-    (λ w. split (wellFormed p (fields b))
+    (λ w. split (well_formed p (fields b))
     (λ v. (eqb-true (length b) 6 w, v, says-inj (sym (cond-true _ _ _ v) ∙ sym (cond-true _ _ _ w) ∙ e)))
     (λ v. says-not (sym (cond-false _ _ _ v) ∙ sym (cond-true _ _ _ w) ∙ e)))
     (λ w. says-not (sym (cond-false _ _ _ w) ∙ e))
@@ -189,15 +189,15 @@ decode-says p b q e =
     says-inj : {r : Request} → Says r ≡ Says q → r ≡ q
     says-inj p = ap said p
 
-    isSays : Decoded → Bool
-    isSays Malformed = false
-    isSays (Says r) = true
+    is_says : Decoded → Bool
+    is_says Malformed = false
+    is_says (Says r) = true
 
     says-not : {P : Type 0} → Malformed ≡ Says q → P
-    says-not p = clash (sym (ap isSays p))
+    says-not p = clash (sym (ap is_says p))
 
-pub says-decode : (p : Profile) (b : List ℕ) → length b ≡ requestSize → wellFormed p (fields b) ≡ true → decode p b ≡ Says (request (fields b))
-unfolding decode decodeFields
+pub says-decode : (p : Profile) (b : List ℕ) → length b ≡ request_size → well_formed p (fields b) ≡ true → decode p b ≡ Says (request (fields b))
+unfolding decode decode_fields
 says-decode p b l w = cond-true _ _ _ (eq-eqb (length b) 6 l) ∙ cond-true _ _ _ w
 
 -- under every profile
@@ -220,7 +220,7 @@ decode-encode p b q hb e =
     let w = formed-of p f d.1 in
     let back : fields_of (request f) ≡ f =
     request-fields f.kind f.actor f.other f.object f.mode f.class f.needs f.spare
-    (in-kinds f w) (and_left (modeAllowed f.kind f.mode) _ (last-two f w)) (and_right (modeAllowed f.kind f.mode) _ (last-two f w)) in
+    (in-kinds f w) (and_left (mode_allowed f.kind f.mode) _ (last-two f w)) (and_right (mode_allowed f.kind f.mode) _ (last-two f w)) in
     ap encode (sym d.2) ∙ ap pack back ∙ packed-fields b hb d.0
 
 -- ---- encoding
@@ -230,8 +230,8 @@ create-mode-below : (e : Bool) → cond e 4 0 < 8
 create-mode-below true = omega arith
 create-mode-below false = omega arith
 
-create-moded : (e : Bool) → modeAllowed 5 (cond e 4 0) ≡ true
-unfolding modeAllowed
+create-moded : (e : Bool) → mode_allowed 5 (cond e 4 0) ≡ true
+unfolding mode_allowed
 create-moded true = refl
 create-moded false = refl
 
@@ -239,32 +239,32 @@ create-back : (e : Bool) → eqb (cond e 4 0) 4 ≡ e
 create-back true = refl
 create-back false = refl
 
-fieldsOf-fit : (q : Request) → InRange q → FieldsFit (fields_of q)
-fieldsOf-fit (Get s o x) r = omega (arith, r.0, r.1, mode-below x)
-fieldsOf-fit (Release s o x) r = omega (arith, r.0, r.1, mode-below x)
-fieldsOf-fit (Give s t o x) r = omega (arith, r.0, r.1, r.2, mode-below x)
-fieldsOf-fit (Rescind s t o x) r = omega (arith, r.0, r.1, r.2, mode-below x)
-fieldsOf-fit (Create s o c) r = omega (arith, r.0, r.1, r.2, create-mode-below c.execute)
-fieldsOf-fit (Delete s o) r = omega (arith, r.0, r.1)
-fieldsOf-fit (ChangeLevel s o l) r = omega (arith, r.0, r.1, r.2.0, r.2.1)
-fieldsOf-fit (SetCompanies s o n) r = omega (arith, r.0, r.1, r.2)
+fields_of-fit : (q : Request) → InRange q → FieldsFit (fields_of q)
+fields_of-fit (Get s o x) r = omega (arith, r.0, r.1, mode-below x)
+fields_of-fit (Release s o x) r = omega (arith, r.0, r.1, mode-below x)
+fields_of-fit (Give s t o x) r = omega (arith, r.0, r.1, r.2, mode-below x)
+fields_of-fit (Rescind s t o x) r = omega (arith, r.0, r.1, r.2, mode-below x)
+fields_of-fit (Create s o c) r = omega (arith, r.0, r.1, r.2, create-mode-below c.execute)
+fields_of-fit (Delete s o) r = omega (arith, r.0, r.1)
+fields_of-fit (ChangeLevel s o l) r = omega (arith, r.0, r.1, r.2.0, r.2.1)
+fields_of-fit (SetCompanies s o n) r = omega (arith, r.0, r.1, r.2)
 
 pub in-range : (f : Fields) → (leb 1 f.kind && leb f.kind 8) ≡ true → f.actor < 16 → f.other < 16 → f.object < 64
-    → (eqb f.kind 5 ≡ true → f.needs ≤ 64) → modeAllowed f.kind f.mode ≡ true → unusedZero f ≡ true → fieldsFormed f ≡ true
-unfolding fieldsFormed
+    → (eqb f.kind 5 ≡ true → f.needs ≤ 64) → mode_allowed f.kind f.mode ≡ true → unused_zero f ≡ true → fields_formed f ≡ true
+unfolding fields_formed
 in-range f k a t o p m u =
     and_both k (and_both (lt-ltb _ _ a) (and_both (lt-ltb _ _ t) (and_both (lt-ltb _ _ o) (and_both (within-parent 64 f p) (and_both m u)))))
 
-fieldsOf-formed : (q : Request) → InRange q → fieldsFormed (fields_of q) ≡ true
-unfolding modeAllowed unusedZero
-fieldsOf-formed (Get s o x) r = in-range _ refl r.0 (omega arith) r.1 (λ k. clash (sym k)) (mode-moded x) refl
-fieldsOf-formed (Release s o x) r = in-range _ refl r.0 (omega arith) r.1 (λ k. clash (sym k)) (mode-moded x) refl
-fieldsOf-formed (Give s t o x) r = in-range _ refl r.0 r.1 r.2 (λ k. clash (sym k)) (mode-moded x) refl
-fieldsOf-formed (Rescind s t o x) r = in-range _ refl r.0 r.1 r.2 (λ k. clash (sym k)) (mode-moded x) refl
-fieldsOf-formed (Create s o c) r = in-range _ refl r.0 (omega arith) r.1 (λ k. r.2) (create-moded c.execute) refl
-fieldsOf-formed (Delete s o) r = in-range _ refl r.0 (omega arith) r.1 (λ k. clash (sym k)) refl refl
-fieldsOf-formed (ChangeLevel s o l) r = in-range _ refl r.0 (omega arith) r.1 (λ k. clash (sym k)) refl refl
-fieldsOf-formed (SetCompanies s o n) r = in-range _ refl r.0 (omega arith) r.1 (λ k. clash (sym k)) refl refl
+fields_of-formed : (q : Request) → InRange q → fields_formed (fields_of q) ≡ true
+unfolding mode_allowed unused_zero
+fields_of-formed (Get s o x) r = in-range _ refl r.0 (omega arith) r.1 (λ k. clash (sym k)) (mode-moded x) refl
+fields_of-formed (Release s o x) r = in-range _ refl r.0 (omega arith) r.1 (λ k. clash (sym k)) (mode-moded x) refl
+fields_of-formed (Give s t o x) r = in-range _ refl r.0 r.1 r.2 (λ k. clash (sym k)) (mode-moded x) refl
+fields_of-formed (Rescind s t o x) r = in-range _ refl r.0 r.1 r.2 (λ k. clash (sym k)) (mode-moded x) refl
+fields_of-formed (Create s o c) r = in-range _ refl r.0 (omega arith) r.1 (λ k. r.2) (create-moded c.execute) refl
+fields_of-formed (Delete s o) r = in-range _ refl r.0 (omega arith) r.1 (λ k. clash (sym k)) refl refl
+fields_of-formed (ChangeLevel s o l) r = in-range _ refl r.0 (omega arith) r.1 (λ k. clash (sym k)) refl refl
+fields_of-formed (SetCompanies s o n) r = in-range _ refl r.0 (omega arith) r.1 (λ k. clash (sym k)) refl refl
 
 request-back : (q : Request) → request (fields_of q) ≡ q
 unfolding request
@@ -280,5 +280,5 @@ request-back (SetCompanies s o n) = refl
 -- six bytes say each request in range and inside the profile
 pub encode-decode : (p : Profile) (q : Request) → InRange q → Within p q → decode p (encode q) ≡ Says q
 encode-decode p q r v =
-    let f = fields-packed (fields_of q) (fieldsOf-fit q r) in
-    says-decode p (encode q) (pack-length (fields_of q)) (ap (wellFormed p) f ∙ well-formed p (fields_of q) (fieldsOf-formed q r) (fieldsOf-within p q v)) ∙ ap (λ (g : Fields). Says (request g)) f ∙ ap Says (request-back q)
+    let f = fields-packed (fields_of q) (fields_of-fit q r) in
+    says-decode p (encode q) (pack-length (fields_of q)) (ap (well_formed p) f ∙ well-formed p (fields_of q) (fields_of-formed q r) (fields_of-within p q v)) ∙ ap (λ (g : Fields). Says (request g)) f ∙ ap Says (request-back q)

@@ -89,8 +89,8 @@ pub not-off : (b : Bool) → not b ≡ false → b ≡ true
 not-off true e = refl
 not-off false e = sym e
 
-pub toT : {b : Bool} → b ≡ true → T b
-toT e = subst T (sym e) tt
+pub to_t : {b : Bool} → b ≡ true → T b
+to_t e = subst T (sym e) tt
 
 pub same_bool : (a b : Bool) → beq a b ≡ true → a ≡ b
 same_bool true true e = refl

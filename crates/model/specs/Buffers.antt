@@ -3,8 +3,8 @@
 use Rattle.std.specs.Prelude.{ℕ, ◌+◌, ◌/◌, ◌%◌, Bool, cond, List, [], ◌∷◌, ◌++◌, length, take, drop, ltb}
 
 -- there is no room for n bytes
-unfoldable pub tooShort : ℕ → List ℕ → Bool
-tooShort n buffer = ltb (length buffer) n
+unfoldable pub too_short : ℕ → List ℕ → Bool
+too_short n buffer = ltb (length buffer) n
 
 -- n new bytes in front, every later one left
 abbrev pub front : ℕ → List ℕ → List ℕ → List ℕ
@@ -12,7 +12,7 @@ front n new buffer = new ++ drop n buffer
 
 -- a buffer without the room is left, every byte of it; any other has the n new bytes in front
 abbrev pub filled : ℕ → ℕ → List ℕ → List ℕ → List ℕ
-filled room n new buffer = cond (tooShort room buffer) buffer (front n new buffer)
+filled room n new buffer = cond (too_short room buffer) buffer (front n new buffer)
 
 -- the new bytes from a place on, every other byte left
 unfoldable pub put : List ℕ → ℕ → List ℕ → List ℕ
@@ -22,5 +22,5 @@ put buffer at new = take at buffer ++ (new ++ drop (at + length new) buffer)
 abbrev pub digit : ℕ → ℕ
 digit n = 48 + n
 
-abbrev pub twoDigits : ℕ → List ℕ
-twoDigits n = digit (n / 10) ∷ digit (n % 10) ∷ []
+abbrev pub two_digits : ℕ → List ℕ
+two_digits n = digit (n / 10) ∷ digit (n % 10) ∷ []

@@ -44,21 +44,21 @@ unfoldable pub compare : Level → Level → Comparison
 compare a b = answered (at_least a b) (at_least b a)
 
 -- the answers under which A dominates B
-abbrev pub equalOrAbove : Comparison → Bool
-equalOrAbove Equal = true
-equalOrAbove Above = true
-equalOrAbove Below = false
-equalOrAbove Apart = false
+abbrev pub equal_or_above : Comparison → Bool
+equal_or_above Equal = true
+equal_or_above Above = true
+equal_or_above Below = false
+equal_or_above Apart = false
 
 -- "Every check that uses the comparison follows the new meaning": dominance of levels as the checks test it
-unfoldable pub levelDominates : Level → Level → Bool
-levelDominates a b = equalOrAbove (compare a b)
+unfoldable pub level_dominates : Level → Level → Bool
+level_dominates a b = equal_or_above (compare a b)
 
 -- the test that decides Dominates
 unfoldable pub dominates : Label → Label → Bool
 dominates Absent b = false
 dominates (Present a) Absent = false
-dominates (Present a) (Present b) = levelDominates a b
+dominates (Present a) (Present b) = level_dominates a b
 
 -- a label or a clearance is there
 abbrev pub present : Label → Bool
@@ -66,8 +66,8 @@ present Absent = false
 present (Present l) = true
 
 -- the test that two labels are the same; absent is the same as absent only
-unfoldable pub sameLabel : Label → Label → Bool
-sameLabel Absent Absent = true
-sameLabel Absent (Present b) = false
-sameLabel (Present a) Absent = false
-sameLabel (Present a) (Present b) = eqb a.class b.class && eqb a.needs b.needs
+unfoldable pub same_label : Label → Label → Bool
+same_label Absent Absent = true
+same_label Absent (Present b) = false
+same_label (Present a) Absent = false
+same_label (Present a) (Present b) = eqb a.class b.class && eqb a.needs b.needs

@@ -60,18 +60,18 @@ pub record Two (m : Monitor) (s p q : ℕ) (x y : Mode) : Type 0 where
   pub only : (t o : ℕ) (z : Mode) → Holds m t o z → ((o ≡ p) × (z ≡ x)) ⊎ ((o ≡ q) × (z ≡ y))
 
 -- whether an entry asks that the label of the object wanted dominate, and whether it asks that that of the object held does
-abbrev pub asksWanted : Asked → Bool
-asksWanted neither = false
-asksWanted wanted = true
-asksWanted held = false
-asksWanted both = true
+abbrev pub asks_wanted : Asked → Bool
+asks_wanted neither = false
+asks_wanted wanted = true
+asks_wanted held = false
+asks_wanted both = true
 
-abbrev pub asksHeld : Asked → Bool
-asksHeld neither = false
-asksHeld wanted = false
-asksHeld held = true
-asksHeld both = true
+abbrev pub asks_held : Asked → Bool
+asks_held neither = false
+asks_held wanted = false
+asks_held held = true
+asks_held both = true
 
 -- whether two labels keep what an entry asks, as a test
 unfoldable pub kept : Asked → Label → Label → Bool
-kept a p q = implies (asksWanted a) (dominates q p) && implies (asksHeld a) (dominates p q)
+kept a p q = implies (asks_wanted a) (dominates q p) && implies (asks_held a) (dominates p q)

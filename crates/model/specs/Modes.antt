@@ -38,19 +38,19 @@ alters Append = true
 alters Execute = false
 
 -- "r, w or a": the modes that need a label
-abbrev pub needsLabel : Mode → Bool
-needsLabel x = observes x || alters x
+abbrev pub needs_label : Mode → Bool
+needs_label x = observes x || alters x
 
 -- some mode of the set observes, alters, needs a label
-abbrev pub anyObserves : ℕ → Bool
-anyObserves n = has Read n || has Write n
+abbrev pub any_observes : ℕ → Bool
+any_observes n = has Read n || has Write n
 
-abbrev pub anyAlters : ℕ → Bool
-anyAlters n = has Append n || has Write n
+abbrev pub any_alters : ℕ → Bool
+any_alters n = has Append n || has Write n
 
-abbrev pub anyNeedsLabel : ℕ → Bool
-anyNeedsLabel n = anyObserves n || anyAlters n
+abbrev pub any_needs_label : ℕ → Bool
+any_needs_label n = any_observes n || any_alters n
 
 -- the set has some mode, e too
-abbrev pub anyHeld : ℕ → Bool
-anyHeld n = anyNeedsLabel n || has Execute n
+abbrev pub any_held : ℕ → Bool
+any_held n = any_needs_label n || has Execute n

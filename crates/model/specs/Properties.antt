@@ -4,17 +4,17 @@ use Rattle.std.specs.Prelude.{ℕ, ◌≡◌, true}
 use Rattle.model.specs.declared.Monitor.{Monitor}
 use Rattle.model.specs.declared.Mode.{Mode}
 use Rattle.model.specs.Levels.{Dominates, present}
-use Rattle.model.specs.Modes.{has, observes, alters, needsLabel}
+use Rattle.model.specs.Modes.{has, observes, alters, needs_label}
 use Rattle.model.specs.Companies.{Compatible, Confined}
-use Rattle.model.specs.State.{clearance, object, rightsOf, heldBy}
+use Rattle.model.specs.State.{clearance, object, rights_of, held_by}
 
 -- subject s holds access x on object o
 abbrev pub Holds : Monitor → ℕ → ℕ → Mode → Type 0
-Holds m s o x = has x (heldBy (object m o) s) ≡ true
+Holds m s o x = has x (held_by (object m o) s) ≡ true
 
 -- the matrix has x for subject s at object o
 abbrev pub Permits : Monitor → ℕ → ℕ → Mode → Type 0
-Permits m s o x = has x (rightsOf (object m o) s) ≡ true
+Permits m s o x = has x (rights_of (object m o) s) ≡ true
 
 -- "an access held is in the matrix"
 abbrev pub Discretionary : Monitor → Type 0
@@ -22,7 +22,7 @@ Discretionary m = (s o : ℕ) (x : Mode) → Holds m s o x → Permits m s o x
 
 -- "r, w or a is held only on a labelled object"
 abbrev pub Labelled : Monitor → Type 0
-Labelled m = (s o : ℕ) (x : Mode) → Holds m s o x → needsLabel x ≡ true → present (object m o).label ≡ true
+Labelled m = (s o : ℕ) (x : Mode) → Holds m s o x → needs_label x ≡ true → present (object m o).label ≡ true
 
 -- "who holds r or w on an object has a clearance that dominates its label"
 abbrev pub Simple : Monitor → Type 0

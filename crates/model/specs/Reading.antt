@@ -1,7 +1,7 @@
 -- Reading a table and an image: what the bits say, their form, and the checks in order.
 -- Assumes nothing.
 use Rattle.std.specs.Prelude.{ℕ, ◌+◌, Bool, true, cond, ◌&&◌, ◌||◌, List, [], ◌∷◌, map, length, take, drop, eqb}
-use Rattle.bits.specs.Bits.{fromBits, bytesToBits, cut, first, allZero}
+use Rattle.bits.specs.Bits.{from_bits, bytes_to_bits, cut, first, all_zero}
 use Rattle.model.specs.declared.Label.{Label}
 use Rattle.model.specs.declared.Label.TheVariants.{Absent, Present}
 use Rattle.model.specs.declared.Subject.{Subject}
@@ -11,153 +11,153 @@ use Rattle.model.specs.declared.Monitor.{Monitor}
 use Rattle.model.specs.declared.Decision.{Decision}
 use Rattle.model.specs.declared.Decision.TheVariants.{NoRight, NoLabel, SimpleBroken, StarBroken, WrongLength, StrayBits, AbsentSubject, OutsideProfile, WallBroken, ParentNotLive, HierarchyBroken}
 use Rattle.model.specs.declared.Response.{Response}
-use Rattle.model.specs.Tests.{all_below, all_of, implies, firstFailing}
+use Rattle.model.specs.Tests.{all_below, all_of, implies, first_failing}
 use Rattle.model.specs.Levels.{subset, present}
-use Rattle.model.specs.Modes.{anyNeedsLabel}
-use Rattle.model.specs.Companies.{companiesWidth}
-use Rattle.model.specs.State.{subjectCount, objectCount, classWidth, needsWidth, noObject, clearanceAt, rightsOf, heldBy, fresh, emptyMonitor}
-use Rattle.model.specs.Hierarchy.{parentsHold, labelsRise}
-use Rattle.model.specs.Profiles.{profileFits, absentBeyond, levelsInside}
+use Rattle.model.specs.Modes.{any_needs_label}
+use Rattle.model.specs.Companies.{companies_width}
+use Rattle.model.specs.State.{subject_count, object_count, class_width, needs_width, no_object, clearance_at, rights_of, held_by, fresh, empty_monitor}
+use Rattle.model.specs.Hierarchy.{parents_hold, labels_rise}
+use Rattle.model.specs.Profiles.{profile_fits, absent_beyond, levels_inside}
 use Rattle.model.specs.Decisions.{refuses}
-use Rattle.model.specs.Rules.{simpleAll, starAll, wallAll}
-use Rattle.model.specs.Layout.{labelWidth, objectWidth, ownerWidth, setWidth, pairWidth, labelOffset, companiesOffset, setsOffset, setsWidth, parentWidth, parentOffset, tableSize, imageSize}
+use Rattle.model.specs.Rules.{simple_all, star_all, wall_all}
+use Rattle.model.specs.Layout.{label_width, object_width, owner_width, set_width, pair_width, label_offset, companies_offset, sets_offset, sets_width, parent_width, parent_offset, table_size, image_size}
 
 -- ---- what the bits of a record say
 
 -- w bits of a record from bit i on, as a number
 abbrev pub field_of : List Bool → ℕ → ℕ → ℕ
-field_of b i w = fromBits (take w (drop i b))
+field_of b i w = from_bits (take w (drop i b))
 
 -- present 1, class 4, needs 16
-unfoldable pub labelFrom : List Bool → Label
-labelFrom b = cond (first b) (Present (record { class = field_of b 1 classWidth; needs = field_of b (1 + classWidth) needsWidth })) Absent
+unfoldable pub label_from : List Bool → Label
+label_from b = cond (first b) (Present (record { class = field_of b 1 class_width; needs = field_of b (1 + class_width) needs_width })) Absent
 
-abbrev pub subjectFrom : List Bool → Subject
-subjectFrom b = record { clearance = labelFrom b }
+abbrev pub subject_from : List Bool → Subject
+subject_from b = record { clearance = label_from b }
 
 -- "four right bits and four access bits"
-abbrev pub rightsFrom : List Bool → ℕ
-rightsFrom b = field_of b 0 setWidth
+abbrev pub rights_from : List Bool → ℕ
+rights_from b = field_of b 0 set_width
 
-abbrev pub heldFrom : List Bool → ℕ
-heldFrom b = field_of b setWidth setWidth
+abbrev pub held_from : List Bool → ℕ
+held_from b = field_of b set_width set_width
 
 -- the sets of the sixteen subjects, side by side in the part of the record that is theirs
-abbrev pub setsIn : List Bool → List (List Bool)
-setsIn b = cut subjectCount pairWidth (take setsWidth (drop setsOffset b))
+abbrev pub sets_in : List Bool → List (List Bool)
+sets_in b = cut subject_count pair_width (take sets_width (drop sets_offset b))
 
-abbrev pub liveFrom : List Bool → Object
-liveFrom b =
+abbrev pub live_from : List Bool → Object
+live_from b =
     record {
       live = true;
-      owner = field_of b 1 ownerWidth;
-      label = labelFrom (take labelWidth (drop labelOffset b));
-      companies = field_of b companiesOffset companiesWidth;
-      rights = map rightsFrom (setsIn b);
-      held = map heldFrom (setsIn b);
-      parent = field_of b parentOffset parentWidth;
+      owner = field_of b 1 owner_width;
+      label = label_from (take label_width (drop label_offset b));
+      companies = field_of b companies_offset companies_width;
+      rights = map rights_from (sets_in b);
+      held = map held_from (sets_in b);
+      parent = field_of b parent_offset parent_width;
     }
 
-unfoldable pub objectFrom : List Bool → Object
-objectFrom b = cond (first b) (liveFrom b) noObject
+unfoldable pub object_from : List Bool → Object
+object_from b = cond (first b) (live_from b) no_object
 
 -- ---- "What is absent (a subject's table record, an object's whole record, a label) has all its other bits 0"
 
-unfoldable pub labelForm : List Bool → Bool
-labelForm b = first b || allZero b
+unfoldable pub label_form : List Bool → Bool
+label_form b = first b || all_zero b
 
-unfoldable pub objectForm : List Bool → Bool
-objectForm b = cond (first b) (labelForm (take labelWidth (drop labelOffset b))) (allZero b)
+unfoldable pub object_form : List Bool → Bool
+object_form b = cond (first b) (label_form (take label_width (drop label_offset b))) (all_zero b)
 
 -- ---- the records in bytes
 
-abbrev pub tableRecords : List ℕ → List (List Bool)
-tableRecords b = cut subjectCount labelWidth (bytesToBits b)
+abbrev pub table_records : List ℕ → List (List Bool)
+table_records b = cut subject_count label_width (bytes_to_bits b)
 
-abbrev pub objectRecords : List ℕ → List (List Bool)
-objectRecords b = cut objectCount objectWidth (bytesToBits b)
+abbrev pub object_records : List ℕ → List (List Bool)
+object_records b = cut object_count object_width (bytes_to_bits b)
 
-unfoldable pub tableFrom : List ℕ → List Subject
-tableFrom b = map subjectFrom (tableRecords b)
+unfoldable pub table_from : List ℕ → List Subject
+table_from b = map subject_from (table_records b)
 
-unfoldable pub tableForm : List ℕ → Bool
-tableForm b = all_of labelForm (tableRecords b)
+unfoldable pub table_form : List ℕ → Bool
+table_form b = all_of label_form (table_records b)
 
 -- from the bytes of the object records alone
-unfoldable pub objectsFrom : List ℕ → List Object
-objectsFrom b = map objectFrom (objectRecords b)
+unfoldable pub objects_from : List ℕ → List Object
+objects_from b = map object_from (object_records b)
 
-unfoldable pub objectsForm : List ℕ → Bool
-objectsForm b = all_of objectForm (objectRecords b)
+unfoldable pub objects_form : List ℕ → Bool
+objects_form b = all_of object_form (object_records b)
 
 -- "The object records begin at byte 42 and are read as a part of their own"
-unfoldable pub monitorFrom : Profile → List ℕ → Monitor
-monitorFrom p b = record { profile = p; subjects = tableFrom (take tableSize b); objects = objectsFrom (drop tableSize b) }
+unfoldable pub monitor_from : Profile → List ℕ → Monitor
+monitor_from p b = record { profile = p; subjects = table_from (take table_size b); objects = objects_from (drop table_size b) }
 
-unfoldable pub imageForm : List ℕ → Bool
-imageForm b = tableForm (take tableSize b) && objectsForm (drop tableSize b)
+unfoldable pub image_form : List ℕ → Bool
+image_form b = table_form (take table_size b) && objects_form (drop table_size b)
 
 -- ---- the checks of a state, at one object
 
 -- "an absent subject owns, has a right or holds"
-unfoldable pub onlyEnrolled : List Subject → Object → Bool
-onlyEnrolled l ob =
-    implies ob.live (present (clearanceAt l ob.owner))
-    && all_below subjectCount (λ (s : ℕ). present (clearanceAt l s) || (eqb (rightsOf ob s) 0 && eqb (heldBy ob s) 0))
+unfoldable pub only_enrolled : List Subject → Object → Bool
+only_enrolled l ob =
+    implies ob.live (present (clearance_at l ob.owner))
+    && all_below subject_count (λ (s : ℕ). present (clearance_at l s) || (eqb (rights_of ob s) 0 && eqb (held_by ob s) 0))
 
 -- "access outside the matrix"
-unfoldable pub withinMatrix : Object → Bool
-withinMatrix ob = all_below subjectCount (λ (s : ℕ). subset setWidth (heldBy ob s) (rightsOf ob s))
+unfoldable pub within_matrix : Object → Bool
+within_matrix ob = all_below subject_count (λ (s : ℕ). subset set_width (held_by ob s) (rights_of ob s))
 
 -- "r, w or a held on such an object"
-unfoldable pub heldLabelled : Object → Bool
-heldLabelled ob = all_below subjectCount (λ (s : ℕ). implies (anyNeedsLabel (heldBy ob s)) (present ob.label))
+unfoldable pub held_labelled : Object → Bool
+held_labelled ob = all_below subject_count (λ (s : ℕ). implies (any_needs_label (held_by ob s)) (present ob.label))
 
 -- "12, 6, 7, 8, 9, each over the whole image before the next", 18 "in images after 9" (change request §10), 19 "in images after 18" and 20
 -- "in images after 19" (change request §11)
-abbrev pub stateList : Monitor → List (Bool × Decision)
-stateList m =
-    (all_of (onlyEnrolled m.subjects) m.objects, AbsentSubject)
-    ∷ (all_of withinMatrix m.objects, NoRight)
-    ∷ (all_of heldLabelled m.objects, NoLabel)
-    ∷ (all_of (simpleAll m.subjects) m.objects, SimpleBroken)
-    ∷ (starAll m.objects, StarBroken)
-    ∷ (wallAll m.objects, WallBroken)
-    ∷ (parentsHold m.objects, ParentNotLive)
-    ∷ (labelsRise m.objects, HierarchyBroken)
+abbrev pub state_list : Monitor → List (Bool × Decision)
+state_list m =
+    (all_of (only_enrolled m.subjects) m.objects, AbsentSubject)
+    ∷ (all_of within_matrix m.objects, NoRight)
+    ∷ (all_of held_labelled m.objects, NoLabel)
+    ∷ (all_of (simple_all m.subjects) m.objects, SimpleBroken)
+    ∷ (star_all m.objects, StarBroken)
+    ∷ (wall_all m.objects, WallBroken)
+    ∷ (parents_hold m.objects, ParentNotLive)
+    ∷ (labels_rise m.objects, HierarchyBroken)
     ∷ []
 
-unfoldable pub stateChecks : Monitor → Decision
-stateChecks m = firstFailing (stateList m)
+unfoldable pub state_checks : Monitor → Decision
+state_checks m = first_failing (state_list m)
 
 -- the checks of a beginning under a profile, by whether it has its length, whether its records have their form, and the monitor that it says:
 -- "16, a profile outside these ranges, before anything else is read"; 10; 11, and "a record beyond the profile is absent, and a bit in it gets
 -- 11"; then 16, "a clearance or label outside its profile, checked directly after 11" (change request §8)
-abbrev pub beginningList : Bool → Bool → Monitor → List (Bool × Decision) → List (Bool × Decision)
-beginningList long formed m later =
-    (profileFits m.profile, OutsideProfile)
+abbrev pub beginning_list : Bool → Bool → Monitor → List (Bool × Decision) → List (Bool × Decision)
+beginning_list long formed m later =
+    (profile_fits m.profile, OutsideProfile)
     ∷ (long, WrongLength)
-    ∷ (formed && absentBeyond m, StrayBits)
-    ∷ (levelsInside m, OutsideProfile)
+    ∷ (formed && absent_beyond m, StrayBits)
+    ∷ (levels_inside m, OutsideProfile)
     ∷ later
 
 -- "Tables are checked 10, 11", and 16 before and behind these
-unfoldable pub tableChecks : Profile → List ℕ → Decision
-tableChecks p b = firstFailing (beginningList (eqb (length b) tableSize) (tableForm b) (fresh p (tableFrom b)) [])
+unfoldable pub table_checks : Profile → List ℕ → Decision
+table_checks p b = first_failing (beginning_list (eqb (length b) table_size) (table_form b) (fresh p (table_from b)) [])
 
 -- "images 10, 11, 12, 6, 7, 8, 9", 18, 19 and 20 behind these, and 16 before 10 and behind 11
-unfoldable pub imageChecks : Profile → List ℕ → Decision
-imageChecks p b =
-    firstFailing (beginningList (eqb (length b) imageSize) (imageForm b) (monitorFrom p b) (stateList (monitorFrom p b)))
+unfoldable pub image_checks : Profile → List ℕ → Decision
+image_checks p b =
+    first_failing (beginning_list (eqb (length b) image_size) (image_form b) (monitor_from p b) (state_list (monitor_from p b)))
 
 -- ---- the answers
 
 -- "returns 0 and its monitor"; refused: "the number and the empty monitor, nobody enrolled"
 unfoldable pub begin : Decision → Monitor → Response
-begin d m = record { decision = d; monitor = cond (refuses d) emptyMonitor m }
+begin d m = record { decision = d; monitor = cond (refuses d) empty_monitor m }
 
-unfoldable pub readTable : Profile → List ℕ → Response
-readTable p b = begin (tableChecks p b) (fresh p (tableFrom b))
+unfoldable pub read_table : Profile → List ℕ → Response
+read_table p b = begin (table_checks p b) (fresh p (table_from b))
 
-unfoldable pub readImage : Profile → List ℕ → Response
-readImage p b = begin (imageChecks p b) (monitorFrom p b)
+unfoldable pub read_image : Profile → List ℕ → Response
+read_image p b = begin (image_checks p b) (monitor_from p b)

@@ -14,55 +14,55 @@ use Rattle.model.specs.declared.Request.TheVariants.{Get, Release, Give, Rescind
 use Rattle.model.specs.declared.Decision.{Decision}
 use Rattle.model.specs.declared.Decision.TheVariants.{Granted, Already, NotEnrolled, NotLive, AlreadyLive, NoRight, NoLabel, SimpleBroken, StarBroken, LabelLowered, WallBroken, ParentNotLive, HierarchyBroken}
 use Rattle.model.specs.declared.Response.{Response}
-use Rattle.model.specs.Tests.{all_below, all_of, implies, firstFailing}
-use Rattle.model.specs.Levels.{dominates, present, sameLabel}
-use Rattle.model.specs.Modes.{has, add, remove, observes, needsLabel, anyObserves, anyAlters, anyHeld}
+use Rattle.model.specs.Tests.{all_below, all_of, implies, first_failing}
+use Rattle.model.specs.Levels.{dominates, present, same_label}
+use Rattle.model.specs.Modes.{has, add, remove, observes, needs_label, any_observes, any_alters, any_held}
 use Rattle.model.specs.Companies.{compatible, confined}
-use Rattle.model.specs.State.{subjectCount, noObject, clearanceAt, clearance, enrolled, object, rightsOf, heldBy, withOwner, withRights, withHeld, withLabel, withCompanies, withParent}
-use Rattle.model.specs.Hierarchy.{withoutBelow, parentLive, labelsRise}
+use Rattle.model.specs.State.{subject_count, no_object, clearance_at, clearance, enrolled, object, rights_of, held_by, with_owner, with_rights, with_held, with_label, with_companies, with_parent}
+use Rattle.model.specs.Hierarchy.{without_below, parent_live, labels_rise}
 use Rattle.model.specs.Decisions.{refuses}
 
 -- ---- the tests of the simple and the star property, and of the wall
 
 -- simple, at one object for all subjects: who holds r or w has a clearance that dominates its label
-unfoldable pub simpleAll : List Subject → Object → Bool
-simpleAll l ob = all_below subjectCount (λ (s : ℕ). implies (anyObserves (heldBy ob s)) (dominates (clearanceAt l s) ob.label))
+unfoldable pub simple_all : List Subject → Object → Bool
+simple_all l ob = all_below subject_count (λ (s : ℕ). implies (any_observes (held_by ob s)) (dominates (clearance_at l s) ob.label))
 
 -- star, for one subject and two objects: where it alters q, the label of q dominates that of p
-unfoldable pub starPair : ℕ → Object → Object → Bool
-starPair s p q = implies (anyAlters (heldBy q s)) (dominates q.label p.label)
+unfoldable pub star_pair : ℕ → Object → Object → Bool
+star_pair s p q = implies (any_alters (held_by q s)) (dominates q.label p.label)
 
 -- where it observes p, this for every q
-unfoldable pub starFrom : ℕ → List Object → Object → Bool
-starFrom s l p = implies (anyObserves (heldBy p s)) (all_of (starPair s p) l)
+unfoldable pub star_from : ℕ → List Object → Object → Bool
+star_from s l p = implies (any_observes (held_by p s)) (all_of (star_pair s p) l)
 
 -- star, for one subject over all objects
-unfoldable pub starFor : ℕ → List Object → Bool
-starFor s l = all_of (starFrom s l) l
+unfoldable pub star_for : ℕ → List Object → Bool
+star_for s l = all_of (star_from s l) l
 
 -- star, for all subjects
-unfoldable pub starAll : List Object → Bool
-starAll l = all_below subjectCount (λ (s : ℕ). starFor s l)
+unfoldable pub star_all : List Object → Bool
+star_all l = all_below subject_count (λ (s : ℕ). star_for s l)
 
 -- the wall, for one subject and two objects: where it holds an access on q too, each class has a 0 or equal numbers, and where it observes p
 -- and alters q, each nonzero number of p equals that of q
-unfoldable pub wallPair : ℕ → Object → Object → Bool
-wallPair s p q =
-    implies (anyHeld (heldBy q s))
+unfoldable pub wall_pair : ℕ → Object → Object → Bool
+wall_pair s p q =
+    implies (any_held (held_by q s))
     (compatible p.companies q.companies
-    && implies (anyObserves (heldBy p s) && anyAlters (heldBy q s)) (confined p.companies q.companies))
+    && implies (any_observes (held_by p s) && any_alters (held_by q s)) (confined p.companies q.companies))
 
 -- where it holds an access on p, this for every q
-unfoldable pub wallFrom : ℕ → List Object → Object → Bool
-wallFrom s l p = implies (anyHeld (heldBy p s)) (all_of (wallPair s p) l)
+unfoldable pub wall_from : ℕ → List Object → Object → Bool
+wall_from s l p = implies (any_held (held_by p s)) (all_of (wall_pair s p) l)
 
 -- the wall, for one subject over all objects
-unfoldable pub wallFor : ℕ → List Object → Bool
-wallFor s l = all_of (wallFrom s l) l
+unfoldable pub wall_for : ℕ → List Object → Bool
+wall_for s l = all_of (wall_from s l) l
 
 -- the wall, for all subjects
-unfoldable pub wallAll : List Object → Bool
-wallAll l = all_below subjectCount (λ (s : ℕ). wallFor s l)
+unfoldable pub wall_all : List Object → Bool
+wall_all l = all_below subject_count (λ (s : ℕ). wall_for s l)
 
 -- ---- the effect of each kind
 
@@ -79,25 +79,25 @@ target (SetCompanies s o n) = o
 
 -- "live, unlabelled, owned by the actor, who gains r, w, a, and e if mode is 4"; "Create carries the parent's number plus one" (change request §11)
 abbrev pub created : ℕ → Creation → Object
-created s c = withRights (withParent (withOwner noObject s) c.parent) s (cond c.execute 15 14)
+created s c = with_rights (with_parent (with_owner no_object s) c.parent) s (cond c.execute 15 14)
 
 -- the record of the object after the request
 unfoldable pub changed : Request → Object → Object
 -- "the actor then holds the access"
-changed (Get s o x) ob = withHeld ob s (add x (heldBy ob s))
+changed (Get s o x) ob = with_held ob s (add x (held_by ob s))
 -- "the actor's access is dropped, held or not"
-changed (Release s o x) ob = withHeld ob s (remove x (heldBy ob s))
+changed (Release s o x) ob = with_held ob s (remove x (held_by ob s))
 -- "the other subject gains the right"
-changed (Give s t o x) ob = withRights ob t (add x (rightsOf ob t))
+changed (Give s t o x) ob = with_rights ob t (add x (rights_of ob t))
 -- "the other subject loses the right and the access"
-changed (Rescind s t o x) ob = withHeld (withRights ob t (remove x (rightsOf ob t))) t (remove x (heldBy ob t))
+changed (Rescind s t o x) ob = with_held (with_rights ob t (remove x (rights_of ob t))) t (remove x (held_by ob t))
 changed (Create s o c) ob = created s c
 -- "no longer live, its rights and accesses gone"
-changed (Delete s o) ob = noObject
+changed (Delete s o) ob = no_object
 -- "the label becomes class and needs"
-changed (ChangeLevel s o l) ob = withLabel ob (Present l)
+changed (ChangeLevel s o l) ob = with_label ob (Present l)
 -- "lets the owner set them", the company numbers (change request §10)
-changed (SetCompanies s o n) ob = withCompanies ob n
+changed (SetCompanies s o n) ob = with_companies ob n
 
 -- the other objects: "Deleting an object deletes everything below it" (change request §11), no other kind touches another record
 abbrev pub spared : Request → List Object → List Object
@@ -106,7 +106,7 @@ spared (Release s o x) l = l
 spared (Give s t o x) l = l
 spared (Rescind s t o x) l = l
 spared (Create s o c) l = l
-spared (Delete s o) l = withoutBelow o l
+spared (Delete s o) l = without_below o l
 spared (ChangeLevel s o v) l = l
 spared (SetCompanies s o n) l = l
 
@@ -121,13 +121,13 @@ afterwards q m =
 
 -- "the state was so already"
 unfoldable pub already : Request → Object → Bool
-already (Get s o x) ob = has x (heldBy ob s)
-already (Release s o x) ob = not (has x (heldBy ob s))
-already (Give s t o x) ob = has x (rightsOf ob t)
-already (Rescind s t o x) ob = not (has x (rightsOf ob t)) && not (has x (heldBy ob t))
+already (Get s o x) ob = has x (held_by ob s)
+already (Release s o x) ob = not (has x (held_by ob s))
+already (Give s t o x) ob = has x (rights_of ob t)
+already (Rescind s t o x) ob = not (has x (rights_of ob t)) && not (has x (held_by ob t))
 already (Create s o c) ob = false
 already (Delete s o) ob = false
-already (ChangeLevel s o l) ob = sameLabel ob.label (Present l)
+already (ChangeLevel s o l) ob = same_label ob.label (Present l)
 already (SetCompanies s o n) ob = eqb ob.companies n
 
 -- ---- the checks of each kind, "in the order 2, 3, then 4 or 5, then 6, 7, 8, 9", with 14 between 6 and 8, 18 or 20 behind 9, and 19 behind 5; 2
@@ -137,76 +137,76 @@ abbrev pub owns : ℕ → Object → Bool
 owns s ob = eqb ob.owner s
 
 -- "the actor is owner and has that right itself"
-abbrev pub mayGive : ℕ → Mode → Object → Bool
-mayGive s x ob = owns s ob && has x (rightsOf ob s)
+abbrev pub may_give : ℕ → Mode → Object → Bool
+may_give s x ob = owns s ob && has x (rights_of ob s)
 
 -- "A change of level on a labelled object passes only if the new label dominates the old one; a first label is free" (change request §3)
-unfoldable pub notLowered : Label → Label → Bool
-notLowered old new = implies (present old) (dominates new old)
+unfoldable pub not_lowered : Label → Label → Bool
+not_lowered old new = implies (present old) (dominates new old)
 
 -- each check with its answer
-abbrev pub checkList : Request → Monitor → List (Bool × Decision)
+abbrev pub check_list : Request → Monitor → List (Bool × Decision)
 -- "checks 4, 6 (the actor's right); 7 (not e); 8 (r, w); 9 (r, w, a)"; 18 "checked last in get", of every mode
-checkList (Get s o x) m =
+check_list (Get s o x) m =
     (enrolled m s, NotEnrolled)
     ∷ ((object m o).live, NotLive)
-    ∷ (has x (rightsOf (object m o) s), NoRight)
-    ∷ (implies (needsLabel x) (present (object m o).label), NoLabel)
+    ∷ (has x (rights_of (object m o) s), NoRight)
+    ∷ (implies (needs_label x) (present (object m o).label), NoLabel)
     ∷ (implies (observes x) (dominates (clearance m s) (object m o).label), SimpleBroken)
-    ∷ (implies (needsLabel x) (starFor s (afterwards (Get s o x) m).objects), StarBroken)
-    ∷ (wallFor s (afterwards (Get s o x) m).objects, WallBroken)
+    ∷ (implies (needs_label x) (star_for s (afterwards (Get s o x) m).objects), StarBroken)
+    ∷ (wall_for s (afterwards (Get s o x) m).objects, WallBroken)
     ∷ []
 -- "check 4"
-checkList (Release s o x) m =
+check_list (Release s o x) m =
     (enrolled m s, NotEnrolled)
     ∷ ((object m o).live, NotLive)
     ∷ []
 -- "checks 4, 6: the actor is owner and has that right itself"
-checkList (Give s t o x) m =
+check_list (Give s t o x) m =
     (enrolled m s && enrolled m t, NotEnrolled)
     ∷ ((object m o).live, NotLive)
-    ∷ (mayGive s x (object m o), NoRight)
+    ∷ (may_give s x (object m o), NoRight)
     ∷ []
 -- "checks as give"
-checkList (Rescind s t o x) m =
+check_list (Rescind s t o x) m =
     (enrolled m s && enrolled m t, NotEnrolled)
     ∷ ((object m o).live, NotLive)
-    ∷ (mayGive s x (object m o), NoRight)
+    ∷ (may_give s x (object m o), NoRight)
     ∷ []
 -- "check 5"; "19, a parent that isn't live, in create after 5" (change request §11)
-checkList (Create s o c) m =
+check_list (Create s o c) m =
     (enrolled m s, NotEnrolled)
     ∷ (not (object m o).live, AlreadyLive)
-    ∷ (parentLive m.objects c.parent, ParentNotLive)
+    ∷ (parent_live m.objects c.parent, ParentNotLive)
     ∷ []
 -- "checks 4, 6: owner"
-checkList (Delete s o) m =
+check_list (Delete s o) m =
     (enrolled m s, NotEnrolled)
     ∷ ((object m o).live, NotLive)
     ∷ (owns s (object m o), NoRight)
     ∷ []
 -- "checks 4, 6: owner; 8, 9 over all subjects in the state after the change"; "14, .. checked after 6 and before 8";
 -- "20, a label that breaks the rule toward parent or child, in change level after 9" (change request §11)
-checkList (ChangeLevel s o l) m =
+check_list (ChangeLevel s o l) m =
     (enrolled m s, NotEnrolled)
     ∷ ((object m o).live, NotLive)
     ∷ (owns s (object m o), NoRight)
-    ∷ (notLowered (object m o).label (Present l), LabelLowered)
-    ∷ (simpleAll m.subjects (changed (ChangeLevel s o l) (object m o)), SimpleBroken)
-    ∷ (starAll (afterwards (ChangeLevel s o l) m).objects, StarBroken)
-    ∷ (labelsRise (afterwards (ChangeLevel s o l) m).objects, HierarchyBroken)
+    ∷ (not_lowered (object m o).label (Present l), LabelLowered)
+    ∷ (simple_all m.subjects (changed (ChangeLevel s o l) (object m o)), SimpleBroken)
+    ∷ (star_all (afterwards (ChangeLevel s o l) m).objects, StarBroken)
+    ∷ (labels_rise (afterwards (ChangeLevel s o l) m).objects, HierarchyBroken)
     ∷ []
 -- "it has checks 4, 6 (owner) and the wall over all subjects in the state after it" (change request §10)
-checkList (SetCompanies s o n) m =
+check_list (SetCompanies s o n) m =
     (enrolled m s, NotEnrolled)
     ∷ ((object m o).live, NotLive)
     ∷ (owns s (object m o), NoRight)
-    ∷ (wallAll (afterwards (SetCompanies s o n) m).objects, WallBroken)
+    ∷ (wall_all (afterwards (SetCompanies s o n) m).objects, WallBroken)
     ∷ []
 
 -- the first check that fails gives its answer, Granted where none does
 unfoldable pub checks : Request → Monitor → Decision
-checks q m = firstFailing (checkList q m)
+checks q m = first_failing (check_list q m)
 
 -- a refusal leaves "the whole state"; "Reply 0: granted and the state changed. Reply 1: granted and the state was so already."
 unfoldable pub answer : Decision → Bool → Monitor → Monitor → Response

@@ -10,13 +10,13 @@ use Rattle.model.specs.Decisions.{number}
 use Rattle.model.specs.Requests.{decode}
 use Rattle.model.specs.Rules.{step}
 
-abbrev pub carryOut : Decoded → Monitor → Response
-carryOut Malformed m = record { decision = MalformedRequest; monitor = m }
-carryOut (Says q) m = step q m
+abbrev pub carry_out : Decoded → Monitor → Response
+carry_out Malformed m = record { decision = MalformedRequest; monitor = m }
+carry_out (Says q) m = step q m
 
 -- the response to a byte string, which is read under the profile of the monitor
 unfoldable pub respond : List ℕ → Monitor → Response
-respond b m = carryOut (decode m.profile b) m
+respond b m = carry_out (decode m.profile b) m
 
 -- "A reply is the number that a request returns: 0, 1 or that of a refusal"
 abbrev pub reply : List ℕ → Monitor → ℕ

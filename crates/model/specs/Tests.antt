@@ -25,6 +25,6 @@ unless true d later = later
 unless false d later = d
 
 -- checks in their order, each with its answer: the first that fails gives its answer, Granted where none does
-abbrev pub firstFailing : List (Bool × Decision) → Decision
-firstFailing [] = Granted
-firstFailing (c ∷ later) = unless c.0 c.1 (firstFailing later)
+abbrev pub first_failing : List (Bool × Decision) → Decision
+first_failing [] = Granted
+first_failing (c ∷ later) = unless c.0 c.1 (first_failing later)

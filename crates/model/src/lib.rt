@@ -1,6 +1,9 @@
 // The types of the reference monitor. What they mean is said in specs/, in the order of specs/Lib.antt.
+
+#![tactic(auto)]
+
 ghost use Rattle.std.specs.Prelude.{◌≡◌};
-ghost use Rattle.model.specs.State.{widest, noObject, fresh};
+ghost use Rattle.model.specs.State.{widest, no_object, fresh};
 
 // A class, 0 to 15, and a set of needs-to-know, 0 to 15, where need k weighs 2^k.
 #[derive(Drop)]
@@ -54,7 +57,7 @@ pub struct Object {
 
 // What stands where no object is live: no owner, label, company, right, access or parent.
 pub fn no_object() -> Object
-    ensures { result ≡ noObject }
+    ensures { result ≡ no_object }
 {
     Object {
         live: false,

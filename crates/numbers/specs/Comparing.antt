@@ -5,8 +5,8 @@ use Rattle.model.specs.declared.Comparison.{Comparison}
 use Rattle.model.specs.declared.Comparison.TheVariants.{Equal, Above, Below, Apart}
 
 -- "equal, above (only A dominates), below (only B does) or apart (neither)"
-abbrev pub comparisonNumber : Comparison → ℕ
-comparisonNumber Equal = 0
-comparisonNumber Above = 1
-comparisonNumber Below = 2
-comparisonNumber Apart = 3
+abbrev pub comparison_number : Comparison → ℕ
+comparison_number Equal = 0
+comparison_number Above = 1
+comparison_number Below = 2
+comparison_number Apart = 3

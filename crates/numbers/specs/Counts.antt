@@ -3,5 +3,5 @@
 use Rattle.std.specs.Prelude.{ℕ, ◌+◌, ◌*◌, ◌%◌, ◌^◌}
 
 -- the number in the low byte and the count, cut to 56 bits, above it
-abbrev pub withCount : ℕ → ℕ → ℕ
-withCount number count = number + 256 * (count % 2 ^ 56)
+abbrev pub with_count : ℕ → ℕ → ℕ
+with_count number count = number + 256 * (count % 2 ^ 56)

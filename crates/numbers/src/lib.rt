@@ -1,14 +1,17 @@
 // Answers as numbers for C, where they are no replies: a comparison, a number with a count beside it, an answer on orders.
+
+#![tactic(auto)]
+
 ghost use Rattle.std.specs.Prelude.{◌≡◌};
-ghost use Rattle.numbers.specs.Comparing.{comparisonNumber};
-ghost use Rattle.numbers.specs.Counts.{withCount};
-ghost use Rattle.numbers.specs.Orders.{orderNumber};
+ghost use Rattle.numbers.specs.Comparing.{comparison_number};
+ghost use Rattle.numbers.specs.Counts.{with_count};
+ghost use Rattle.numbers.specs.Orders.{order_number};
 
 use model::Comparison;
 use start_order::StartOrder;
 
 pub fn comparison_number(c: Comparison) -> u8
-    ensures { result ≡ comparisonNumber c }
+    ensures { result ≡ comparison_number c }
 {
     match c {
         Comparison::Equal => 0,
@@ -20,14 +23,14 @@ pub fn comparison_number(c: Comparison) -> u8
 
 // The number in the low byte and the count above it, in the 56 bits that are left.
 pub fn with_count(number: u8, count: usize) -> u64
-    ensures { result ≡ withCount number count }
+    ensures { result ≡ with_count number count }
 {
     number as u64 + 256 * (count as u64 % (1 << 56))
 }
 
 // The code in the low byte, the first place in the 24 bits above it and the second in the 24 above these.
 pub fn order_number(found: StartOrder) -> u64
-    ensures { result ≡ orderNumber found }
+    ensures { result ≡ order_number found }
 {
     match found {
         StartOrder::Agree => 0,

@@ -1,9 +1,12 @@
 // Create and delete, on a unit. The checks of a kind are in the scope's order, then stands what it stores. Each returns the number of its
 // answer; a refusal leaves every byte.
+
+#![tactic(auto)]
+
 ghost use Rattle.std.specs.Prelude.{◌≡◌, cond, ◌<◌, ◌≤◌, length};
-ghost use Rattle.model.specs.State.{subjectCount, objectCount};
+ghost use Rattle.model.specs.State.{subject_count, object_count};
 ghost use Rattle.model.specs.Rules.{checks};
-ghost use Rattle.unit.specs.Rows.{rowCount, stateIn};
+ghost use Rattle.unit.specs.Rows.{row_count, state_in};
 ghost use Rattle.kinds.specs.Carried.{Does};
 
 use hierarchy::{parent_live, remove};
@@ -13,8 +16,8 @@ use unit::{is_enrolled, is_live, is_owner, row_of, set_rows};
 
 // 5: live, unlabelled and without a company, under the parent that how says, owned by the actor, who gains r, w, a, and e if how says so.
 pub fn create(unit: &mut [[u8; 16]], s: u8, o: u8, how: Creation) -> u8
-    requires* do_value { do ⌜ (← ⟦unit.len()⟧) ≡ rowCount ⌝ }
-    requires s_lt_subject_count { (s < subjectCount) × (o < objectCount) × (how.parent ≤ objectCount) }
+    requires unit_len { length unit.old ≡ row_count }
+    requires s_lt_subject_count { (s < subject_count) × (o < object_count) × (how.parent ≤ object_count) }
     ensures { Does (Request.Create s o how) unit.old unit.new result }
 {
     let under = check(
@@ -44,8 +47,8 @@ fn owner_rights(execute: bool) -> u8
 
 // 6: no longer live, its rights and accesses gone, and everything below it.
 pub fn delete(unit: &mut [[u8; 16]], s: u8, o: u8) -> u8
-    requires* do_value { do ⌜ (← ⟦unit.len()⟧) ≡ rowCount ⌝ }
-    requires s_lt_subject_count { (s < subjectCount) × (o < objectCount) }
+    requires unit_len { length unit.old ≡ row_count }
+    requires s_lt_subject_count { (s < subject_count) × (o < object_count) }
     ensures { Does (Request.Delete s o) unit.old unit.new result }
 {
     let d = by_owner(unit, s, o);
@@ -58,9 +61,9 @@ pub fn delete(unit: &mut [[u8; 16]], s: u8, o: u8) -> u8
 
 // The checks of delete, with which change of level and the setting of company numbers begin: 3, 4, and 6: the actor is owner.
 pub fn by_owner(unit: &[[u8; 16]], s: u8, o: u8) -> Decision
-    requires unit_len { length unit.now ≡ rowCount }
-    requires s_lt_subject_count { (s < subjectCount) × (o < objectCount) }
-    ensures { result ≡ checks (Request.Delete s o) (stateIn unit.now) }
+    requires unit_len { length unit.now ≡ row_count }
+    requires s_lt_subject_count { (s < subject_count) × (o < object_count) }
+    ensures { result ≡ checks (Request.Delete s o) (state_in unit.now) }
 {
     let allowed = check(is_owner(unit, s, o), Decision::NoRight, Decision::Granted);
     let live = check(is_live(unit, o), Decision::NotLive, allowed);

@@ -3,11 +3,11 @@
 use Rattle.std.specs.Prelude.{ℕ, zero, suc, ◌+◌, List, [], ◌∷◌}
 
 -- f at each number below n, summed
-unfoldable pub sumBelow : ℕ → (ℕ → ℕ) → ℕ
-sumBelow zero f = 0
-sumBelow (suc n) f = sumBelow n f + f n
+unfoldable pub sum_below : ℕ → (ℕ → ℕ) → ℕ
+sum_below zero f = 0
+sum_below (suc n) f = sum_below n f + f n
 
 -- f at each element, summed
-unfoldable pub sumOver : {A : Type 0} → List A → (A → ℕ) → ℕ
-sumOver [] f = 0
-sumOver (x ∷ xs) f = f x + sumOver xs f
+unfoldable pub sum_over : {A : Type 0} → List A → (A → ℕ) → ℕ
+sum_over [] f = 0
+sum_over (x ∷ xs) f = f x + sum_over xs f

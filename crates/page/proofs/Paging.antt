@@ -10,12 +10,12 @@ use Rattle.model.specs.declared.Monitor.{Monitor}
 use Rattle.model.specs.declared.Decision.{Decision}
 use Rattle.model.specs.declared.Decision.TheVariants.{Granted, MalformedRequest, NotLive, ShortBuffer}
 use Rattle.model.specs.Tests.{unless}
-use Rattle.model.specs.State.{objectCount, object}
+use Rattle.model.specs.State.{object_count, object}
 use Rattle.model.specs.Decisions.{refuses}
 use Rattle.model.specs.Buffers.{front}
 use Rattle.model.proofs.Tests.{cond-true, cond-false}
 use Rattle.model.proofs.Buffers.{short-is, room-is}
-use Rattle.page_lines.specs.Lines.{pageSize}
+use Rattle.page_lines.specs.Lines.{page_size}
 use Rattle.page.specs.Page.{page, paging, paged}
 
 module _ (m : Monitor) (o : ℕ) (buffer : List ℕ) where
@@ -25,7 +25,7 @@ module _ (m : Monitor) (o : ℕ) (buffer : List ℕ) where
   page-refused-leaves r = cond-true (refuses (paging m o buffer)) buffer _ r
 
   -- granted, the page stands in front
-  pub page-granted-front : paging m o buffer ≡ Granted → paged m o buffer ≡ front pageSize (page (object m o)) buffer
+  pub page-granted-front : paging m o buffer ≡ Granted → paged m o buffer ≡ front page_size (page (object m o)) buffer
   unfolding paged
   page-granted-front g = cond-false (refuses (paging m o buffer)) buffer _ (ap refuses g)
 
@@ -33,22 +33,22 @@ module _ (m : Monitor) (o : ℕ) (buffer : List ℕ) where
   refused-leaves d e r = (e, sym (page-refused-leaves (ap refuses (sym e) ∙ r)))
 
   -- above 63
-  pub page-above : objectCount ≤ o → (MalformedRequest ≡ paging m o buffer) × (buffer ≡ paged m o buffer)
+  pub page-above : object_count ≤ o → (MalformedRequest ≡ paging m o buffer) × (buffer ≡ paged m o buffer)
   unfolding paging unless
-  page-above h = refused-leaves MalformedRequest (rw (le-ltb o objectCount h)) refl
+  page-above h = refused-leaves MalformedRequest (rw (le-ltb o object_count h)) refl
 
-  module _ (h : o < objectCount) where
+  module _ (h : o < object_count) where
     pub page-not-live : (object m o).live ≡ false → (NotLive ≡ paging m o buffer) × (buffer ≡ paged m o buffer)
     unfolding paging unless
-    page-not-live l = refused-leaves NotLive (rw (lt-ltb o objectCount h, l)) refl
+    page-not-live l = refused-leaves NotLive (rw (lt-ltb o object_count h, l)) refl
 
     module _ (l : (object m o).live ≡ true) where
-      pub page-short : length buffer < pageSize → (ShortBuffer ≡ paging m o buffer) × (buffer ≡ paged m o buffer)
+      pub page-short : length buffer < page_size → (ShortBuffer ≡ paging m o buffer) × (buffer ≡ paged m o buffer)
       unfolding paging unless
-      page-short n = refused-leaves ShortBuffer (rw (lt-ltb o objectCount h, l, short-is pageSize buffer n)) refl
+      page-short n = refused-leaves ShortBuffer (rw (lt-ltb o object_count h, l, short-is page_size buffer n)) refl
 
-      pub page-done : (last : List ℕ) → pageSize ≤ length buffer → last ≡ front pageSize (page (object m o)) buffer → (Granted ≡ paging m o buffer) × (last ≡ paged m o buffer)
+      pub page-done : (last : List ℕ) → page_size ≤ length buffer → last ≡ front page_size (page (object m o)) buffer → (Granted ≡ paging m o buffer) × (last ≡ paged m o buffer)
       unfolding paging unless
       page-done last n e =
-          let answer : Granted ≡ paging m o buffer = rw (lt-ltb o objectCount h, l, room-is pageSize buffer n) in
+          let answer : Granted ≡ paging m o buffer = rw (lt-ltb o object_count h, l, room-is page_size buffer n) in
           (answer, e ∙ sym (page-granted-front (sym answer)))

@@ -1,6 +1,9 @@
 // The access page of an object: who has which rights and holds which accesses, for a terminal.
+
+#![tactic(auto)]
+
 ghost use Rattle.std.specs.Prelude.{◌≡◌, length};
-ghost use Rattle.unit.specs.Rows.{rowCount, stateIn};
+ghost use Rattle.unit.specs.Rows.{row_count, state_in};
 ghost use Rattle.page.specs.Page.{paging, paged};
 
 use buffers::put_bytes;
@@ -15,8 +18,8 @@ pub const PAGE_BYTES: usize = LAST_AT + LAST_BYTES;
 
 // The page of object o into the first bytes of out; a refusal leaves every byte of it.
 pub fn page(unit: &[[u8; 16]], o: u8, out: &mut [u8]) -> Decision
-    requires { length unit.now ≡ rowCount }
-    ensures { (result ≡ paging (stateIn unit.now) o out.old) × (out.new ≡ paged (stateIn unit.now) o out.old) }
+    requires { length unit.now ≡ row_count }
+    ensures { (result ≡ paging (state_in unit.now) o out.old) × (out.new ≡ paged (state_in unit.now) o out.old) }
 {
     if Monitor::OBJECTS <= o as usize {
         return Decision::MalformedRequest;

@@ -5,10 +5,10 @@ use Rattle.bits.specs.Bits.{bit, join}
 use Rattle.model.specs.declared.Mode.{Mode}
 use Rattle.model.specs.declared.Object.{Object}
 use Rattle.model.specs.Modes.{has}
-use Rattle.model.specs.State.{subjectCount, rightsOf, heldBy}
-use Rattle.model.specs.Buffers.{digit, twoDigits}
-use Rattle.orders.specs.Sums.{sumBelow}
-use Rattle.page_sets.specs.Sets.{modes, marks, modeCount}
+use Rattle.model.specs.State.{subject_count, rights_of, held_by}
+use Rattle.model.specs.Buffers.{digit, two_digits}
+use Rattle.orders.specs.Sums.{sum_below}
+use Rattle.page_sets.specs.Sets.{modes, marks, mode_count}
 
 -- ---- characters
 
@@ -24,41 +24,41 @@ newline = 10
 -- digit", a newline
 unfoldable pub line : ℕ → ℕ → ℕ → List ℕ
 line s rights held =
-    twoDigits s ++ (space ∷ marks rights) ++ (space ∷ marks held) ++ (space ∷ digit (modeCount held) ∷ newline ∷ [])
+    two_digits s ++ (space ∷ marks rights) ++ (space ∷ marks held) ++ (space ∷ digit (mode_count held) ∷ newline ∷ [])
 
 -- "14 characters and a newline"
-abbrev pub lineSize : ℕ
-lineSize = 14 + 1
+abbrev pub line_size : ℕ
+line_size = 14 + 1
 
 -- the lines of the subjects below n at an object
 unfoldable pub lines : Object → ℕ → List ℕ
 lines ob zero = []
-lines ob (suc s) = lines ob s ++ line s (rightsOf ob s) (heldBy ob s)
+lines ob (suc s) = lines ob s ++ line s (rights_of ob s) (held_by ob s)
 
 -- ---- the last line
 
 -- "holders of r, w, a and e": how many subjects hold the mode
 unfoldable pub holders : Object → Mode → ℕ
-holders ob x = sumBelow subjectCount (λ s. bit (has x (heldBy ob s)))
+holders ob x = sum_below subject_count (λ s. bit (has x (held_by ob s)))
 
 -- "The total is the sum down the lines"
 unfoldable pub total : Object → ℕ
-total ob = sumBelow subjectCount (λ s. modeCount (heldBy ob s))
+total ob = sum_below subject_count (λ s. mode_count (held_by ob s))
 
 -- a space and a number in two digits
 abbrev pub spaced : ℕ → List ℕ
-spaced n = space ∷ twoDigits n
+spaced n = space ∷ two_digits n
 
 -- "`to`, space, the counts of holders of r, w, a and e in two digits with a space between, space, the total in two digits", a newline
-unfoldable pub lastLine : Object → List ℕ
-lastLine ob = 116 ∷ 111 ∷ (join (map (λ x. spaced (holders ob x)) modes) ++ spaced (total ob) ++ (newline ∷ []))
+unfoldable pub last_line : Object → List ℕ
+last_line ob = 116 ∷ 111 ∷ (join (map (λ x. spaced (holders ob x)) modes) ++ spaced (total ob) ++ (newline ∷ []))
 
 -- "17 characters and a newline"
-abbrev pub lastSize : ℕ
-lastSize = 17 + 1
+abbrev pub last_size : ℕ
+last_size = 17 + 1
 
 -- ---- the size of a page
 
 -- "the page's 258 bytes"
-abbrev pub pageSize : ℕ
-pageSize = lineSize * subjectCount + lastSize
+abbrev pub page_size : ℕ
+page_size = line_size * subject_count + last_size

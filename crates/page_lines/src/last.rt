@@ -1,8 +1,8 @@
 // The last line of a page: how many hold each mode, and the total.
 ghost use Rattle.std.specs.Prelude.{◌≡◌, ◌<◌, length};
-ghost use Rattle.model.specs.State.{objectCount, object};
-ghost use Rattle.unit.specs.Rows.{rowCount, stateIn};
-ghost use Rattle.page_lines.specs.Lines.{holders, lastLine};
+ghost use Rattle.model.specs.State.{object_count, object};
+ghost use Rattle.unit.specs.Rows.{row_count, state_in};
+ghost use Rattle.page_lines.specs.Lines.{holders, last_line};
 
 use buffers::two_digits;
 use model::{Mode, Monitor};
@@ -13,9 +13,9 @@ pub const LAST_BYTES: usize = 18;
 
 // How many subjects hold the mode.
 fn holders(unit: &[[u8; 16]], o: u8, x: Mode) -> u8
-    requires unit_len { length unit.now ≡ rowCount }
-    requires o_lt_object_count { o < objectCount }
-    ensures { result ≡ holders (object (stateIn unit.now) o) x }
+    requires unit_len { length unit.now ≡ row_count }
+    requires o_lt_object_count { o < object_count }
+    ensures { result ≡ holders (object (state_in unit.now) o) x }
 {
     let mut count: u8 = 0;
     let mut s: usize = 0;
@@ -29,9 +29,9 @@ fn holders(unit: &[[u8; 16]], o: u8, x: Mode) -> u8
 
 // The total is the sum over the modes here, which is the sum down the lines.
 pub fn last_line(unit: &[[u8; 16]], o: u8) -> [u8; LAST_BYTES]
-    requires unit_len { length unit.now ≡ rowCount }
-    requires o_lt_object_count { o < objectCount }
-    ensures { result ≡ lastLine (object (stateIn unit.now) o) }
+    requires unit_len { length unit.now ≡ row_count }
+    requires o_lt_object_count { o < object_count }
+    ensures { result ≡ last_line (object (state_in unit.now) o) }
 {
     let read = holders(unit, o, Mode::Read);
     let write = holders(unit, o, Mode::Write);

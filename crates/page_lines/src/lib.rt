@@ -1,4 +1,7 @@
 // The lines of an access page: one for each subject, and the last one.
+
+#![tactic(auto)]
+
 mod last;
 mod lines;
 

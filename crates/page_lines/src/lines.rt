@@ -1,9 +1,9 @@
 // The sixteen lines of a page, one for each subject.
 ghost use Rattle.std.specs.Prelude.{◌≡◌, ◌<◌, ◌≤◌, length};
-ghost use Rattle.model.specs.State.{subjectCount, objectCount, object};
+ghost use Rattle.model.specs.State.{subject_count, object_count, object};
 ghost use Rattle.model.specs.Buffers.{put};
-ghost use Rattle.unit.specs.Rows.{rowCount, stateIn};
-ghost use Rattle.page_lines.specs.Lines.{line, lines, pageSize};
+ghost use Rattle.unit.specs.Rows.{row_count, state_in};
+ghost use Rattle.page_lines.specs.Lines.{line, lines, page_size};
 
 use buffers::{put_bytes, two_digits};
 use model::Monitor;
@@ -40,9 +40,9 @@ fn line(s: u8, rights: u8, held: u8) -> [u8; LINE_BYTES]
 
 // The lines into the first bytes of out.
 pub fn put_lines(out: &mut [u8], unit: &[[u8; 16]], o: u8)
-    requires unit_len { length unit.now ≡ rowCount }
-    requires o_lt_object_count { (o < objectCount) × (pageSize ≤ length out.old) }
-    ensures { out.new ≡ put out.old 0 (lines (object (stateIn unit.now) o) subjectCount) }
+    requires unit_len { length unit.now ≡ row_count }
+    requires o_lt_object_count { (o < object_count) × (page_size ≤ length out.old) }
+    ensures { out.new ≡ put out.old 0 (lines (object (state_in unit.now) o) subject_count) }
 {
     let mut s: usize = 0;
     while s < Monitor::SUBJECTS {

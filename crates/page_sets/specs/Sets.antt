@@ -5,7 +5,7 @@ use Rattle.bits.specs.Bits.{bit}
 use Rattle.model.specs.declared.Mode.{Mode}
 use Rattle.model.specs.declared.Mode.TheVariants.{Read, Write, Append, Execute}
 use Rattle.model.specs.Modes.{has}
-use Rattle.orders.specs.Sums.{sumOver}
+use Rattle.orders.specs.Sums.{sum_over}
 
 abbrev pub dash : ℕ
 dash = 45
@@ -29,5 +29,5 @@ abbrev pub marks : ℕ → List ℕ
 marks set = map (mark set) modes
 
 -- "how many are held"
-unfoldable pub modeCount : ℕ → ℕ
-modeCount set = sumOver modes (λ x. bit (has x set))
+unfoldable pub mode_count : ℕ → ℕ
+mode_count set = sum_over modes (λ x. bit (has x set))

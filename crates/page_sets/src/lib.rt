@@ -1,8 +1,11 @@
 // What the page shows of a set of modes: its letters, and how many modes are in it.
+
+#![tactic(auto)]
+
 ghost use Rattle.std.specs.Prelude.{◌≡◌};
 ghost use Rattle.bits.specs.Bits.{bit};
 ghost use Rattle.model.specs.Modes.{has};
-ghost use Rattle.page_sets.specs.Sets.{letter, mark, marks, modeCount};
+ghost use Rattle.page_sets.specs.Sets.{letter, mark, marks, mode_count};
 
 use mode_sets::has;
 use model::Mode;
@@ -47,7 +50,7 @@ pub fn bit_of(set: u8, x: Mode) -> u8
 
 // How many of the four modes are in the set.
 pub fn count(set: u8) -> u8
-    ensures { result ≡ modeCount set }
+    ensures { result ≡ mode_count set }
 {
     let r = bit_of(set, Mode::Read);
     let w = bit_of(set, Mode::Write);

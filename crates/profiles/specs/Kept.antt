@@ -3,17 +3,17 @@
 use Rattle.std.specs.Prelude.{ℕ}
 use Rattle.model.specs.declared.Monitor.{Monitor}
 use Rattle.model.specs.Tests.{all_below}
-use Rattle.model.specs.Profiles.{subjectInside, objectInside, absentBeyond, clearanceInside, objectLabelInside, levelsInside}
+use Rattle.model.specs.Profiles.{subject_inside, object_inside, absent_beyond, clearance_inside, object_label_inside, levels_inside}
 use Rattle.profiles.specs.declared.Kept.{Kept}
 
 -- of the subjects below k
-abbrev pub subjectsKept : Monitor → ℕ → Kept
-subjectsKept m k = record { absent = all_below k (subjectInside m); inside = all_below k (clearanceInside m) }
+abbrev pub subjects_kept : Monitor → ℕ → Kept
+subjects_kept m k = record { absent = all_below k (subject_inside m); inside = all_below k (clearance_inside m) }
 
 -- of the objects below k
-abbrev pub objectsKept : Monitor → ℕ → Kept
-objectsKept m k = record { absent = all_below k (objectInside m); inside = all_below k (objectLabelInside m) }
+abbrev pub objects_kept : Monitor → ℕ → Kept
+objects_kept m k = record { absent = all_below k (object_inside m); inside = all_below k (object_label_inside m) }
 
 -- of the whole state
 abbrev pub kept : Monitor → Kept
-kept m = record { absent = absentBeyond m; inside = levelsInside m }
+kept m = record { absent = absent_beyond m; inside = levels_inside m }

@@ -1,9 +1,12 @@
 // What a site profile asks of a beginning: that it is in its ranges, that no record stands beyond it, and that every level is inside it.
+
+#![tactic(auto)]
+
 ghost use Rattle.std.specs.Prelude.{◌≡◌, length};
-ghost use Rattle.model.specs.State.{subjectCount, objectCount};
-ghost use Rattle.model.specs.Profiles.{site, profileFits, labelInside};
-ghost use Rattle.unit.specs.Rows.{rowCount, stateIn};
-ghost use Rattle.profiles.specs.Kept.{subjectsKept, objectsKept, kept};
+ghost use Rattle.model.specs.State.{subject_count, object_count};
+ghost use Rattle.model.specs.Profiles.{site, profile_fits, label_inside};
+ghost use Rattle.unit.specs.Rows.{row_count, state_in};
+ghost use Rattle.profiles.specs.Kept.{subjects_kept, objects_kept, kept};
 
 use labels::{at_least, is_present};
 use model::{Label, Level, Monitor, Profile};
@@ -22,7 +25,7 @@ pub fn site(subjects: u8, objects: u8, class: u8, needs: u16) -> Profile
 
 // The ranges: subjects in use 1 to 16, objects in use 1 to 64, highest class 0 to 15.
 pub fn fits(p: Profile) -> bool
-    ensures { result ≡ profileFits p }
+    ensures { result ≡ profile_fits p }
 {
     let subjects = (1 <= p.subjects) & (p.subjects <= 16);
     let objects = (1 <= p.objects) & (p.objects <= 64);
@@ -31,7 +34,7 @@ pub fn fits(p: Profile) -> bool
 
 // A clearance or label that is absent, or has no class and no need outside the profile.
 fn label_inside(p: Profile, l: Label) -> bool
-    ensures { result ≡ labelInside p l }
+    ensures { result ≡ label_inside p l }
 {
     match l {
         Label::Absent => true,
@@ -48,8 +51,8 @@ pub struct Kept {
 
 // The records of the subjects.
 pub fn subjects_kept(unit: &[[u8; 16]]) -> Kept
-    requires { length unit.now ≡ rowCount }
-    ensures { result ≡ subjectsKept (stateIn unit.now) subjectCount }
+    requires { length unit.now ≡ row_count }
+    ensures { result ≡ subjects_kept (state_in unit.now) subject_count }
 {
     let p = profile_of(unit);
     let mut absent = true;
@@ -67,8 +70,8 @@ pub fn subjects_kept(unit: &[[u8; 16]]) -> Kept
 
 // The records of the objects.
 fn objects_kept(unit: &[[u8; 16]]) -> Kept
-    requires { length unit.now ≡ rowCount }
-    ensures { result ≡ objectsKept (stateIn unit.now) objectCount }
+    requires { length unit.now ≡ row_count }
+    ensures { result ≡ objects_kept (state_in unit.now) object_count }
 {
     let p = profile_of(unit);
     let mut absent = true;
@@ -85,8 +88,8 @@ fn objects_kept(unit: &[[u8; 16]]) -> Kept
 
 // All records of a unit.
 pub fn keeps(unit: &[[u8; 16]]) -> Kept
-    requires { length unit.now ≡ rowCount }
-    ensures { result ≡ kept (stateIn unit.now) }
+    requires { length unit.now ≡ row_count }
+    ensures { result ≡ kept (state_in unit.now) }
 {
     let subjects = subjects_kept(unit);
     let objects = objects_kept(unit);

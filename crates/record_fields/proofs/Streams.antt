@@ -9,7 +9,7 @@ use native.Mathlib.Omega.{arith}
 use lib.ListN.{length, take, get_or}
 use Rattle.bits.specs.Bits.{to_bits, waiting, stored}
 use Rattle.bits.specs.Stream.{Appends, appends}
-use Rattle.model.specs.Layout.{setWidth, setsBits}
+use Rattle.model.specs.Layout.{set_width, sets_bits}
 
 -- what the function of bits that appends a field ensures, as a law of the stream
 pub appended : (s t : List ℕ) (at acc w x rest : ℕ) → w ≤ 8 → at + w ≤ 8 * length s → (rest ≡ waiting acc w x) × (t ≡ stored s at acc w x)
@@ -25,17 +25,17 @@ appended-less s t at acc w x rest hw h e =
 
 -- one subject more
 sets-suc : (i : ℕ) (r h : List ℕ) → i < length r → i < length h
-    → setsBits (take i r) (take i h) ++ (to_bits setWidth (get_or r i 0) ++ to_bits setWidth (get_or h i 0)) ≡ setsBits (take (suc i) r) (take (suc i) h)
-unfolding setsBits
+    → sets_bits (take i r) (take i h) ++ (to_bits set_width (get_or r i 0) ++ to_bits set_width (get_or h i 0)) ≡ sets_bits (take (suc i) r) (take (suc i) h)
+unfolding sets_bits
 sets-suc i [] h p q = absurd (not-suc-le-zero p)
 sets-suc i (x ∷ r) [] p q = absurd (not-suc-le-zero q)
-sets-suc zero (x ∷ r) (y ∷ h) p q = sym (append-nil (to_bits setWidth x ++ to_bits setWidth y))
+sets-suc zero (x ∷ r) (y ∷ h) p q = sym (append-nil (to_bits set_width x ++ to_bits set_width y))
 sets-suc (suc i) (x ∷ r) (y ∷ h) p q = rw (← sets-suc i r h (le_of_suc-le-suc p) (le_of_suc-le-suc q)) (simp append_assoc)
 
 pub sets_more : (i : ℕ) (r h : List ℕ) → i < length r → i < length h
-    → setsBits (take i r) (take i h) ++ (to_bits setWidth (get_or r i 0) ++ to_bits setWidth (get_or h i 0)) ≡ setsBits (take (i + 1) r) (take (i + 1) h)
+    → sets_bits (take i r) (take i h) ++ (to_bits set_width (get_or r i 0) ++ to_bits set_width (get_or h i 0)) ≡ sets_bits (take (i + 1) r) (take (i + 1) h)
 sets_more i r h p q = rw (add-one i) (sets-suc i r h p q)
 
-pub no-sets : [] ≡ setsBits [] []
-unfolding setsBits
+pub no-sets : [] ≡ sets_bits [] []
+unfolding sets_bits
 no-sets = refl

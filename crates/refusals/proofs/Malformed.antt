@@ -14,12 +14,12 @@ use Rattle.model.specs.declared.Fields.{Fields}
 use Rattle.model.specs.declared.Request.{Request}
 use Rattle.model.specs.declared.Decoded.{Decoded}
 use Rattle.model.specs.declared.Decoded.TheVariants.{Malformed, Says}
-use Rattle.model.specs.Requests.{fields, modeAllowed, unusedZero, parentWithin, fieldsFormed, levelOf, within, wellFormed, decode}
-use Rattle.model.specs.Profiles.{levelInside}
+use Rattle.model.specs.Requests.{fields, mode_allowed, unused_zero, parent_within, fields_formed, level_of, within, well_formed, decode}
+use Rattle.model.specs.Profiles.{level_inside}
 use Rattle.model.proofs.Tests.{split, apart, clash, and_left, and_right, and-false, implies-false, or_cases, or-false, cond-true, cond-false, le-or-lt}
 use Rattle.model.proofs.Within.{within-fields, formed-of, within_of}
 use Rattle.model.proofs.Requests.{in-kinds, actor-in, other-in, object-in, parent_in, last-two, decode-says, says-decode}
-use Rattle.refusals.specs.Causes.{NeedOutside, ModeNotAllowed, UnusedSet, MalformedBytes, not-six-bytes, kind-below, kind-above, actor-above, other-above, object-above, mode-not-allowed, unused-set, actor-outside, other-outside, object-outside, class-outside, need-outside, parent_above, parent-outside}
+use Rattle.refusals.specs.Causes.{NeedOutside, ModeNotAllowed, UnusedSet, MalformedBytes, not_six_bytes, kind_below, kind_above, actor_above, other_above, object_above, mode_not_allowed, unused_set, actor_outside, other_outside, object_outside, class_outside, need-outside, parent_above, parent_outside}
 use Rattle.refusals.proofs.ProfileCauses.{level-outside, level-not-outside}
 
 -- ---- a test of a number that fails
@@ -32,8 +32,8 @@ not_eqb a b h = split (eqb a b) (λ w. absurd (h (eqb-true a b w))) (λ w. w)
 
 -- ---- a field test that fails
 
-mode-fails : (k x : ℕ) → modeAllowed k x ≡ false → ModeNotAllowed k x
-unfolding modeAllowed
+mode-fails : (k x : ℕ) → mode_allowed k x ≡ false → ModeNotAllowed k x
+unfolding mode_allowed
 mode-fails k x e =
     split (leb k 4)
     (λ w. inl (
@@ -53,8 +53,8 @@ mode-fails k x e =
     above : (k : ℕ) → 4 < k → k ≢ 5 → 5 < k
     above k h n = ⊎_elim (λ (w : k ≤ 5). absurd (n (omega arith))) (λ (w : 5 < k). w) (le-or-lt k 5)
 
-mode-passes : (k x : ℕ) → modeAllowed k x ≡ true → ModeNotAllowed k x → ⊥
-unfolding modeAllowed
+mode-passes : (k x : ℕ) → mode_allowed k x ≡ true → ModeNotAllowed k x → ⊥
+unfolding mode_allowed
 mode-passes k x e (inl p) =
     let t : (leb 1 x && leb x 4) ≡ true = sym (cond-true (leb k 4) _ _ (le-leb k 4 p.0)) ∙ e in
     let low : 1 ≤ x = leb-true 1 x (and_left (leb 1 x) _ t) in
@@ -72,8 +72,8 @@ mode-passes k x e (inr (inr p)) =
     not-true true h = absurd (h refl)
     not-true false h = refl
 
-unused-fails : (f : Fields) → unusedZero f ≡ false → UnusedSet f
-unfolding unusedZero
+unused-fails : (f : Fields) → unused_zero f ≡ false → UnusedSet f
+unfolding unused_zero
 unused-fails f e =
     and-false (eqb f.kind 3 || (eqb f.kind 4 || eqb f.other 0)) _ e
     (λ w.
@@ -92,8 +92,8 @@ unused-fails f e =
     inr (inr (inl (eqb-false _ _ c.0, eqb-false _ _ a.0, eqb-false _ _ b.0, eqb-false _ _ b.1))))
     (λ u. inr (inr (inr (eqb-false _ _ u))))))
 
-unused-passes : (f : Fields) → unusedZero f ≡ true → UnusedSet f → ⊥
-unfolding unusedZero
+unused-passes : (f : Fields) → unused_zero f ≡ true → UnusedSet f → ⊥
+unfolding unused_zero
 unused-passes f e w =
     let other = and_left (eqb f.kind 3 || (eqb f.kind 4 || eqb f.other 0)) _ e in
     let behind = and_right (eqb f.kind 3 || (eqb f.kind 4 || eqb f.other 0)) _ e in
@@ -118,43 +118,43 @@ unused-passes f e w =
 -- ---- the theorem
 
 -- a parent beyond the objects
-parent-fails : (n : ℕ) (f : Fields) → parentWithin n f ≡ false → (f.kind ≡ 5) × (n < f.needs)
-unfolding parentWithin
+parent-fails : (n : ℕ) (f : Fields) → parent_within n f ≡ false → (f.kind ≡ 5) × (n < f.needs)
+unfolding parent_within
 parent-fails n f e = let q = implies-false (eqb f.kind 5) (leb f.needs n) e in (eqb-true _ _ q.0, leb-false _ _ q.1)
 
-form-fails : (p : Profile) (b : List ℕ) → fieldsFormed (fields b) ≡ false → MalformedBytes p b
-unfolding fieldsFormed
+form-fails : (p : Profile) (b : List ℕ) → fields_formed (fields b) ≡ false → MalformedBytes p b
+unfolding fields_formed
 form-fails p b e =
     let f = fields b in
     and-false (leb 1 f.kind && leb f.kind 8) _ e
-    (λ w. and-false (leb 1 f.kind) (leb f.kind 8) w (λ v. kind-below (leb-false 1 _ v)) (λ v. kind-above (leb-false _ 8 v)))
-    (λ w. and-false (ltb f.actor 16) _ w (λ v. actor-above (ltb-false _ 16 v))
-    (λ v. and-false (ltb f.other 16) _ v (λ u. other-above (ltb-false _ 16 u))
-    (λ u. and-false (ltb f.object 64) _ u (λ t. object-above (ltb-false _ 64 t))
-    (λ t. and-false (parentWithin 64 f) _ t (λ r. let q = parent-fails 64 f r in parent_above q.0 q.1)
-    (λ t. and-false (modeAllowed f.kind f.mode) _ t (λ r. mode-not-allowed (mode-fails _ _ r)) (λ r. unused-set (unused-fails f r)))))))
+    (λ w. and-false (leb 1 f.kind) (leb f.kind 8) w (λ v. kind_below (leb-false 1 _ v)) (λ v. kind_above (leb-false _ 8 v)))
+    (λ w. and-false (ltb f.actor 16) _ w (λ v. actor_above (ltb-false _ 16 v))
+    (λ v. and-false (ltb f.other 16) _ v (λ u. other_above (ltb-false _ 16 u))
+    (λ u. and-false (ltb f.object 64) _ u (λ t. object_above (ltb-false _ 64 t))
+    (λ t. and-false (parent_within 64 f) _ t (λ r. let q = parent-fails 64 f r in parent_above q.0 q.1)
+    (λ t. and-false (mode_allowed f.kind f.mode) _ t (λ r. mode_not_allowed (mode-fails _ _ r)) (λ r. unused_set (unused-fails f r)))))))
 
 within-fails : (p : Profile) (b : List ℕ) → within p (fields b) ≡ false → MalformedBytes p b
 unfolding within
 within-fails p b e =
     let f = fields b in
-    and-false (ltb f.actor p.subjects) _ e (λ v. actor-outside (ltb-false _ _ v))
-    (λ w. and-false (ltb f.other p.subjects) _ w (λ v. other-outside (ltb-false _ _ v))
-    (λ u. and-false (ltb f.object p.objects) _ u (λ v. object-outside (ltb-false _ _ v))
-    (λ t. and-false (parentWithin p.objects f) _ t (λ r. let q = parent-fails p.objects f r in parent-outside q.0 q.1)
+    and-false (ltb f.actor p.subjects) _ e (λ v. actor_outside (ltb-false _ _ v))
+    (λ w. and-false (ltb f.other p.subjects) _ w (λ v. other_outside (ltb-false _ _ v))
+    (λ u. and-false (ltb f.object p.objects) _ u (λ v. object_outside (ltb-false _ _ v))
+    (λ t. and-false (parent_within p.objects f) _ t (λ r. let q = parent-fails p.objects f r in parent_outside q.0 q.1)
     (λ t.
-    let created = or-false (eqb f.kind 5) (eqb f.kind 8 || levelInside p (levelOf f)) t in
-    let level = or-false (eqb f.kind 8) (levelInside p (levelOf f)) created.1 in
-    ⊎_elim (λ (h : p.highest.class < f.class). class-outside h)
+    let created = or-false (eqb f.kind 5) (eqb f.kind 8 || level_inside p (level_of f)) t in
+    let level = or-false (eqb f.kind 8) (level_inside p (level_of f)) created.1 in
+    ⊎_elim (λ (h : p.highest.class < f.class). class_outside h)
     (λ (h : NeedOutside p f.needs). need-outside (eqb-false _ _ created.0) (eqb-false _ _ level.0) h)
-    (level-outside p (levelOf f) level.1)))))
+    (level-outside p (level_of f) level.1)))))
 
-fields-fail : (p : Profile) (b : List ℕ) → wellFormed p (fields b) ≡ false → MalformedBytes p b
-unfolding wellFormed
-fields-fail p b e = and-false (fieldsFormed (fields b)) (within p (fields b)) e (form-fails p b) (within-fails p b)
+fields-fail : (p : Profile) (b : List ℕ) → well_formed p (fields b) ≡ false → MalformedBytes p b
+unfolding well_formed
+fields-fail p b e = and-false (fields_formed (fields b)) (within p (fields b)) e (form-fails p b) (within-fails p b)
 
 -- no kind but 7 has a class
-no-class : (f : Fields) → f.kind ≢ 7 → unusedZero f ≡ true → f.class ≡ 0
+no-class : (f : Fields) → f.kind ≢ 7 → unused_zero f ≡ true → f.class ≡ 0
 no-class f k e =
     split (eqb f.class 0) (λ w. eqb-true _ _ w)
     (λ w. absurd (unused-passes f e (inr (inl (k, eqb-false _ _ w)))))
@@ -168,40 +168,40 @@ says-not-malformed p b q e w =
     let I = within-fields p f (within_of p f d.1) in
     let kinds = in-kinds f F in
     elim w [
-      | not-six-bytes h ↦ h d.0
-      | kind-below h ↦ absurd (omega (arith, h, leb-true 1 f.kind (and_left (leb 1 f.kind) _ kinds)))
-      | kind-above h ↦ absurd (omega (arith, h, leb-true f.kind 8 (and_right (leb 1 f.kind) _ kinds)))
-      | actor-above h ↦ absurd (omega (arith, h, actor-in f F))
-      | other-above h ↦ absurd (omega (arith, h, other-in f F))
-      | object-above h ↦ absurd (omega (arith, h, object-in f F))
-      | mode-not-allowed h ↦ mode-passes _ _ (and_left (modeAllowed f.kind f.mode) _ (last-two f F)) h
-      | unused-set h ↦ unused-passes f (and_right (modeAllowed f.kind f.mode) _ (last-two f F)) h
-      | actor-outside h ↦ absurd (omega (arith, h, I.actor))
-      | other-outside h ↦ absurd (omega (arith, h, I.other))
-      | object-outside h ↦ absurd (omega (arith, h, I.object))
-      | class-outside h ↦ split (eqb f.kind 7)
+      | not_six_bytes h ↦ h d.0
+      | kind_below h ↦ absurd (omega (arith, h, leb-true 1 f.kind (and_left (leb 1 f.kind) _ kinds)))
+      | kind_above h ↦ absurd (omega (arith, h, leb-true f.kind 8 (and_right (leb 1 f.kind) _ kinds)))
+      | actor_above h ↦ absurd (omega (arith, h, actor-in f F))
+      | other_above h ↦ absurd (omega (arith, h, other-in f F))
+      | object_above h ↦ absurd (omega (arith, h, object-in f F))
+      | mode_not_allowed h ↦ mode-passes _ _ (and_left (mode_allowed f.kind f.mode) _ (last-two f F)) h
+      | unused_set h ↦ unused-passes f (and_right (mode_allowed f.kind f.mode) _ (last-two f F)) h
+      | actor_outside h ↦ absurd (omega (arith, h, I.actor))
+      | other_outside h ↦ absurd (omega (arith, h, I.other))
+      | object_outside h ↦ absurd (omega (arith, h, I.object))
+      | class_outside h ↦ split (eqb f.kind 7)
           (λ k. let seven = eqb-true f.kind 7 k in
-          level-not-outside p (levelOf f) (I.level (ap (λ (j : ℕ). eqb j 5) seven) (ap (λ (j : ℕ). eqb j 8) seven)) (inl h))
-          (λ k. absurd (omega (arith, h, no-class f (eqb-false _ _ k) (and_right (modeAllowed f.kind f.mode) _ (last-two f F)))))
-      | need-outside j k h ↦ level-not-outside p (levelOf f) (I.level (not_eqb _ _ j) (not_eqb _ _ k)) (inr h)
+          level-not-outside p (level_of f) (I.level (ap (λ (j : ℕ). eqb j 5) seven) (ap (λ (j : ℕ). eqb j 8) seven)) (inl h))
+          (λ k. absurd (omega (arith, h, no-class f (eqb-false _ _ k) (and_right (mode_allowed f.kind f.mode) _ (last-two f F)))))
+      | need-outside j k h ↦ level-not-outside p (level_of f) (I.level (not_eqb _ _ j) (not_eqb _ _ k)) (inr h)
       | parent_above k h ↦ absurd (omega (arith, h, parent_in f F (eq-eqb _ _ k)))
-      | parent-outside k h ↦ absurd (omega (arith, h, I.parent (eq-eqb _ _ k)))
+      | parent_outside k h ↦ absurd (omega (arith, h, I.parent (eq-eqb _ _ k)))
     ]
 
 pub malformed-exactly : (p : Profile) (b : List ℕ) → (decode p b ≡ Malformed) ↔ MalformedBytes p b
 malformed-exactly p b = (
   λ e. split (eqb (length b) 6)
-      (λ l. split (wellFormed p (fields b)) (λ w. absurd (not-both (sym e ∙ says-decode p b (eqb-true (length b) 6 l) w))) (fields-fail p b))
-      (λ l. not-six-bytes (eqb-false (length b) 6 l)),
+      (λ l. split (well_formed p (fields b)) (λ w. absurd (not-both (sym e ∙ says-decode p b (eqb-true (length b) 6 l) w))) (fields-fail p b))
+      (λ l. not_six_bytes (eqb-false (length b) 6 l)),
   λ w. go (decode p b) (λ q e. says-not-malformed p b q e w),
 )
   where
-    isSays : Decoded → Bool
-    isSays Malformed = false
-    isSays (Says q) = true
+    is_says : Decoded → Bool
+    is_says Malformed = false
+    is_says (Says q) = true
 
     not-both : {q : Request} → Malformed ≡ Says q → ⊥
-    not-both e = clash (sym (ap isSays e))
+    not-both e = clash (sym (ap is_says e))
 
     go : (d : Decoded) → ((q : Request) → d ≡ Says q → ⊥) → d ≡ Malformed
     go Malformed h = refl

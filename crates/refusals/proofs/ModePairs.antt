@@ -12,7 +12,7 @@ use Rattle.model.specs.declared.Request.TheVariants.{Get}
 use Rattle.model.specs.declared.Decoded.TheVariants.{Says}
 use Rattle.model.specs.declared.Decision.TheVariants.{StarBroken, WallBroken}
 use Rattle.model.specs.declared.Response.{Response}
-use Rattle.model.specs.Modes.{needsLabel}
+use Rattle.model.specs.Modes.{needs_label}
 use Rattle.model.specs.State.{object}
 use Rattle.model.specs.Properties.{Star, Wall}
 use Rattle.model.specs.ModePairs.{entry, kept, KeptByHeld}
@@ -38,7 +38,7 @@ module _ (m : Monitor) (R : Reached m) (g : List ℕ) (s o : ℕ) (x : Mode) (sa
   unfolding changed
   by-held h =
       let b = decode-range m.profile g (Get s o x) says in
-      star-added m (sound-reached m R) s o x b.0 b.1 (λ n e. h (λ q. apart n (ap needsLabel q), e))
+      star-added m (sound-reached m R) s o x b.0 b.1 (λ n e. h (λ q. apart n (ap needs_label q), e))
 
   -- a get that is granted leaves a state with the star property
   star-after : reply g m < 2 → Star (afterwards (Get s o x) m)

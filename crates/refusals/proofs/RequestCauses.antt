@@ -18,11 +18,11 @@ use Rattle.model.specs.declared.Request.TheVariants.{Get, Release, Give, Rescind
 use Rattle.model.specs.declared.Decision.TheVariants.{NotEnrolled, NotLive, AlreadyLive, NoRight, NoLabel, SimpleBroken, StarBroken, LabelLowered, WallBroken, ParentNotLive, HierarchyBroken}
 use Rattle.model.specs.Tests.{implies}
 use Rattle.model.specs.Levels.{present, dominates, Dominates}
-use Rattle.model.specs.Modes.{has, observes, needsLabel}
-use Rattle.model.specs.State.{clearance, enrolled, object, rightsOf, heldBy, withLabel}
+use Rattle.model.specs.Modes.{has, observes, needs_label}
+use Rattle.model.specs.State.{clearance, enrolled, object, rights_of, held_by, with_label}
 use Rattle.model.specs.Properties.{Simple, Star, Wall, Permits}
 use Rattle.model.specs.Requests.{InRange}
-use Rattle.model.specs.Rules.{notLowered, target, changed, afterwards, checks, owns, simpleAll, starAll, wallAll}
+use Rattle.model.specs.Rules.{not_lowered, target, changed, afterwards, checks, owns, simple_all, star_all, wall_all}
 use Rattle.model.proofs.Levels.{absent}
 use Rattle.model.proofs.Lowering.{not-lowered-decides}
 use Rattle.model.proofs.Tests.{apart, and_left, and_right, and-false, implies-out, implies-in, implies-false, not_on, not-off}
@@ -35,7 +35,7 @@ use Rattle.invariants.proofs.Wall.{wall-in, wall-for, wall-of, wall-get, wall-al
 use Rattle.invariants.specs.Sound.{Sound}
 use Rattle.invariants.proofs.Added.{simple-get-in, simple-get-out}
 use Rattle.refusals.specs.First.{AnswersFirst}
-use Rattle.refusals.specs.Causes.{NotIn, requestCauses}
+use Rattle.refusals.specs.Causes.{NotIn, request_causes}
 use Rattle.refusals.proofs.Hierarchy.{parent-there, parent-missing, change-rising, change-not-rising}
 use Rattle.refusals.proofs.First.{answers-end, answers-check}
 
@@ -55,17 +55,17 @@ fails : {b : Bool} → b ≡ false → b ≡ true → ⊥
 fails e w = apart w e
 
 -- the new label of a change of level: 14
-not-falling : (old new : Label) → notLowered old new ≡ true → ((old ≢ Absent) × (Dominates new old → ⊥)) → ⊥
+not-falling : (old new : Label) → not_lowered old new ≡ true → ((old ≢ Absent) × (Dominates new old → ⊥)) → ⊥
 not-falling old new e w = w.1 ((not-lowered-decides old new).0 e w.0)
 
-falling : (old new : Label) → notLowered old new ≡ false → (old ≢ Absent) × (Dominates new old → ⊥)
+falling : (old new : Label) → not_lowered old new ≡ false → (old ≢ Absent) × (Dominates new old → ⊥)
 falling old new e = (
   λ w. fails e ((not-lowered-decides old new).1 (λ h. absurd (h w))),
   λ d. fails e ((not-lowered-decides old new).1 (λ h. d)),
 )
 
 -- every mode but e needs a label
-not-execute : (x : Mode) → x ≢ Execute → needsLabel x ≡ true
+not-execute : (x : Mode) → x ≢ Execute → needs_label x ≡ true
 not-execute Read h = refl
 not-execute Write h = refl
 not-execute Append h = refl
@@ -82,58 +82,58 @@ module _ (m : Monitor) (S : Sound m) where
   one-absent s t e = and-false (enrolled m s) (enrolled m t) e (λ u. inl (absent (clearance m s) u)) (λ u. inr (absent (clearance m t) u))
 
   -- ownership with the right, for give and rescind
-  may-give : (s o : ℕ) (x : Mode) → (owns s (object m o) && has x (rightsOf (object m o) s)) ≡ true
+  may-give : (s o : ℕ) (x : Mode) → (owns s (object m o) && has x (rights_of (object m o) s)) ≡ true
       → (((object m o).owner ≢ s) ⊎ (Permits m s o x → ⊥)) → ⊥
   may-give s o x e w =
       ⊎_elim (λ (u : (object m o).owner ≢ s). is-owner s (object m o) (and_left (owns s (object m o)) _ e) u)
       (λ (u : Permits m s o x → ⊥). u (and_right (owns s (object m o)) _ e)) w
 
-  may-not-give : (s o : ℕ) (x : Mode) → (owns s (object m o) && has x (rightsOf (object m o) s)) ≡ false
+  may-not-give : (s o : ℕ) (x : Mode) → (owns s (object m o) && has x (rights_of (object m o) s)) ≡ false
       → ((object m o).owner ≢ s) ⊎ (Permits m s o x → ⊥)
-  may-not-give s o x e = and-false (owns s (object m o)) (has x (rightsOf (object m o) s)) e (λ u. inl (not-owner s (object m o) u)) (λ u. inr (fails u))
+  may-not-give s o x e = and-false (owns s (object m o)) (has x (rights_of (object m o) s)) e (λ u. inl (not-owner s (object m o) u)) (λ u. inr (fails u))
 
   -- the label, for the modes that need one: "7 (not e)"
-  label-missing : (o : ℕ) (x : Mode) → implies (needsLabel x) (present (object m o).label) ≡ false → (x ≢ Execute) × ((object m o).label ≡ Absent)
+  label-missing : (o : ℕ) (x : Mode) → implies (needs_label x) (present (object m o).label) ≡ false → (x ≢ Execute) × ((object m o).label ≡ Absent)
   label-missing o x e =
-      let p = implies-false (needsLabel x) (present (object m o).label) e in
-      (λ w. apart p.0 (ap needsLabel w), absent (object m o).label p.1)
+      let p = implies-false (needs_label x) (present (object m o).label) e in
+      (λ w. apart p.0 (ap needs_label w), absent (object m o).label p.1)
 
-  label-there : (o : ℕ) (x : Mode) → implies (needsLabel x) (present (object m o).label) ≡ true → ((x ≢ Execute) × ((object m o).label ≡ Absent)) → ⊥
-  label-there o x e w = not-absent (object m o).label (implies-out (needsLabel x) _ e (not-execute x w.0)) w.1
+  label-there : (o : ℕ) (x : Mode) → implies (needs_label x) (present (object m o).label) ≡ true → ((x ≢ Execute) × ((object m o).label ≡ Absent)) → ⊥
+  label-there o x e w = not-absent (object m o).label (implies-out (needs_label x) _ e (not-execute x w.0)) w.1
 
   -- every row of accesses has sixteen sets
   rows_whole : (q : Request) → length (changed q (object m (target q))).held ≡ 16 → (o : ℕ) → length (object (afterwards q m) o).held ≡ 16
-  rows_whole q e = objects-after (λ j ob. length ob.held ≡ 16) q m (λ j. (S.formed.objects-formed j).shape.held-length) (λ j. refl) e
+  rows_whole q e = objects-after (λ j ob. length ob.held ≡ 16) q m (λ j. (S.formed.objects_formed j).shape.held_length) (λ j. refl) e
 
   -- company numbers: the wall over all subjects
-  wall-set-in : (s o n : ℕ) → wallAll (afterwards (SetCompanies s o n) m).objects ≡ true → Wall (afterwards (SetCompanies s o n) m)
+  wall-set-in : (s o n : ℕ) → wall_all (afterwards (SetCompanies s o n) m).objects ≡ true → Wall (afterwards (SetCompanies s o n) m)
   unfolding changed
   wall-set-in s o n e =
-      wall-of (afterwards (SetCompanies s o n) m) (wall-all-out _ (rows_whole (SetCompanies s o n) (S.formed.objects-formed o).shape.held-length) e)
+      wall-of (afterwards (SetCompanies s o n) m) (wall-all-out _ (rows_whole (SetCompanies s o n) (S.formed.objects_formed o).shape.held_length) e)
 
   -- a change of level: simple at the object for all subjects, star over all
   module _ (s o : ℕ) (l : Level) (o-below : o < 64) where
-    labelled-now : object (afterwards (ChangeLevel s o l) m) o ≡ withLabel (object m o) (Present l)
+    labelled-now : object (afterwards (ChangeLevel s o l) m) o ≡ with_label (object m o) (Present l)
     unfolding changed
     labelled-now = object-there (ChangeLevel s o l) m S.formed o-below
 
-    simple-change-in : simpleAll m.subjects (changed (ChangeLevel s o l) (object m o)) ≡ true → Simple (afterwards (ChangeLevel s o l) m)
+    simple-change-in : simple_all m.subjects (changed (ChangeLevel s o l) (object m o)) ≡ true → Simple (afterwards (ChangeLevel s o l) m)
     unfolding changed
     simple-change-in e t p y =
-        objects-after (λ j ob. has y (heldBy ob t) ≡ true → observes y ≡ true → Dominates (clearance m t) ob.label) (ChangeLevel s o l) m
+        objects-after (λ j ob. has y (held_by ob t) ≡ true → observes y ≡ true → Dominates (clearance m t) ob.label) (ChangeLevel s o l) m
         (λ j. S.secure.simple t j y) (λ j e. none-held y _ (no-modes t) e)
-        (simple-out m.subjects (withLabel (object m o) (Present l)) (S.formed.objects-formed o).shape.held-length e t y) p
+        (simple-out m.subjects (with_label (object m o) (Present l)) (S.formed.objects_formed o).shape.held_length e t y) p
 
-    simple-change-out : Simple (afterwards (ChangeLevel s o l) m) → simpleAll m.subjects (changed (ChangeLevel s o l) (object m o)) ≡ true
+    simple-change-out : Simple (afterwards (ChangeLevel s o l) m) → simple_all m.subjects (changed (ChangeLevel s o l) (object m o)) ≡ true
     unfolding changed
     simple-change-out T =
-        simple-in m.subjects (withLabel (object m o) (Present l))
-        (λ t y. subst (λ (b : Object). has y (heldBy b t) ≡ true → observes y ≡ true → Dominates (clearance m t) b.label) labelled-now (T t o y))
+        simple-in m.subjects (with_label (object m o) (Present l))
+        (λ t y. subst (λ (b : Object). has y (held_by b t) ≡ true → observes y ≡ true → Dominates (clearance m t) b.label) labelled-now (T t o y))
 
-    star-change-in : starAll (afterwards (ChangeLevel s o l) m).objects ≡ true → Star (afterwards (ChangeLevel s o l) m)
+    star-change-in : star_all (afterwards (ChangeLevel s o l) m).objects ≡ true → Star (afterwards (ChangeLevel s o l) m)
     unfolding changed
     star-change-in e =
-        star-of (afterwards (ChangeLevel s o l) m) (star-all-out _ (rows_whole (ChangeLevel s o l) (S.formed.objects-formed o).shape.held-length) e)
+        star-of (afterwards (ChangeLevel s o l) m) (star-all-out _ (rows_whole (ChangeLevel s o l) (S.formed.objects_formed o).shape.held_length) e)
 
   -- a get: simple at the actor and the object
   simple-after-get : (s o : ℕ) (x : Mode) → InRange (Get s o x) → implies (observes x) (dominates (clearance m s) (object m o).label) ≡ true
@@ -148,7 +148,7 @@ module _ (m : Monitor) (S : Sound m) where
 
   -- ---- the theorem, kind by kind
 
-  pub request-answers : (q : Request) → InRange q → AnswersFirst (requestCauses q m) (checks q m)
+  pub request-answers : (q : Request) → InRange q → AnswersFirst (request_causes q m) (checks q m)
   unfolding checks
   request-answers (Get s o x) r =
       answers-check _ NotEnrolled _ _ _ refl (not-absent (clearance m s)) (absent (clearance m s))

@@ -9,7 +9,7 @@ use mathlib.Core.List.{List, [], ◌∷◌, map}
 use lib.ListN.{length, get_or, take, drop}
 use lib.Dec.{ltb}
 use borrow.Author.Tests.{ltb-true, ltb-false}
-use Rattle.bits.specs.Bits.{bytesToBits, first, allZero}
+use Rattle.bits.specs.Bits.{bytes_to_bits, first, all_zero}
 use Rattle.bits.specs.Records.{length_cut}
 use Rattle.model.specs.declared.Level.{Level}
 use Rattle.model.specs.declared.Label.TheVariants.{Absent, Present}
@@ -18,67 +18,67 @@ use Rattle.model.specs.declared.Object.{Object}
 use Rattle.model.specs.declared.Profile.{Profile}
 use Rattle.model.specs.Tests.{all_below}
 use Rattle.model.specs.Levels.{present}
-use Rattle.model.specs.State.{subjectCount, objectCount, nobody, noObject, clearanceAt, objectAt, fresh}
-use Rattle.model.specs.Profiles.{objectInside, absentBeyond}
-use Rattle.model.specs.Layout.{labelWidth, labelOffset, objectWidth, tableSize}
-use Rattle.model.specs.Reading.{labelFrom, labelForm, subjectFrom, objectFrom, liveFrom, objectForm, tableRecords, objectRecords, tableFrom, tableForm, objectsFrom, objectsForm, imageForm, monitorFrom}
+use Rattle.model.specs.State.{subject_count, object_count, nobody, no_object, clearance_at, object_at, fresh}
+use Rattle.model.specs.Profiles.{object_inside, absent_beyond}
+use Rattle.model.specs.Layout.{label_width, label_offset, object_width, table_size}
+use Rattle.model.specs.Reading.{label_from, label_form, subject_from, object_from, live_from, object_form, table_records, object_records, table_from, table_form, objects_from, objects_form, image_form, monitor_from}
 use Rattle.model.proofs.Tests.{split, apart, clash, and_left, and_right, and-false, or_cases, or_right, or-false, not_on, not-off, cond-true, cond-false, all-out, all-false, below_in, below_out, below_false, beyond, replicate-at, le-or-lt}
 use Rattle.refusals.specs.Causes.{Stray, StrayLabel, BitBeyond, StrayInTable, StrayInObjects, StrayInImage}
 
 -- ---- bits of what is absent
 
-zero-at : (b : List Bool) → allZero b ≡ true → (j : ℕ) → get_or b j false ≡ false
-unfolding allZero
+zero-at : (b : List Bool) → all_zero b ≡ true → (j : ℕ) → get_or b j false ≡ false
+unfolding all_zero
 zero-at [] e j = refl
 zero-at (true ∷ b) e j = clash (sym e)
 zero-at (false ∷ b) e zero = refl
 zero-at (false ∷ b) e (suc j) = zero-at b e j
 
-one_at : (b : List Bool) → allZero b ≡ false → (j : ℕ) × (get_or b j false ≡ true)
-unfolding allZero
+one_at : (b : List Bool) → all_zero b ≡ false → (j : ℕ) × (get_or b j false ≡ true)
+unfolding all_zero
 one_at [] e = clash e
 one_at (true ∷ b) e = (0, refl)
 one_at (false ∷ b) e = let p = one_at b e in (suc p.0, p.1)
 
-label-stray : (r : List Bool) → labelForm r ≡ false → Stray r
-unfolding labelForm
-label-stray r e = let p = or-false (first r) (allZero r) e in (p.0, one_at r p.1)
+label-stray : (r : List Bool) → label_form r ≡ false → Stray r
+unfolding label_form
+label-stray r e = let p = or-false (first r) (all_zero r) e in (p.0, one_at r p.1)
 
-label-clear : (r : List Bool) → labelForm r ≡ true → Stray r → ⊥
-unfolding labelForm
+label-clear : (r : List Bool) → label_form r ≡ true → Stray r → ⊥
+unfolding label_form
 label-clear r e s =
-    or_cases (first r) (allZero r) e (λ w. apart w s.0) (λ w. apart s.1.1 (zero-at r w s.1.0))
+    or_cases (first r) (all_zero r) e (λ w. apart w s.0) (λ w. apart s.1.1 (zero-at r w s.1.0))
 
-object-stray : (r : List Bool) → objectForm r ≡ false → Stray r ⊎ StrayLabel r
-unfolding objectForm
+object-stray : (r : List Bool) → object_form r ≡ false → Stray r ⊎ StrayLabel r
+unfolding object_form
 object-stray r e =
     split (first r)
-    (λ w. inr (w, label-stray (take labelWidth (drop labelOffset r)) (sym (cond-true (first r) _ _ w) ∙ e)))
+    (λ w. inr (w, label-stray (take label_width (drop label_offset r)) (sym (cond-true (first r) _ _ w) ∙ e)))
     (λ w. inl (w, one_at r (sym (cond-false (first r) _ _ w) ∙ e)))
 
-object-clear : (r : List Bool) → objectForm r ≡ true → (Stray r ⊎ StrayLabel r) → ⊥
-unfolding objectForm
+object-clear : (r : List Bool) → object_form r ≡ true → (Stray r ⊎ StrayLabel r) → ⊥
+unfolding object_form
 object-clear r e s =
     ⊎_elim (λ (u : Stray r). apart u.1.1 (zero-at r (sym (cond-false (first r) _ _ u.0) ∙ e) u.1.0))
-    (λ (u : StrayLabel r). label-clear (take labelWidth (drop labelOffset r)) (sym (cond-true (first r) _ _ u.0) ∙ e) u.1) s
+    (λ (u : StrayLabel r). label-clear (take label_width (drop label_offset r)) (sym (cond-true (first r) _ _ u.0) ∙ e) u.1) s
 
 -- ---- what is absent in a table, in the objects
 
-table-stray : (b : List ℕ) → tableForm b ≡ false → (i : ℕ) × Stray (get_or (tableRecords b) i [])
-unfolding tableForm
-table-stray b e = all-false labelForm [] (tableRecords b) e (λ i h w. (i, label-stray _ w))
+table-stray : (b : List ℕ) → table_form b ≡ false → (i : ℕ) × Stray (get_or (table_records b) i [])
+unfolding table_form
+table-stray b e = all-false label_form [] (table_records b) e (λ i h w. (i, label-stray _ w))
 
-table-form : (b : List ℕ) → tableForm b ≡ true → (i : ℕ) → labelForm (get_or (tableRecords b) i []) ≡ true
-unfolding tableForm labelForm allZero
-table-form b e = all-out labelForm [] (tableRecords b) refl e
+table-form : (b : List ℕ) → table_form b ≡ true → (i : ℕ) → label_form (get_or (table_records b) i []) ≡ true
+unfolding table_form label_form all_zero
+table-form b e = all-out label_form [] (table_records b) refl e
 
-objects-stray : (b : List ℕ) → objectsForm b ≡ false → (i : ℕ) × (Stray (get_or (objectRecords b) i []) ⊎ StrayLabel (get_or (objectRecords b) i []))
-unfolding objectsForm
-objects-stray b e = all-false objectForm [] (objectRecords b) e (λ i h w. (i, object-stray _ w))
+objects-stray : (b : List ℕ) → objects_form b ≡ false → (i : ℕ) × (Stray (get_or (object_records b) i []) ⊎ StrayLabel (get_or (object_records b) i []))
+unfolding objects_form
+objects-stray b e = all-false object_form [] (object_records b) e (λ i h w. (i, object-stray _ w))
 
-objects-form : (b : List ℕ) → objectsForm b ≡ true → (i : ℕ) → objectForm (get_or (objectRecords b) i []) ≡ true
-unfolding objectsForm objectForm allZero
-objects-form b e = all-out objectForm [] (objectRecords b) refl e
+objects-form : (b : List ℕ) → objects_form b ≡ true → (i : ℕ) → object_form (get_or (object_records b) i []) ≡ true
+unfolding objects_form object_form all_zero
+objects-form b e = all-out object_form [] (object_records b) refl e
 
 -- ---- bits beyond the profile
 
@@ -93,7 +93,7 @@ module _ (records : List (List Bool)) (count n : ℕ) (there : ℕ → Bool) (is
       (λ i h w. let p = or-false (ltb i n) (not (there i)) w in (i, ltb-false i n p.0, (0, sym (is i) ∙ not-off (there i) p.1)))
 
   -- where a record whose first bit is 0 has no bit
-  no-bit-beyond : length records ≡ count → ((i : ℕ) → first (get_or records i []) ≡ false → allZero (get_or records i []) ≡ true)
+  no-bit-beyond : length records ≡ count → ((i : ℕ) → first (get_or records i []) ≡ false → all_zero (get_or records i []) ≡ true)
       → all_below count used ≡ true → BitBeyond n records → ⊥
   no-bit-beyond l zeros e w =
       let i = w.0 in
@@ -116,88 +116,88 @@ present-cond : (b : Bool) (l : Level) → present (cond b (Present l) Absent) �
 present-cond true l = refl
 present-cond false l = refl
 
-live_cond : (b : Bool) (r : List Bool) → (cond b (liveFrom r) noObject).live ≡ b
+live_cond : (b : Bool) (r : List Bool) → (cond b (live_from r) no_object).live ≡ b
 live_cond true r = refl
 live_cond false r = refl
 
-pub subject-first : (b : List ℕ) (s : ℕ) → present (clearanceAt (tableFrom b) s) ≡ first (get_or (tableRecords b) s [])
-unfolding tableFrom labelFrom
-subject-first b s = mapped subjectFrom (λ (x : Subject). present x.clearance) first [] nobody refl (λ r. present-cond (first r) _) (tableRecords b) s
+pub subject-first : (b : List ℕ) (s : ℕ) → present (clearance_at (table_from b) s) ≡ first (get_or (table_records b) s [])
+unfolding table_from label_from
+subject-first b s = mapped subject_from (λ (x : Subject). present x.clearance) first [] nobody refl (λ r. present-cond (first r) _) (table_records b) s
 
-object-first : (b : List ℕ) (o : ℕ) → (objectAt (objectsFrom b) o).live ≡ first (get_or (objectRecords b) o [])
-unfolding objectsFrom objectFrom
-object-first b o = mapped objectFrom (λ (x : Object). x.live) first [] noObject refl (λ r. live_cond (first r) r) (objectRecords b) o
+object-first : (b : List ℕ) (o : ℕ) → (object_at (objects_from b) o).live ≡ first (get_or (object_records b) o [])
+unfolding objects_from object_from
+object-first b o = mapped object_from (λ (x : Object). x.live) first [] no_object refl (λ r. live_cond (first r) r) (object_records b) o
 
-label-zeros : (r : List Bool) → labelForm r ≡ true → first r ≡ false → allZero r ≡ true
-unfolding labelForm
-label-zeros r e f = or_cases (first r) (allZero r) e (λ w. apart w f) (λ w. w)
+label-zeros : (r : List Bool) → label_form r ≡ true → first r ≡ false → all_zero r ≡ true
+unfolding label_form
+label-zeros r e f = or_cases (first r) (all_zero r) e (λ w. apart w f) (λ w. w)
 
-object-zeros : (r : List Bool) → objectForm r ≡ true → first r ≡ false → allZero r ≡ true
-unfolding objectForm
+object-zeros : (r : List Bool) → object_form r ≡ true → first r ≡ false → all_zero r ≡ true
+unfolding object_form
 object-zeros r e f = sym (cond-false (first r) _ _ f) ∙ e
 
 -- ---- of a table under a profile
 
 module _ (p : Profile) (b : List ℕ) where
-  abbrev subjectUsed : ℕ → Bool
-  subjectUsed s = ltb s p.subjects || not (present (clearanceAt (tableFrom b) s))
+  abbrev subject_used : ℕ → Bool
+  subject_used s = ltb s p.subjects || not (present (clearance_at (table_from b) s))
 
-  abbrev objectUsed : ℕ → Bool
-  objectUsed o = ltb o p.objects || not (objectAt (objectsFrom b) o).live
+  abbrev object_used : ℕ → Bool
+  object_used o = ltb o p.objects || not (object_at (objects_from b) o).live
 
-  table-beyond : all_below subjectCount subjectUsed ≡ false → BitBeyond p.subjects (tableRecords b)
-  table-beyond = bit-beyond (tableRecords b) 16 p.subjects _ (subject-first b)
+  table-beyond : all_below subject_count subject_used ≡ false → BitBeyond p.subjects (table_records b)
+  table-beyond = bit-beyond (table_records b) 16 p.subjects _ (subject-first b)
 
-  table-clear : tableForm b ≡ true → all_below subjectCount subjectUsed ≡ true → StrayInTable p b → ⊥
+  table-clear : table_form b ≡ true → all_below subject_count subject_used ≡ true → StrayInTable p b → ⊥
   table-clear e u s =
-      ⊎_elim (λ (w : (i : ℕ) × Stray (get_or (tableRecords b) i [])). label-clear (get_or (tableRecords b) w.0 []) (table-form b e w.0) w.1)
-      (λ (w : BitBeyond p.subjects (tableRecords b)).
-      no-bit-beyond (tableRecords b) 16 p.subjects _ (subject-first b) (length_cut subjectCount labelWidth (bytesToBits b)) (λ i. label-zeros _ (table-form b e i)) u w) s
+      ⊎_elim (λ (w : (i : ℕ) × Stray (get_or (table_records b) i [])). label-clear (get_or (table_records b) w.0 []) (table-form b e w.0) w.1)
+      (λ (w : BitBeyond p.subjects (table_records b)).
+      no-bit-beyond (table_records b) 16 p.subjects _ (subject-first b) (length_cut subject_count label_width (bytes_to_bits b)) (λ i. label-zeros _ (table-form b e i)) u w) s
 
-  objects-beyond : all_below objectCount objectUsed ≡ false → BitBeyond p.objects (objectRecords b)
-  objects-beyond = bit-beyond (objectRecords b) 64 p.objects _ (object-first b)
+  objects-beyond : all_below object_count object_used ≡ false → BitBeyond p.objects (object_records b)
+  objects-beyond = bit-beyond (object_records b) 64 p.objects _ (object-first b)
 
-  objects-clear : objectsForm b ≡ true → all_below objectCount objectUsed ≡ true → StrayInObjects p b → ⊥
+  objects-clear : objects_form b ≡ true → all_below object_count object_used ≡ true → StrayInObjects p b → ⊥
   objects-clear e u s =
-      ⊎_elim (λ (w : (i : ℕ) × (Stray (get_or (objectRecords b) i []) ⊎ StrayLabel (get_or (objectRecords b) i []))). object-clear (get_or (objectRecords b) w.0 []) (objects-form b e w.0) w.1)
-      (λ (w : BitBeyond p.objects (objectRecords b)).
-      no-bit-beyond (objectRecords b) 64 p.objects _ (object-first b) (length_cut objectCount objectWidth (bytesToBits b)) (λ i. object-zeros _ (objects-form b e i)) u w) s
+      ⊎_elim (λ (w : (i : ℕ) × (Stray (get_or (object_records b) i []) ⊎ StrayLabel (get_or (object_records b) i []))). object-clear (get_or (object_records b) w.0 []) (objects-form b e w.0) w.1)
+      (λ (w : BitBeyond p.objects (object_records b)).
+      no-bit-beyond (object_records b) 64 p.objects _ (object-first b) (length_cut object_count object_width (bytes_to_bits b)) (λ i. object-zeros _ (objects-form b e i)) u w) s
 
   -- no object of a fresh monitor is live
-  fresh-used : all_below objectCount (objectInside (fresh p (tableFrom b))) ≡ true
-  fresh-used = below_in 64 _ (λ o h. or_right (ltb o p.objects) _ (ap (λ (x : Object). not x.live) (replicate-at noObject 64 o)))
+  fresh-used : all_below object_count (object_inside (fresh p (table_from b))) ≡ true
+  fresh-used = below_in 64 _ (λ o h. or_right (ltb o p.objects) _ (ap (λ (x : Object). not x.live) (replicate-at no_object 64 o)))
 
-  pub table-11 : (tableForm b && absentBeyond (fresh p (tableFrom b))) ≡ false → StrayInTable p b
-  unfolding absentBeyond
+  pub table-11 : (table_form b && absent_beyond (fresh p (table_from b))) ≡ false → StrayInTable p b
+  unfolding absent_beyond
   table-11 e =
-      and-false (tableForm b) _ e (λ w. inl (table-stray b w))
-      (λ w. and-false (all_below 16 subjectUsed) (all_below 64 (objectInside (fresh p (tableFrom b)))) w (λ v. inr (table-beyond v)) (λ v. apart fresh-used v))
+      and-false (table_form b) _ e (λ w. inl (table-stray b w))
+      (λ w. and-false (all_below 16 subject_used) (all_below 64 (object_inside (fresh p (table_from b)))) w (λ v. inr (table-beyond v)) (λ v. apart fresh-used v))
 
-  pub table-not-11 : (tableForm b && absentBeyond (fresh p (tableFrom b))) ≡ true → StrayInTable p b → ⊥
-  unfolding absentBeyond
-  table-not-11 e = table-clear (and_left (tableForm b) _ e) (and_left (all_below 16 subjectUsed) _ (and_right (tableForm b) _ e))
+  pub table-not-11 : (table_form b && absent_beyond (fresh p (table_from b))) ≡ true → StrayInTable p b → ⊥
+  unfolding absent_beyond
+  table-not-11 e = table-clear (and_left (table_form b) _ e) (and_left (all_below 16 subject_used) _ (and_right (table_form b) _ e))
 
 -- ---- of an image under a profile
 
 module _ (p : Profile) (b : List ℕ) where
   abbrev t : List ℕ
-  t = take tableSize b
+  t = take table_size b
 
   abbrev os : List ℕ
-  os = drop tableSize b
+  os = drop table_size b
 
-  pub image-11 : (imageForm b && absentBeyond (monitorFrom p b)) ≡ false → StrayInImage p b
-  unfolding imageForm absentBeyond monitorFrom
+  pub image-11 : (image_form b && absent_beyond (monitor_from p b)) ≡ false → StrayInImage p b
+  unfolding image_form absent_beyond monitor_from
   image-11 e =
-      and-false (tableForm t && objectsForm os) _ e
-      (λ w. and-false (tableForm t) (objectsForm os) w (λ v. inl (inl (table-stray t v))) (λ v. inr (inl (objects-stray os v))))
-      (λ w. and-false (all_below 16 (subjectUsed p t)) (all_below 64 (objectUsed p os)) w
+      and-false (table_form t && objects_form os) _ e
+      (λ w. and-false (table_form t) (objects_form os) w (λ v. inl (inl (table-stray t v))) (λ v. inr (inl (objects-stray os v))))
+      (λ w. and-false (all_below 16 (subject_used p t)) (all_below 64 (object_used p os)) w
       (λ v. inl (inr (table-beyond p t v))) (λ v. inr (inr (objects-beyond p os v))))
 
-  pub image-not-11 : (imageForm b && absentBeyond (monitorFrom p b)) ≡ true → StrayInImage p b → ⊥
-  unfolding imageForm absentBeyond monitorFrom
+  pub image-not-11 : (image_form b && absent_beyond (monitor_from p b)) ≡ true → StrayInImage p b → ⊥
+  unfolding image_form absent_beyond monitor_from
   image-not-11 e s =
-      let form = and_left (tableForm t && objectsForm os) _ e in
-      let used = and_right (tableForm t && objectsForm os) _ e in
-      ⊎_elim (λ (u : StrayInTable p t). table-clear p t (and_left (tableForm t) _ form) (and_left (all_below 16 (subjectUsed p t)) _ used) u)
-      (λ (u : StrayInObjects p os). objects-clear p os (and_right (tableForm t) _ form) (and_right (all_below 16 (subjectUsed p t)) _ used) u) s
+      let form = and_left (table_form t && objects_form os) _ e in
+      let used = and_right (table_form t && objects_form os) _ e in
+      ⊎_elim (λ (u : StrayInTable p t). table-clear p t (and_left (table_form t) _ form) (and_left (all_below 16 (subject_used p t)) _ used) u)
+      (λ (u : StrayInObjects p os). objects-clear p os (and_right (table_form t) _ form) (and_right (all_below 16 (subject_used p t)) _ used) u) s

@@ -15,13 +15,13 @@ use Rattle.model.specs.declared.Request.{Request}
 use Rattle.model.specs.declared.Request.TheVariants.{Get, Release, Give, Rescind, Create, Delete, ChangeLevel, SetCompanies}
 use Rattle.model.specs.declared.Decision.TheVariants.{NotEnrolled, NotLive, AlreadyLive, NoRight, NoLabel, SimpleBroken, StarBroken, WrongLength, StrayBits, AbsentSubject, LabelLowered, OutsideProfile, WallBroken, ParentNotLive, HierarchyBroken}
 use Rattle.model.specs.Levels.{need, Dominates}
-use Rattle.model.specs.State.{clearanceAt, clearance, objectAt, object, rightsOf, heldBy}
+use Rattle.model.specs.State.{clearance_at, clearance, object_at, object, rights_of, held_by}
 use Rattle.model.specs.Properties.{Permits, Discretionary, Labelled, Simple, Star, Wall}
 use Rattle.model.specs.Hierarchy.{Ends}
 use Rattle.model.specs.Requests.{fields}
 use Rattle.model.specs.Rules.{afterwards}
-use Rattle.model.specs.Layout.{labelWidth, labelOffset, tableSize, imageSize}
-use Rattle.model.specs.Reading.{tableRecords, objectRecords, tableFrom, monitorFrom}
+use Rattle.model.specs.Layout.{label_width, label_offset, table_size, image_size}
+use Rattle.model.specs.Reading.{table_records, object_records, table_from, monitor_from}
 use Rattle.refusals.specs.First.{Causes, none, row}
 
 -- ---- outside a profile (change request §8)
@@ -61,21 +61,21 @@ UnusedSet f =
 -- numbers of kind 8 are "not bounded by the profile"; a parent's number plus one "above 64, or for an object beyond the profile, .. is malformed, and
 -- the profile's needs do not bound it" (change request §11)
 pub data MalformedBytes (p : Profile) (b : List ℕ) : Type 0 where
-  not-six-bytes : length b ≢ 6 → MalformedBytes p b
-  kind-below : (fields b).kind < 1 → MalformedBytes p b
-  kind-above : 8 < (fields b).kind → MalformedBytes p b
-  actor-above : 15 < (fields b).actor → MalformedBytes p b
-  other-above : 15 < (fields b).other → MalformedBytes p b
-  object-above : 63 < (fields b).object → MalformedBytes p b
-  mode-not-allowed : ModeNotAllowed (fields b).kind (fields b).mode → MalformedBytes p b
-  unused-set : UnusedSet (fields b) → MalformedBytes p b
-  actor-outside : p.subjects ≤ (fields b).actor → MalformedBytes p b
-  other-outside : p.subjects ≤ (fields b).other → MalformedBytes p b
-  object-outside : p.objects ≤ (fields b).object → MalformedBytes p b
-  class-outside : p.highest.class < (fields b).class → MalformedBytes p b
+  not_six_bytes : length b ≢ 6 → MalformedBytes p b
+  kind_below : (fields b).kind < 1 → MalformedBytes p b
+  kind_above : 8 < (fields b).kind → MalformedBytes p b
+  actor_above : 15 < (fields b).actor → MalformedBytes p b
+  other_above : 15 < (fields b).other → MalformedBytes p b
+  object_above : 63 < (fields b).object → MalformedBytes p b
+  mode_not_allowed : ModeNotAllowed (fields b).kind (fields b).mode → MalformedBytes p b
+  unused_set : UnusedSet (fields b) → MalformedBytes p b
+  actor_outside : p.subjects ≤ (fields b).actor → MalformedBytes p b
+  other_outside : p.subjects ≤ (fields b).other → MalformedBytes p b
+  object_outside : p.objects ≤ (fields b).object → MalformedBytes p b
+  class_outside : p.highest.class < (fields b).class → MalformedBytes p b
   need-outside : (fields b).kind ≢ 5 → (fields b).kind ≢ 8 → NeedOutside p (fields b).needs → MalformedBytes p b
   parent_above : (fields b).kind ≡ 5 → 64 < (fields b).needs → MalformedBytes p b
-  parent-outside : (fields b).kind ≡ 5 → p.objects < (fields b).needs → MalformedBytes p b
+  parent_outside : (fields b).kind ≡ 5 → p.objects < (fields b).needs → MalformedBytes p b
 
 -- ---- 3 to 9, 14 and 18 to 20, of requests
 
@@ -96,9 +96,9 @@ LabelBelow m o p = ((object m o).parent ≡ suc p) × ((object m o).label ≢ Ab
 -- 14: "a new label that does not dominate the old" (change request §3); 18: "the wall would break" (change request §10), in the state after it;
 -- 19: "a parent that isn't live", 20: "a label that breaks the rule toward parent or child" (change request §11), in the state after it.
 -- Each kind has the checks that its row of the table of kinds names
-abbrev pub requestCauses : Request → Monitor → Causes
+abbrev pub request_causes : Request → Monitor → Causes
 -- "checks 4, 6 (the actor's right); 7 (not e); 8 (r, w); 9 (r, w, a)"; 18 "checked last in get"
-requestCauses (Get s o x) m =
+request_causes (Get s o x) m =
     row NotEnrolled (NotIn m s)
     (row NotLive ((object m o).live ≢ true)
     (row NoRight (Lacks m s o x)
@@ -108,37 +108,37 @@ requestCauses (Get s o x) m =
     (row WallBroken (Wall (afterwards (Get s o x) m) → ⊥)
     none))))))
 -- "check 4"
-requestCauses (Release s o x) m =
+request_causes (Release s o x) m =
     row NotEnrolled (NotIn m s)
     (row NotLive ((object m o).live ≢ true)
     none)
 -- "checks 4, 6: the actor is owner and has that right itself"
-requestCauses (Give s t o x) m =
+request_causes (Give s t o x) m =
     row NotEnrolled (NotIn m s ⊎ NotIn m t)
     (row NotLive ((object m o).live ≢ true)
     (row NoRight (((object m o).owner ≢ s) ⊎ Lacks m s o x)
     none))
 -- "checks as give"
-requestCauses (Rescind s t o x) m =
+request_causes (Rescind s t o x) m =
     row NotEnrolled (NotIn m s ⊎ NotIn m t)
     (row NotLive ((object m o).live ≢ true)
     (row NoRight (((object m o).owner ≢ s) ⊎ Lacks m s o x)
     none))
 -- "check 5"; 19 "in create after 5"
-requestCauses (Create s o c) m =
+request_causes (Create s o c) m =
     row NotEnrolled (NotIn m s)
     (row AlreadyLive ((object m o).live ≡ true)
     (row ParentNotLive ((p : ℕ) × (c.parent ≡ suc p) × ((object m p).live ≢ true))
     none))
 -- "checks 4, 6: owner"
-requestCauses (Delete s o) m =
+request_causes (Delete s o) m =
     row NotEnrolled (NotIn m s)
     (row NotLive ((object m o).live ≢ true)
     (row NoRight ((object m o).owner ≢ s)
     none))
 -- "checks 4, 6: owner; 8, 9 over all subjects in the state after the change"; 14 "on a labelled object", "after 6 and before 8";
 -- 20 "in change level after 9"
-requestCauses (ChangeLevel s o l) m =
+request_causes (ChangeLevel s o l) m =
     row NotEnrolled (NotIn m s)
     (row NotLive ((object m o).live ≢ true)
     (row NoRight ((object m o).owner ≢ s)
@@ -149,7 +149,7 @@ requestCauses (ChangeLevel s o l) m =
     (((p : ℕ) × LabelBelow (afterwards (ChangeLevel s o l) m) o p) ⊎ ((y : ℕ) × LabelBelow (afterwards (ChangeLevel s o l) m) y o))
     none))))))
 -- "checks 4, 6 (owner) and the wall over all subjects in the state after it" (change request §10)
-requestCauses (SetCompanies s o n) m =
+request_causes (SetCompanies s o n) m =
     row NotEnrolled (NotIn m s)
     (row NotLive ((object m o).live ≢ true)
     (row NoRight ((object m o).owner ≢ s)
@@ -164,7 +164,7 @@ Stray r = (first r ≡ false) × ((j : ℕ) × (get_or r j false ≡ true))
 
 -- the same of the label in the record of a live object
 abbrev pub StrayLabel : List Bool → Type 0
-StrayLabel r = (first r ≡ true) × Stray (take labelWidth (drop labelOffset r))
+StrayLabel r = (first r ≡ true) × Stray (take label_width (drop label_offset r))
 
 -- "a record beyond the profile is absent, and a bit in it gets 11": any bit, in a record from the n-th on, where n are in use
 abbrev pub BitBeyond : ℕ → List (List Bool) → Type 0
@@ -172,25 +172,25 @@ BitBeyond n records = (i : ℕ) × (n ≤ i) × ((j : ℕ) × (get_or (get_or re
 
 -- "an absent table record .. with another of its own bits set", or a bit beyond the subjects in use
 abbrev pub StrayInTable : Profile → List ℕ → Type 0
-StrayInTable p b = ((i : ℕ) × Stray (get_or (tableRecords b) i [])) ⊎ BitBeyond p.subjects (tableRecords b)
+StrayInTable p b = ((i : ℕ) × Stray (get_or (table_records b) i [])) ⊎ BitBeyond p.subjects (table_records b)
 
 -- "an absent .. object record or label with another of its own bits set", or a bit beyond the objects in use
 abbrev pub StrayInObjects : Profile → List ℕ → Type 0
 StrayInObjects p b =
-    ((i : ℕ) × (Stray (get_or (objectRecords b) i []) ⊎ StrayLabel (get_or (objectRecords b) i []))) ⊎ BitBeyond p.objects (objectRecords b)
+    ((i : ℕ) × (Stray (get_or (object_records b) i []) ⊎ StrayLabel (get_or (object_records b) i []))) ⊎ BitBeyond p.objects (object_records b)
 
 -- "a clearance .. outside its profile", "a .. label outside its profile": of somebody enrolled, of some object
 abbrev pub ClearanceOutside : Profile → List Subject → Type 0
-ClearanceOutside p l = (s : ℕ) × (a : Level) × (clearanceAt l s ≡ Present a) × LevelOutside p a
+ClearanceOutside p l = (s : ℕ) × (a : Level) × (clearance_at l s ≡ Present a) × LevelOutside p a
 
 abbrev pub LabelOutside : Profile → List Object → Type 0
-LabelOutside p l = (o : ℕ) × (a : Level) × ((objectAt l o).label ≡ Present a) × LevelOutside p a
+LabelOutside p l = (o : ℕ) × (a : Level) × ((object_at l o).label ≡ Present a) × LevelOutside p a
 
 -- "an absent subject owns, has a right or holds"
 abbrev pub AbsentActs : Monitor → Type 0
 AbsentActs m =
     (s : ℕ) × (o : ℕ) × (NotIn m s × ((((object m o).live ≡ true) × ((object m o).owner ≡ s))
-    ⊎ ((rightsOf (object m o) s ≢ 0) ⊎ (heldBy (object m o) s ≢ 0))))
+    ⊎ ((rights_of (object m o) s ≢ 0) ⊎ (held_by (object m o) s ≢ 0))))
 
 -- "a parent that isn't live, .. where parent bits above 64 or a chain of parents that does not end counts too" (change request §11)
 abbrev pub ParentMissing : Monitor → Type 0
@@ -201,36 +201,36 @@ ParentMissing m =
 
 -- a stray bit, or one beyond the profile, in the table or in the object records of an image
 abbrev pub StrayInImage : Profile → List ℕ → Type 0
-StrayInImage p b = StrayInTable p (take tableSize b) ⊎ StrayInObjects p (drop tableSize b)
+StrayInImage p b = StrayInTable p (take table_size b) ⊎ StrayInObjects p (drop table_size b)
 
 -- "a table or image with a clearance or label outside its profile"
 abbrev pub OutsideInImage : Profile → List ℕ → Type 0
-OutsideInImage p b = ClearanceOutside p (monitorFrom p b).subjects ⊎ LabelOutside p (monitorFrom p b).objects
+OutsideInImage p b = ClearanceOutside p (monitor_from p b).subjects ⊎ LabelOutside p (monitor_from p b).objects
 
 -- "Tables are checked 10, 11"; "16, a profile outside these ranges, before anything else is read, or a table or image with a clearance or
 -- label outside its profile, checked directly after 11": two rows with one number
-abbrev pub tableCauses : Profile → List ℕ → Causes
-tableCauses p b =
+abbrev pub table_causes : Profile → List ℕ → Causes
+table_causes p b =
     row OutsideProfile (ProfileOutside p)
-    (row WrongLength (length b ≢ tableSize)
+    (row WrongLength (length b ≢ table_size)
     (row StrayBits (StrayInTable p b)
-    (row OutsideProfile (ClearanceOutside p (tableFrom b))
+    (row OutsideProfile (ClearanceOutside p (table_from b))
     none)))
 
 -- "images 10, 11, 12, 6, 7, 8, 9, each over the whole image before the next", with 16 as for tables, 18 "after 9", 19 "after 18" and 20
 -- "after 19"
-abbrev pub imageCauses : Profile → List ℕ → Causes
-imageCauses p b =
+abbrev pub image_causes : Profile → List ℕ → Causes
+image_causes p b =
     row OutsideProfile (ProfileOutside p)
-    (row WrongLength (length b ≢ imageSize)
+    (row WrongLength (length b ≢ image_size)
     (row StrayBits (StrayInImage p b)
     (row OutsideProfile (OutsideInImage p b)
-    (row AbsentSubject (AbsentActs (monitorFrom p b))
-    (row NoRight (Discretionary (monitorFrom p b) → ⊥)
-    (row NoLabel (Labelled (monitorFrom p b) → ⊥)
-    (row SimpleBroken (Simple (monitorFrom p b) → ⊥)
-    (row StarBroken (Star (monitorFrom p b) → ⊥)
-    (row WallBroken (Wall (monitorFrom p b) → ⊥)
-    (row ParentNotLive (ParentMissing (monitorFrom p b))
-    (row HierarchyBroken ((o : ℕ) × (q : ℕ) × LabelBelow (monitorFrom p b) o q)
+    (row AbsentSubject (AbsentActs (monitor_from p b))
+    (row NoRight (Discretionary (monitor_from p b) → ⊥)
+    (row NoLabel (Labelled (monitor_from p b) → ⊥)
+    (row SimpleBroken (Simple (monitor_from p b) → ⊥)
+    (row StarBroken (Star (monitor_from p b) → ⊥)
+    (row WallBroken (Wall (monitor_from p b) → ⊥)
+    (row ParentNotLive (ParentMissing (monitor_from p b))
+    (row HierarchyBroken ((o : ℕ) × (q : ℕ) × LabelBelow (monitor_from p b) o q)
     none)))))))))))

@@ -13,96 +13,96 @@ use Rattle.model.specs.declared.Monitor.{Monitor}
 use Rattle.model.specs.Runs.{respond, reply, after}
 use Rattle.model.proofs.Tests.{split, apart, cond-true, cond-false, or_cases}
 use Rattle.model.proofs.Lists.{after-append}
-use Rattle.orders.specs.Sums.{sumOver}
+use Rattle.orders.specs.Sums.{sum_over}
 use Rattle.effects.proofs.Demand2.{refusal-leaves-state}
 use Rattle.task_list.specs.declared.Task.{Task}
-use Rattle.rehearsal.specs.Rounds.{nextRequest, hasWork, keeps, movedOn, afterReply, presents, turnMonitor, turnTask, presented, roundMonitor, roundTasks, workLeft}
+use Rattle.rehearsal.specs.Rounds.{next_request, has_work, keeps, moved_on, after_reply, presents, turn_monitor, turn_task, presented, round_monitor, round_tasks, work_left}
 
 -- ---- a turn
 
 -- the monitor after a turn is that after the request presented in it
-pub turn-flat : (area : List ℕ) (t : Task) (m : Monitor) → turnMonitor area t m ≡ after (presents area t) m
-unfolding turnMonitor presents after
-turn-flat area t m = split (hasWork t) (λ e. rw e refl) (λ e. rw e refl)
+pub turn-flat : (area : List ℕ) (t : Task) (m : Monitor) → turn_monitor area t m ≡ after (presents area t) m
+unfolding turn_monitor presents after
+turn-flat area t m = split (has_work t) (λ e. rw e refl) (λ e. rw e refl)
 
 -- who has no work left presents nothing, and stays
-pub idle-turn : (area : List ℕ) (t : Task) (m : Monitor) → t.count ≡ 0 → (presents area t ≡ []) × (turnTask area t m ≡ t)
-unfolding presents turnTask
+pub idle-turn : (area : List ℕ) (t : Task) (m : Monitor) → t.count ≡ 0 → (presents area t ≡ []) × (turn_task area t m ≡ t)
+unfolding presents turn_task
 idle-turn area t m e =
-    let w : hasWork t ≡ false = ap (ltb 0) e in
-    (cond-false (hasWork t) _ _ w, cond-false (hasWork t) _ _ w)
+    let w : has_work t ≡ false = ap (ltb 0) e in
+    (cond-false (has_work t) _ _ w, cond-false (has_work t) _ _ w)
 
 -- who has work left presents its next request
 pub working-turn : (area : List ℕ) (t : Task) (m : Monitor) → 0 < t.count
-    → (presents area t ≡ nextRequest area t ∷ []) × (turnTask area t m ≡ afterReply (reply (nextRequest area t) m) t)
-unfolding presents turnTask
+    → (presents area t ≡ next_request area t ∷ []) × (turn_task area t m ≡ after_reply (reply (next_request area t) m) t)
+unfolding presents turn_task
 working-turn area t m h =
-    let w : hasWork t ≡ true = lt-ltb 0 t.count h in
-    (cond-true (hasWork t) _ _ w, cond-true (hasWork t) _ _ w)
+    let w : has_work t ≡ true = lt-ltb 0 t.count h in
+    (cond-true (has_work t) _ _ w, cond-true (has_work t) _ _ w)
 
 -- "Replies 9 and 18 keep it for the next round; any other reply moves the task on"
-pub nine-keeps : (t : Task) → afterReply 9 t ≡ t
-unfolding afterReply
+pub nine-keeps : (t : Task) → after_reply 9 t ≡ t
+unfolding after_reply
 nine-keeps t = refl
 
-pub eighteen-keeps : (t : Task) → afterReply 18 t ≡ t
-unfolding afterReply
+pub eighteen-keeps : (t : Task) → after_reply 18 t ≡ t
+unfolding after_reply
 eighteen-keeps t = refl
 
 pub kept_by : (r : ℕ) → keeps r ≡ true → (r ≡ 9) ⊎ (r ≡ 18)
 kept_by r e = or_cases (eqb r 9) (eqb r 18) e (λ q. inl (eqb-true r 9 q)) (λ q. inr (eqb-true r 18 q))
 
-pub others-move : (r : ℕ) (t : Task) → keeps r ≡ false → afterReply r t ≡ movedOn t
-unfolding afterReply
+pub others-move : (r : ℕ) (t : Task) → keeps r ≡ false → after_reply r t ≡ moved_on t
+unfolding after_reply
 others-move r t e = cond-false (keeps r) _ _ e
 
 -- a turn keeps the task or takes one request off its work
-pub turn-work : (area : List ℕ) (t : Task) (m : Monitor) → (turnTask area t m ≡ t) ⊎ (suc (turnTask area t m).count ≡ t.count)
-unfolding turnTask afterReply
+pub turn-work : (area : List ℕ) (t : Task) (m : Monitor) → (turn_task area t m ≡ t) ⊎ (suc (turn_task area t m).count ≡ t.count)
+unfolding turn_task after_reply
 turn-work area t m =
-    split (hasWork t)
-    (λ e. split (keeps (reply (nextRequest area t) m))
-    (λ k. inl (cond-true (hasWork t) _ _ e ∙ cond-true (keeps (reply (nextRequest area t) m)) _ _ k))
-    (λ k. inr (ap (λ (u : Task). suc u.count) (cond-true (hasWork t) _ _ e ∙ cond-false (keeps (reply (nextRequest area t) m)) _ _ k)
+    split (has_work t)
+    (λ e. split (keeps (reply (next_request area t) m))
+    (λ k. inl (cond-true (has_work t) _ _ e ∙ cond-true (keeps (reply (next_request area t) m)) _ _ k))
+    (λ k. inr (ap (λ (u : Task). suc u.count) (cond-true (has_work t) _ _ e ∙ cond-false (keeps (reply (next_request area t) m)) _ _ k)
     ∙ omega (arith, ltb-true 0 t.count e))))
-    (λ e. inl (cond-false (hasWork t) _ _ e))
+    (λ e. inl (cond-false (has_work t) _ _ e))
 
 -- a turn that keeps the task leaves the monitor: what was presented was refused
-pub kept-turn : (area : List ℕ) (t : Task) (m : Monitor) → turnTask area t m ≡ t → turnMonitor area t m ≡ m
-unfolding turnTask turnMonitor afterReply
+pub kept-turn : (area : List ℕ) (t : Task) (m : Monitor) → turn_task area t m ≡ t → turn_monitor area t m ≡ m
+unfolding turn_task turn_monitor after_reply
 kept-turn area t m stays =
-    split (hasWork t)
-    (λ e. cond-true (hasWork t) _ _ e
-    ∙ split (keeps (reply (nextRequest area t) m))
-    (λ k. refusal-leaves-state (nextRequest area t) m (⊎_elim (λ (q : reply (nextRequest area t) m ≡ 9). omega (arith, q)) (λ (q : reply (nextRequest area t) m ≡ 18). omega (arith, q)) (kept_by (reply (nextRequest area t) m) k)))
+    split (has_work t)
+    (λ e. cond-true (has_work t) _ _ e
+    ∙ split (keeps (reply (next_request area t) m))
+    (λ k. refusal-leaves-state (next_request area t) m (⊎_elim (λ (q : reply (next_request area t) m ≡ 9). omega (arith, q)) (λ (q : reply (next_request area t) m ≡ 18). omega (arith, q)) (kept_by (reply (next_request area t) m) k)))
     (λ k.
     let less : t.count - 1 ≡ t.count =
-    ap (λ (u : Task). u.count) (sym (cond-true (hasWork t) _ t e ∙ cond-false (keeps (reply (nextRequest area t) m)) t (movedOn t) k) ∙ stays) in
+    ap (λ (u : Task). u.count) (sym (cond-true (has_work t) _ t e ∙ cond-false (keeps (reply (next_request area t) m)) t (moved_on t) k) ∙ stays) in
     absurd (omega (arith, ltb-true 0 t.count e, less))))
-    (λ e. cond-false (hasWork t) _ _ e)
+    (λ e. cond-false (has_work t) _ _ e)
 
 -- ---- a round
 
 -- the monitor after a round is that after the requests presented in it
-pub round-flat : (area : List ℕ) (ts : List Task) (m : Monitor) → roundMonitor area ts m ≡ after (presented area ts) m
-unfolding roundMonitor presented after
+pub round-flat : (area : List ℕ) (ts : List Task) (m : Monitor) → round_monitor area ts m ≡ after (presented area ts) m
+unfolding round_monitor presented after
 round-flat area [] m = refl
 round-flat area (t ∷ ts) m =
-    round-flat area ts (turnMonitor area t m) ∙ ap (after (presented area ts)) (turn-flat area t m)
+    round-flat area ts (turn_monitor area t m) ∙ ap (after (presented area ts)) (turn-flat area t m)
     ∙ sym (after-append (presents area t) (presented area ts) m)
 
 -- a round keeps every task or leaves less work
-pub round-work : (area : List ℕ) (ts : List Task) (m : Monitor) → (roundTasks area ts m ≡ ts) ⊎ (workLeft (roundTasks area ts m) < workLeft ts)
-unfolding roundTasks workLeft sumOver
+pub round-work : (area : List ℕ) (ts : List Task) (m : Monitor) → (round_tasks area ts m ≡ ts) ⊎ (work_left (round_tasks area ts m) < work_left ts)
+unfolding round_tasks work_left sum_over
 round-work area [] m = inl refl
-round-work area (t ∷ ts) m = go (turn-work area t m) (round-work area ts (turnMonitor area t m))
+round-work area (t ∷ ts) m = go (turn-work area t m) (round-work area ts (turn_monitor area t m))
   where
-    go : (turnTask area t m ≡ t) ⊎ (suc (turnTask area t m).count ≡ t.count)
-        → (roundTasks area ts (turnMonitor area t m) ≡ ts) ⊎ (workLeft (roundTasks area ts (turnMonitor area t m)) < workLeft ts)
-        → (roundTasks area (t ∷ ts) m ≡ t ∷ ts) ⊎ (workLeft (roundTasks area (t ∷ ts) m) < workLeft (t ∷ ts))
+    go : (turn_task area t m ≡ t) ⊎ (suc (turn_task area t m).count ≡ t.count)
+        → (round_tasks area ts (turn_monitor area t m) ≡ ts) ⊎ (work_left (round_tasks area ts (turn_monitor area t m)) < work_left ts)
+        → (round_tasks area (t ∷ ts) m ≡ t ∷ ts) ⊎ (work_left (round_tasks area (t ∷ ts) m) < work_left (t ∷ ts))
     go (inl e) (inl f) = inl (ap₂ (λ (u : Task) (us : List Task). u ∷ us) e f)
-    go (inl e) (inr h) = let k : (turnTask area t m).count ≡ t.count = ap (λ (u : Task). u.count) e in inr (omega (arith, h, k))
-    go (inr e) (inl f) = let k : workLeft (roundTasks area ts (turnMonitor area t m)) ≡ workLeft ts = ap workLeft f in inr (omega (arith, e, k))
+    go (inl e) (inr h) = let k : (turn_task area t m).count ≡ t.count = ap (λ (u : Task). u.count) e in inr (omega (arith, h, k))
+    go (inr e) (inl f) = let k : work_left (round_tasks area ts (turn_monitor area t m)) ≡ work_left ts = ap work_left f in inr (omega (arith, e, k))
     go (inr e) (inr h) = inr (omega (arith, e, h))
 
 -- the tasks of a round that keeps every task, one by one
@@ -121,9 +121,9 @@ cons-rest e = ap rest e
     rest (x ∷ l) = l
 
 -- a round that moves nobody leaves the monitor, so that another one would be the same
-pub idle-round-leaves : (area : List ℕ) (ts : List Task) (m : Monitor) → roundTasks area ts m ≡ ts → roundMonitor area ts m ≡ m
-unfolding roundTasks roundMonitor
+pub idle-round-leaves : (area : List ℕ) (ts : List Task) (m : Monitor) → round_tasks area ts m ≡ ts → round_monitor area ts m ≡ m
+unfolding round_tasks round_monitor
 idle-round-leaves area [] m e = refl
 idle-round-leaves area (t ∷ ts) m e =
-    let same : turnMonitor area t m ≡ m = kept-turn area t m (cons-first e) in
-    ap (roundMonitor area ts) same ∙ idle-round-leaves area ts m (ap (roundTasks area ts) (sym same) ∙ cons-rest e)
+    let same : turn_monitor area t m ≡ m = kept-turn area t m (cons-first e) in
+    ap (round_monitor area ts) same ∙ idle-round-leaves area ts m (ap (round_tasks area ts) (sym same) ∙ cons-rest e)

@@ -29,5 +29,5 @@ PlanUnfit ts area =
     ⊎ Some (PlaceBeyond area) ts)))
 
 -- "A buffer too short for the image gets 13 .., checked after 21"
-abbrev pub rehearsalCauses : List Task → List ℕ → List ℕ → Causes
-rehearsalCauses ts area image = row UnfitPlan (PlanUnfit ts area) (row ShortBuffer (length image < 1458) none)
+abbrev pub rehearsal_causes : List Task → List ℕ → List ℕ → Causes
+rehearsal_causes ts area image = row UnfitPlan (PlanUnfit ts area) (row ShortBuffer (length image < 1458) none)

@@ -1,1 +1,3 @@
 // Rehearsal of a plant, as definitions and theorems; no code.
+
+#![tactic(auto)]

@@ -8,7 +8,7 @@ use lib.ListN.{length, take, set, get_or, length-append}
 use lib.Dec.{ltb}
 use borrow.Author.Tests.{lt-ltb, le-ltb}
 use Rattle.bits.specs.Bits.{join}
-use Rattle.model.specs.Buffers.{put, digit, twoDigits}
+use Rattle.model.specs.Buffers.{put, digit, two_digits}
 use Rattle.model.specs.Program.{line}
 use Rattle.model.proofs.Tests.{cond-true, cond-false, cond-all}
 use Rattle.model.proofs.Buffers.{put-none, put_byte, put_next, put-more, length-put}
@@ -23,12 +23,12 @@ short-line s at n h g =
       ap (λ l. at + length l) (sym e),
     )
 
-pub long-line : (s u : List ℕ) (at n : ℕ) → 10 ≤ n → at + 3 ≤ length s → u ≡ put s at (twoDigits n)
+pub long-line : (s u : List ℕ) (at n : ℕ) → 10 ≤ n → at + 3 ≤ length s → u ≡ put s at (two_digits n)
     → (set u (at + 2) 10 ≡ put s at (line n)) × (at + 3 ≡ at + length (line n))
 unfolding line
 long-line s u at n h g f =
-    let e : line n ≡ twoDigits n ++ (10 ∷ []) = cond-false (ltb n 10) _ _ (le-ltb n 10 h) in (
-      ap (λ l. set l (at + 2) 10) f ∙ put_next s at (twoDigits n) (at + 2) 10 refl (omega arith) ∙ ap (put s at) (sym e),
+    let e : line n ≡ two_digits n ++ (10 ∷ []) = cond-false (ltb n 10) _ _ (le-ltb n 10 h) in (
+      ap (λ l. set l (at + 2) 10) f ∙ put_next s at (two_digits n) (at + 2) 10 refl (omega arith) ∙ ap (put s at) (sym e),
       ap (λ l. at + length l) (sym e),
     )
 

@@ -6,18 +6,18 @@ use Rattle.model.specs.declared.Decision.TheVariants.{Granted, ShortBuffer}
 use Rattle.model.specs.Decisions.{refuses}
 use Rattle.model.specs.Runs.{replies}
 use Rattle.model.specs.State.{widest}
-use Rattle.model.specs.Reading.{readTable}
+use Rattle.model.specs.Reading.{read_table}
 use Rattle.model.specs.Buffers.{front}
-use Rattle.model.specs.Program.{pieces, pieceCount}
+use Rattle.model.specs.Program.{pieces, piece_count}
 
 -- the number of reading the table, then 13 where there is no room for a reply to each piece, else 0
-unfoldable pub replayAnswer : List ℕ → List ℕ → ℕ → Decision
-replayAnswer table requests room =
-    cond (refuses (readTable widest table).decision) (readTable widest table).decision
-    (cond (ltb room (pieceCount (length requests))) ShortBuffer Granted)
+unfoldable pub replay_answer : List ℕ → List ℕ → ℕ → Decision
+replay_answer table requests room =
+    cond (refuses (read_table widest table).decision) (read_table widest table).decision
+    (cond (ltb room (piece_count (length requests))) ShortBuffer Granted)
 
 -- a refusal leaves every byte; else the replies, and every later byte left
 unfoldable pub replayed : List ℕ → List ℕ → List ℕ → List ℕ
 replayed table requests out =
-    cond (refuses (replayAnswer table requests (length out))) out
-    (front (pieceCount (length requests)) (replies (pieces requests) (readTable widest table).monitor) out)
+    cond (refuses (replay_answer table requests (length out))) out
+    (front (piece_count (length requests)) (replies (pieces requests) (read_table widest table).monitor) out)

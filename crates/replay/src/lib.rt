@@ -1,11 +1,14 @@
 // A whole run from a table under the widest profile: one reply byte for each piece, or the lines that the program prints.
+
+#![tactic(auto)]
+
 ghost use Rattle.std.specs.Prelude.{◌≡◌, map, ◌+◌, ◌*◌, ◌≤◌, ◌<◌, length, take, replicate};
 ghost use Rattle.bits.specs.Bits.{join};
-ghost use Rattle.model.specs.Requests.{requestSize};
-ghost use Rattle.model.specs.Layout.{tableSize};
+ghost use Rattle.model.specs.Requests.{request_size};
+ghost use Rattle.model.specs.Layout.{table_size};
 ghost use Rattle.model.specs.Buffers.{put};
-ghost use Rattle.model.specs.Program.{mostRequests, line, program};
-ghost use Rattle.replay.specs.Replay.{replayAnswer, replayed};
+ghost use Rattle.model.specs.Program.{most_requests, line, program};
+ghost use Rattle.replay.specs.Replay.{replay_answer, replayed};
 
 use bits::smaller;
 use buffers::put_two;
@@ -17,7 +20,7 @@ use unit::ROWS;
 
 // One reply byte for each piece of six bytes, a short last one counted; a refusal leaves every byte of the buffer.
 pub fn replay(table: &[u8], requests: &[u8], out: &mut [u8]) -> Decision
-    ensures { (result ≡ replayAnswer table.now requests.now (length out.old)) × (out.new ≡ replayed table.now requests.now out.old) }
+    ensures { (result ≡ replay_answer table.now requests.now (length out.old)) × (out.new ≡ replayed table.now requests.now out.old) }
 {
     let mut unit = [[0u8; 16]; ROWS];
     let decision = start_widest(&mut unit, table);
@@ -67,7 +70,7 @@ pub const INPUT_BYTES: usize = Monitor::TABLE_BYTES + 6 * 4096;
 
 // Room for it, each byte 0.
 pub fn input_room() -> [u8; INPUT_BYTES]
-    ensures { result ≡ replicate (tableSize + requestSize * mostRequests) 0 }
+    ensures { result ≡ replicate (table_size + request_size * most_requests) 0 }
 {
     [0u8; INPUT_BYTES]
 }

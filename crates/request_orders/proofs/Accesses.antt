@@ -8,7 +8,7 @@ use Rattle.model.specs.declared.Monitor.{Monitor}
 use Rattle.model.specs.declared.Mode.{Mode}
 use Rattle.model.specs.State.{object}
 use Rattle.model.specs.Properties.{Holds}
-use Rattle.invariants.specs.Access.{withAccess, unheld}
+use Rattle.invariants.specs.Access.{with_access, unheld}
 use Rattle.invariants.proofs.Added.{same-unheld}
 
 -- two states that differ in their accesses only
@@ -27,7 +27,7 @@ same-on E F = record { profile = E.profile ∙ F.profile; subjects = E.subjects 
 abbrev pub Within : Monitor → Monitor → Type 0
 Within n k = (s o : ℕ) (x : Mode) → Holds n s o x → Holds k s o x
 
-pub added-same : (n : Monitor) (s o : ℕ) (x : Mode) → SameButHeld (withAccess n s o x) n
+pub added-same : (n : Monitor) (s o : ℕ) (x : Mode) → SameButHeld (with_access n s o x) n
 added-same n s o x = record { profile = refl; subjects = refl; objects = same-unheld n s o x }
 
 -- ---- properties of pairs of accesses

@@ -19,7 +19,7 @@ use Rattle.model.specs.declared.Response.{Response}
 use Rattle.model.specs.Decisions.{number, refuses}
 use Rattle.model.specs.Requests.{decode}
 use Rattle.model.specs.Rules.{afterwards, checks, step}
-use Rattle.model.specs.Runs.{carryOut, respond, reply, after, replies}
+use Rattle.model.specs.Runs.{carry_out, respond, reply, after, replies}
 use Rattle.model.proofs.Tests.{apart, cond-true, cond-false}
 use Rattle.invariants.proofs.Steps.{step-granted, step-refused, step-all, granted-or-refused}
 use Rattle.invariants.proofs.Outcomes.{reply-granted}
@@ -93,38 +93,38 @@ module _ (m : Monitor) (I : Monitor → Type 0) (Q : Request → Type 0) (S : Co
       ∙ sym (left_by q (step r n).monitor v (keeps-step r n w i) ∙ ap (outcome a q) (left_by r n w i))
 
   -- the same of what bytes say, or where they are malformed and leave the state
-  keeps-turn : (d : Decoded) → Only Q d → (n : Monitor) → I n → I (carryOut d n).monitor
+  keeps-turn : (d : Decoded) → Only Q d → (n : Monitor) → I n → I (carry_out d n).monitor
   keeps-turn Malformed w n i = i
   keeps-turn (Says q) w n i = keeps-step q n (w q refl) i
 
   turns-comm : (d e : Decoded) → Only Q d → Only Q e → (n : Monitor) → I n
-      → (carryOut e (carryOut d n).monitor).monitor ≡ (carryOut d (carryOut e n).monitor).monitor
+      → (carry_out e (carry_out d n).monitor).monitor ≡ (carry_out d (carry_out e n).monitor).monitor
   turns-comm Malformed e v w n i = refl
   turns-comm (Says q) Malformed v w n i = refl
   turns-comm (Says q) (Says r) v w n i = steps-comm q r n (v q refl) (w r refl) i
 
   -- a reply is 0 or 1 exactly where it is if the bytes came alone
   granted-turn : (d : Decoded) → Only Q d → (n : Monitor) → I n
-      → IsGranted (number (carryOut d n).decision) ↔ IsGranted (number (carryOut d m).decision)
+      → IsGranted (number (carry_out d n).decision) ↔ IsGranted (number (carry_out d m).decision)
   granted-turn Malformed w n i = (λ h. h, λ h. h)
   granted-turn (Says q) w n i =
       let same = S.alone q n (w q refl) i in
       (λ h. (reply-granted q m).1 (same.0 ((reply-granted q n).0 h)), λ h. (reply-granted q n).1 (same.1 ((reply-granted q m).0 h)))
 
   -- bytes are carried out as what they say under the profile of m
-  pub said-there : (b : List ℕ) (n : Monitor) → I n → respond b n ≡ carryOut (decode m.profile b) n
+  pub said-there : (b : List ℕ) (n : Monitor) → I n → respond b n ≡ carry_out (decode m.profile b) n
   unfolding respond
-  said-there b n i = ap (λ (k : Profile). carryOut (decode k b) n) (S.profile n i)
+  said-there b n i = ap (λ (k : Profile). carry_out (decode k b) n) (S.profile n i)
 
   pub keeps-one : (b : List ℕ) → Saying m.profile Q b → (n : Monitor) → I n → I (respond b n).monitor
   keeps-one b w n i = subst (λ (r : Response). I r.monitor) (sym (said-there b n i)) (keeps-turn (decode m.profile b) w n i)
 
   -- the state after two
   after_two : (b c : List ℕ) → Saying m.profile Q b → (n : Monitor) → I n
-      → (respond c (respond b n).monitor).monitor ≡ (carryOut (decode m.profile c) (carryOut (decode m.profile b) n).monitor).monitor
+      → (respond c (respond b n).monitor).monitor ≡ (carry_out (decode m.profile c) (carry_out (decode m.profile b) n).monitor).monitor
   after_two b c w n i =
       ap (λ (r : Response). r.monitor) (said-there c (respond b n).monitor (keeps-one b w n i))
-      ∙ ap (λ (r : Response). (carryOut (decode m.profile c) r.monitor).monitor) (said-there b n i)
+      ∙ ap (λ (r : Response). (carry_out (decode m.profile c) r.monitor).monitor) (said-there b n i)
 
   two-comm : (b c : List ℕ) → Saying m.profile Q b → Saying m.profile Q c → (n : Monitor) → I n
       → (respond c (respond b n).monitor).monitor ≡ (respond b (respond c n).monitor).monitor
@@ -134,7 +134,7 @@ module _ (m : Monitor) (I : Monitor → Type 0) (Q : Request → Type 0) (S : Co
   pub granted-one : (b : List ℕ) → Saying m.profile Q b → (n : Monitor) → I n → IsGranted (reply b n) ↔ IsGranted (reply b m)
   granted-one b w n i =
       subst (λ (r : Response). IsGranted (number r.decision) ↔ IsGranted (reply b m)) (sym (said-there b n i))
-      (subst (λ (r : Response). IsGranted (number (carryOut (decode m.profile b) n).decision) ↔ IsGranted (number r.decision)) (sym (said-there b m S.start))
+      (subst (λ (r : Response). IsGranted (number (carry_out (decode m.profile b) n).decision) ↔ IsGranted (number r.decision)) (sym (said-there b m S.start))
       (granted-turn (decode m.profile b) w n i))
 
   -- what they may pass through holds of the state after a list

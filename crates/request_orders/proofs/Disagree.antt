@@ -19,7 +19,7 @@ use Rattle.model.specs.Requests.{decode}
 use Rattle.model.specs.Rules.{changed, step}
 use Rattle.model.specs.Runs.{respond, reply, after, replies}
 use Rattle.model.proofs.Requests.{decode-range}
-use Rattle.invariants.specs.Access.{withAccess}
+use Rattle.invariants.specs.Access.{with_access}
 use Rattle.invariants.specs.Sound.{Sound}
 use Rattle.invariants.proofs.Inside.{get-within}
 use Rattle.invariants.proofs.Steps.{step-granted, step-all, sound-respond, sound-after, sound-afterwards, respond-profile}
@@ -89,8 +89,8 @@ module _ (Property : Monitor → Type 0) (R : PairProperty Property) (m : Monito
   never_both b c K ds p held_first held-second =
       let n = after ds m in
       let B : OnlyGained m n = gained-all m.profile ds p m refl S in
-      let one = withAccess m K.s K.p K.x in
-      let both = withAccess one K.t K.q K.y in
+      let one = with_access m K.s K.p K.x in
+      let both = with_access one K.t K.q K.y in
       let g = (says-granted b (Get K.s K.p K.x) m K.first).0 K.first_alone in
       let W = (sound-afterwards (Get K.s K.p K.x) m (decode-range m.profile b _ K.first) (get-within m S.inside K.s K.p K.x g) S g).formed in
       let fewer : Within both n =
@@ -112,7 +112,7 @@ module _ (Property : Monitor → Type 0) (R : PairProperty Property) (m : Monito
   clash-apart b c rest v w p K e =
       never_both b c K (b ∷ c ∷ rest) (v, (w, p))
       (first_holds m.profile b (c ∷ rest) _ _ _ m refl S (w, p) K.first K.first_alone)
-      (subst (λ (l : Monitor). Holds l K.t K.q K.y) (sym e) (first_holds m.profile c (b ∷ rest) _ _ _ m refl S (v, p) K.second K.second-alone))
+      (subst (λ (l : Monitor). Holds l K.t K.q K.y) (sym e) (first_holds m.profile c (b ∷ rest) _ _ _ m refl S (v, p) K.second K.second_alone))
 
   pub agree-no-clash : (bs : List (List ℕ)) → Each (IsGet m.profile) bs → OrdersAgree bs m → NoClash Property bs m
   agree-no-clash bs p agree i j h k K =

@@ -20,7 +20,7 @@ use Rattle.model.specs.Properties.{Holds}
 use Rattle.model.specs.Requests.{decode}
 use Rattle.model.specs.Rules.{changed, afterwards, checks}
 use Rattle.model.proofs.Requests.{decode-range}
-use Rattle.invariants.specs.Access.{withAccess, unheld}
+use Rattle.invariants.specs.Access.{with_access, unheld}
 use Rattle.invariants.specs.Sound.{Sound}
 use Rattle.invariants.proofs.Inside.{get-within}
 use Rattle.invariants.proofs.Steps.{sound-afterwards}
@@ -61,9 +61,9 @@ asked-range A = decode-range _ _ _ A.says
 
 module _ (Property : Monitor → Type 0) (R : PairProperty Property) (bs : List (List ℕ)) (m : Monitor) (S : Sound m) where
   -- a get that is granted alone: its access beside those held at the start
-  pub beside : (s o : ℕ) (x : Mode) → checks (Get s o x) m ≡ Granted → Pairs R.test m (withAccess m s o x)
+  pub beside : (s o : ℕ) (x : Mode) → checks (Get s o x) m ≡ Granted → Pairs R.test m (with_access m s o x)
   beside s o x g =
-      pairs-by R.test (withAccess m s o x) (withAccess m s o x) (added-same m s o x) (λ t p y a. a) ((R.means (withAccess m s o x)).0 ((R.exact m S s o x).0 g).1)
+      pairs-by R.test (with_access m s o x) (with_access m s o x) (added-same m s o x) (λ t p y a. a) ((R.means (with_access m s o x)).0 ((R.exact m S s o x).0 g).1)
 
   -- the own checks are the same in all states between
   same-own : (n : Monitor) → Between bs m n → (s o : ℕ) (x : Mode) → R.own n.subjects (unheld (object n o)) s x ≡ R.own m.subjects (unheld (object m o)) s x
@@ -75,11 +75,11 @@ module _ (Property : Monitor → Type 0) (R : PairProperty Property) (bs : List 
       let h = (R.exact n B.sound s o x).0 g in
       let r = asked-range A in
       let W = B.sound.formed in
-      let fewer : Within (withAccess m s o x) (withAccess n s o x) =
-      held-now m S.formed s o x (Holds (withAccess n s o x)) (holds-now n B.sound s o x r.0 r.1) (λ t p y a. held-still n W s o x t p y (B.more t p y a)) in
+      let fewer : Within (with_access m s o x) (with_access n s o x) =
+      held-now m S.formed s o x (Holds (with_access n s o x)) (holds-now n B.sound s o x r.0 r.1) (λ t p y a. held-still n W s o x t p y (B.more t p y a)) in
       let E = same-on (added-same n s o x) (same-on B.same (same_back (added-same m s o x))) in
       (R.exact m S s o x).1
-      (sym (same-own n B s o x) ∙ h.0, (R.means (withAccess m s o x)).1 (pairs-by R.test (withAccess n s o x) (withAccess m s o x) E fewer ((R.means (withAccess n s o x)).0 h.1)))
+      (sym (same-own n B s o x) ∙ h.0, (R.means (with_access m s o x)).1 (pairs-by R.test (with_access n s o x) (with_access m s o x) E fewer ((R.means (with_access n s o x)).0 h.1)))
 
   module _ (F : HeldTogether R.test bs m) where
     meets : (s p q : ℕ) (x y : Mode) → Origin bs m s p x → Origin bs m s q y → R.test (unheld (object m p)) x (unheld (object m q)) y ≡ true
@@ -94,7 +94,7 @@ module _ (Property : Monitor → Type 0) (R : PairProperty Property) (bs : List 
 
     -- after one more get that is granted alone every access still has its origin
     origins : (n : Monitor) → Between bs m n → (s o : ℕ) (x : Mode) → Asked m.profile bs s o x → checks (Get s o x) m ≡ Granted
-        → (t p : ℕ) (y : Mode) → Holds (withAccess n s o x) t p y → Origin bs m t p y
+        → (t p : ℕ) (y : Mode) → Holds (with_access n s o x) t p y → Origin bs m t p y
     origins n B s o x A g = held-now n B.sound.formed s o x (Origin bs m) (inr (A, g)) B.origin
 
     granted-in : (n : Monitor) → Between bs m n → (s o : ℕ) (x : Mode) → Asked m.profile bs s o x → checks (Get s o x) m ≡ Granted → checks (Get s o x) n ≡ Granted
@@ -104,7 +104,7 @@ module _ (Property : Monitor → Type 0) (R : PairProperty Property) (bs : List 
         let E = same_back (same-on (added-same n s o x) B.same) in
         (R.exact n B.sound s o x).1 (
           same-own n B s o x ∙ h.0,
-          (R.means (withAccess n s o x)).1 (pairs-by R.test (withAccess n s o x) (withAccess n s o x) E (λ t p y a. a) (λ t p q u v a b. meets t p q u v (from t p u a) (from t q v b))),
+          (R.means (with_access n s o x)).1 (pairs-by R.test (with_access n s o x) (with_access n s o x) E (λ t p y a. a) (λ t p q u v a b. meets t p q u v (from t p u a) (from t q v b))),
         )
 
     get-alone : (q : Request) (n : Monitor) → Getting m.profile bs q → Between bs m n → (checks q n ≡ Granted) ↔ (checks q m ≡ Granted)

@@ -13,12 +13,12 @@ use Rattle.model.specs.declared.Monitor.{Monitor}
 use Rattle.model.specs.declared.Mode.{Mode}
 use Rattle.model.specs.declared.Request.{Request}
 use Rattle.model.specs.declared.Decision.TheVariants.{Granted, NotEnrolled, NotLive, NoRight}
-use Rattle.model.specs.Tests.{firstFailing}
+use Rattle.model.specs.Tests.{first_failing}
 use Rattle.model.specs.Levels.{present}
 use Rattle.model.specs.Modes.{has}
-use Rattle.model.specs.State.{noObject, clearanceAt, enrolled, object, rightsOf}
+use Rattle.model.specs.State.{no_object, clearance_at, enrolled, object, rights_of}
 use Rattle.model.specs.Requests.{InRange, Within}
-use Rattle.model.specs.Rules.{target, owns, mayGive, changed, afterwards, checks}
+use Rattle.model.specs.Rules.{target, owns, may_give, changed, afterwards, checks}
 use Rattle.model.proofs.Tests.{set_all, split, and_left, and_right}
 use Rattle.model.proofs.Modes.{add_same}
 use Rattle.invariants.specs.Sound.{Sound}
@@ -36,7 +36,7 @@ pub record SameOwner (a b : Object) : Type 0 where
   pub parent : a.parent ≡ b.parent
   pub label : a.label ≡ b.label
   pub companies : a.companies ≡ b.companies
-  pub rights : rightsOf a b.owner ≡ rightsOf b b.owner
+  pub rights : rights_of a b.owner ≡ rights_of b b.owner
 
 -- the states that gives and releases lead to from m
 pub record OwnersKept (m n : Monitor) : Type 0 where
@@ -50,16 +50,16 @@ abbrev pub Ranged : Request → Type 0
 Ranged q = InRange q × GiveOrRelease q
 
 -- "the actor is owner and has that right itself" looks at the owner and at the owner's rights alone
-same-may : (a b : Object) → SameOwner a b → (s : ℕ) (x : Mode) → mayGive s x a ≡ mayGive s x b
+same-may : (a b : Object) → SameOwner a b → (s : ℕ) (x : Mode) → may_give s x a ≡ may_give s x b
 same-may a b E s x =
-    ap (λ (k : ℕ). eqb k s && has x (rightsOf a s)) E.owner
+    ap (λ (k : ℕ). eqb k s && has x (rights_of a s)) E.owner
     ∙ split (owns s b)
-    (λ e. ap (λ (k : ℕ). owns s b && has x k) (subst (λ (k : ℕ). rightsOf a k ≡ rightsOf b k) (eqb-true _ _ e) E.rights))
-    (λ e. ap (λ (k : Bool). k && has x (rightsOf a s)) e ∙ sym (ap (λ (k : Bool). k && has x (rightsOf b s)) e))
+    (λ e. ap (λ (k : ℕ). owns s b && has x k) (subst (λ (k : ℕ). rights_of a k ≡ rights_of b k) (eqb-true _ _ e) E.rights))
+    (λ e. ap (λ (k : Bool). k && has x (rights_of a s)) e ∙ sym (ap (λ (k : Bool). k && has x (rights_of b s)) e))
 
 module _ (m : Monitor) where
   same-enrolled : (n : Monitor) → OwnersKept m n → (s : ℕ) → enrolled n s ≡ enrolled m s
-  same-enrolled n P s = ap (λ (l : List Subject). present (clearanceAt l s)) P.subjects
+  same-enrolled n P s = ap (λ (l : List Subject). present (clearance_at l s)) P.subjects
 
   -- so the checks of each answer as they did
   pub same-checks : (q : Request) (n : Monitor) → GiveOrRelease q → OwnersKept m n → checks q n ≡ checks q m
@@ -67,8 +67,8 @@ module _ (m : Monitor) where
   same-checks _ n (give s t o x) P =
       let E = P.objects o in
       let may = same-may (object n o) (object m o) E s x in
-      λ i. firstFailing ((same-enrolled n P s i && same-enrolled n P t i, NotEnrolled) ∷ (E.live i, NotLive) ∷ (may i, NoRight) ∷ [])
-  same-checks _ n (release s o x) P = λ i. firstFailing ((same-enrolled n P s i, NotEnrolled) ∷ ((P.objects o).live i, NotLive) ∷ [])
+      λ i. first_failing ((same-enrolled n P s i && same-enrolled n P t i, NotEnrolled) ∷ (E.live i, NotLive) ∷ (may i, NoRight) ∷ [])
+  same-checks _ n (release s o x) P = λ i. first_failing ((same-enrolled n P s i, NotEnrolled) ∷ ((P.objects o).live i, NotLive) ∷ [])
 
   -- who gives is the owner and has the right, so a give to the owner changes nothing
   owner-keeps : (q : Request) (n : Monitor) → GiveOrRelease q → OwnersKept m n → checks q n ≡ Granted
@@ -78,23 +78,23 @@ module _ (m : Monitor) where
       let E = P.objects o in
       let may = (granted-give n s t o x g).allowed in
       let mine : s ≡ (object m o).owner = sym (eqb-true _ _ (and_left (owns s (object n o)) _ may)) ∙ E.owner in
-      let had : (k : ℕ) → k ≡ (object m o).owner → has x (rightsOf (object n o) k) ≡ true =
-      λ k e. ap (λ (j : ℕ). has x (rightsOf (object n o) j)) (e ∙ sym mine) ∙ and_right (owns s (object n o)) _ may in
+      let had : (k : ℕ) → k ≡ (object m o).owner → has x (rights_of (object n o) k) ≡ true =
+      λ k e. ap (λ (j : ℕ). has x (rights_of (object n o) j)) (e ∙ sym mine) ∙ and_right (owns s (object n o)) _ may in
       record {
         live = E.live;
         owner = E.owner;
         parent = E.parent;
         label = E.label;
         companies = E.companies;
-        rights = set_all (λ j k. j ≡ (object m o).owner → k ≡ rightsOf (object m o) (object m o).owner) (object n o).rights t _ 0
-            (λ j e. ap (rightsOf (object n o)) e ∙ E.rights)
-            (λ e. add_same x _ (had t e) ∙ ap (rightsOf (object n o)) e ∙ E.rights) (object m o).owner refl;
+        rights = set_all (λ j k. j ≡ (object m o).owner → k ≡ rights_of (object m o) (object m o).owner) (object n o).rights t _ 0
+            (λ j e. ap (rights_of (object n o)) e ∙ E.rights)
+            (λ e. add_same x _ (had t e) ∙ ap (rights_of (object n o)) e ∙ E.rights) (object m o).owner refl;
       }
   owner-keeps _ n (release s o x) P g = let E = P.objects o in record { live = E.live; owner = E.owner; parent = E.parent; label = E.label; companies = E.companies; rights = E.rights }
 
   same-owners : (q : Request) (n : Monitor) → GiveOrRelease q → OwnersKept m n → checks q n ≡ Granted → (o : ℕ) → SameOwner (object (afterwards q n) o) (object m o)
-  same-owners _ n (give s t o x) P g = set_all (λ j ob. SameOwner ob (object m j)) n.objects o _ noObject P.objects (owner-keeps _ n (give s t o x) P g)
-  same-owners _ n (release s o x) P g = set_all (λ j ob. SameOwner ob (object m j)) n.objects o _ noObject P.objects (owner-keeps _ n (release s o x) P g)
+  same-owners _ n (give s t o x) P g = set_all (λ j ob. SameOwner ob (object m j)) n.objects o _ no_object P.objects (owner-keeps _ n (give s t o x) P g)
+  same-owners _ n (release s o x) P g = set_all (λ j ob. SameOwner ob (object m j)) n.objects o _ no_object P.objects (owner-keeps _ n (release s o x) P g)
 
   owners-kept : (q : Request) (n : Monitor) → Ranged q → OwnersKept m n → checks q n ≡ Granted → OwnersKept m (afterwards q n)
   owners-kept q n w P g =

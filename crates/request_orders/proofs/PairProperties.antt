@@ -14,14 +14,14 @@ use Rattle.model.specs.declared.Request.TheVariants.{Get}
 use Rattle.model.specs.declared.Decision.TheVariants.{Granted}
 use Rattle.model.specs.Tests.{implies}
 use Rattle.model.specs.Levels.{dominates, present}
-use Rattle.model.specs.Modes.{has, observes, alters, needsLabel}
+use Rattle.model.specs.Modes.{has, observes, alters, needs_label}
 use Rattle.model.specs.Companies.{compatible, confined}
-use Rattle.model.specs.State.{clearanceAt, enrolled, object, rightsOf}
+use Rattle.model.specs.State.{clearance_at, enrolled, object, rights_of}
 use Rattle.model.specs.Properties.{Star, Wall}
 use Rattle.model.specs.Rules.{changed, checks}
 use Rattle.model.proofs.Tests.{implies-in, implies-out, and_left, and_right, and_both}
 use Rattle.model.proofs.Levels.{dominates-decides}
-use Rattle.invariants.specs.Access.{withAccess, unheld}
+use Rattle.invariants.specs.Access.{with_access, unheld}
 use Rattle.invariants.specs.Sound.{Sound}
 use Rattle.invariants.proofs.Granted.{granted-get, grants-get}
 use Rattle.model.proofs.Companies.{compatible-decides, confined-decides}
@@ -38,34 +38,34 @@ pub record PairProperty (Property : Monitor → Type 0) : Type 0 where
   pub means : (n : Monitor) → Property n ↔ Pairs test n n
   pub kept : (n : Monitor) → Sound n → Property n
   pub exact : (n : Monitor) → Sound n → (s o : ℕ) (x : Mode)
-      → (checks (Get s o x) n ≡ Granted) ↔ ((own n.subjects (unheld (object n o)) s x ≡ true) × Property (withAccess n s o x))
+      → (checks (Get s o x) n ≡ Granted) ↔ ((own n.subjects (unheld (object n o)) s x ≡ true) × Property (with_access n s o x))
 
 -- ---- star and the wall
 
 -- "where one subject holds r or w on P and a or w on Q, the label of Q dominates the label of P"
-abbrev pub starTest : Object → Mode → Object → Mode → Bool
-starTest p x q y = implies (observes x && alters y) (dominates q.label p.label)
+abbrev pub star_test : Object → Mode → Object → Mode → Bool
+star_test p x q y = implies (observes x && alters y) (dominates q.label p.label)
 
 -- "each class has a 0 or equal numbers"; "Where it holds r or w on P and a or w on Q, each nonzero number of P equals that of Q"
-abbrev pub wallTest : Object → Mode → Object → Mode → Bool
-wallTest p x q y = compatible p.companies q.companies && implies (observes x && alters y) (confined p.companies q.companies)
+abbrev pub wall_test : Object → Mode → Object → Mode → Bool
+wall_test p x q y = compatible p.companies q.companies && implies (observes x && alters y) (confined p.companies q.companies)
 
-abbrev pub bothTest : Object → Mode → Object → Mode → Bool
-bothTest p x q y = starTest p x q y && wallTest p x q y
+abbrev pub both_test : Object → Mode → Object → Mode → Bool
+both_test p x q y = star_test p x q y && wall_test p x q y
 
 -- checks 3, 4, 6, 7 and 8 of a get
-abbrev pub ownChecks : List Subject → Object → ℕ → Mode → Bool
-ownChecks l ob s x =
-    present (clearanceAt l s) && (ob.live && (has x (rightsOf ob s)
-    && (implies (needsLabel x) (present ob.label) && implies (observes x) (dominates (clearanceAt l s) ob.label))))
+abbrev pub own_checks : List Subject → Object → ℕ → Mode → Bool
+own_checks l ob s x =
+    present (clearance_at l s) && (ob.live && (has x (rights_of ob s)
+    && (implies (needs_label x) (present ob.label) && implies (observes x) (dominates (clearance_at l s) ob.label))))
 
-star-means : (n : Monitor) → Star n ↔ Pairs starTest n n
+star-means : (n : Monitor) → Star n ↔ Pairs star_test n n
 star-means n = (
   λ T s p q x y a b. implies-in _ _ (λ w. (dominates-decides _ _).1 (T s p q x y a (and_left (observes x) _ w) b (and_right (observes x) _ w))),
   λ T s p q x y a u b v. (dominates-decides _ _).0 (implies-out _ _ (T s p q x y a b) (and_both u v)),
 )
 
-wall-means : (n : Monitor) → Wall n ↔ Pairs wallTest n n
+wall-means : (n : Monitor) → Wall n ↔ Pairs wall_test n n
 wall-means n = (
   λ W s p q x y a b.
       and_both ((compatible-decides _ _).1 (W.compatible s p q x y a b))
@@ -79,44 +79,44 @@ wall-means n = (
       },
 )
 
-both-means : (n : Monitor) → StarAndWall n ↔ Pairs bothTest n n
+both-means : (n : Monitor) → StarAndWall n ↔ Pairs both_test n n
 both-means n = (
   λ B s p q x y a b. and_both ((star-means n).0 B.0 s p q x y a b) ((wall-means n).0 B.1 s p q x y a b),
   λ T. (
-    (star-means n).1 (λ s p q x y a b. and_left (starTest (object n p) x (object n q) y) _ (T s p q x y a b)),
-    (wall-means n).1 (λ s p q x y a b. and_right (starTest (object n p) x (object n q) y) _ (T s p q x y a b)),
+    (star-means n).1 (λ s p q x y a b. and_left (star_test (object n p) x (object n q) y) _ (T s p q x y a b)),
+    (wall-means n).1 (λ s p q x y a b. and_right (star_test (object n p) x (object n q) y) _ (T s p q x y a b)),
   ),
 )
 
 both-exact : (n : Monitor) → Sound n → (s o : ℕ) (x : Mode)
-    → (checks (Get s o x) n ≡ Granted) ↔ ((ownChecks n.subjects (unheld (object n o)) s x ≡ true) × StarAndWall (withAccess n s o x))
+    → (checks (Get s o x) n ≡ Granted) ↔ ((own_checks n.subjects (unheld (object n o)) s x ≡ true) × StarAndWall (with_access n s o x))
 unfolding changed
 both-exact n S s o x = (
   λ e.
       let g = granted-get n s o x e in (
         and_both g.there (and_both g.live (and_both g.right (and_both g.labelled g.simple))),
         (
-          star-of (withAccess n s o x) (star-get s o x n S.formed S.secure.star g.star),
-          wall-of (withAccess n s o x) (wall-get s o x n S.formed S.secure.wall g.wall),
+          star-of (with_access n s o x) (star-get s o x n S.formed S.secure.star g.star),
+          wall-of (with_access n s o x) (wall-get s o x n S.formed S.secure.wall g.wall),
         ),
       ),
   λ h.
       let a = h.0 in
       let b = and_right (enrolled n s) _ a in
       let c = and_right (object n o).live _ b in
-      let d = and_right (has x (rightsOf (object n o) s)) _ c in
+      let d = and_right (has x (rights_of (object n o) s)) _ c in
       grants-get n s o x
       (record {
         there = and_left (enrolled n s) _ a;
         live = and_left (object n o).live _ b;
-        right = and_left (has x (rightsOf (object n o) s)) _ c;
-        labelled = and_left (implies (needsLabel x) (present (object n o).label)) _ d;
-        simple = and_right (implies (needsLabel x) (present (object n o).label)) _ d;
-        star = implies-in _ _ (λ w. star-in s _ (star-for (withAccess n s o x) h.1.0 s));
-        wall = wall-in s _ (wall-for (withAccess n s o x) h.1.1 s);
+        right = and_left (has x (rights_of (object n o) s)) _ c;
+        labelled = and_left (implies (needs_label x) (present (object n o).label)) _ d;
+        simple = and_right (implies (needs_label x) (present (object n o).label)) _ d;
+        star = implies-in _ _ (λ w. star-in s _ (star-for (with_access n s o x) h.1.0 s));
+        wall = wall-in s _ (wall-for (with_access n s o x) h.1.1 s);
       }),
 )
 
 pub both-pairs : PairProperty StarAndWall
 both-pairs =
-    record { test = bothTest; own = ownChecks; means = both-means; kept = λ n S. (S.secure.star, S.secure.wall); exact = both-exact }
+    record { test = both_test; own = own_checks; means = both-means; kept = λ n S. (S.secure.star, S.secure.wall); exact = both-exact }

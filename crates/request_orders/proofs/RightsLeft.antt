@@ -19,12 +19,12 @@ use Rattle.model.specs.declared.Decoded.TheVariants.{Malformed, Says}
 use Rattle.model.specs.declared.Decision.TheVariants.{Granted}
 use Rattle.model.specs.declared.Response.{Response}
 use Rattle.model.specs.Modes.{has}
-use Rattle.model.specs.State.{noModes, noObject, clearanceAt, enrolled, object, WellFormed}
+use Rattle.model.specs.State.{no_modes, no_object, clearance_at, enrolled, object, WellFormed}
 use Rattle.model.specs.Properties.{Holds, Permits}
 use Rattle.model.specs.Decisions.{number}
 use Rattle.model.specs.Requests.{decode}
 use Rattle.model.specs.Rules.{checks, step}
-use Rattle.model.specs.Runs.{carryOut, respond, reply, after}
+use Rattle.model.specs.Runs.{carry_out, respond, reply, after}
 use Rattle.model.specs.Beginnings.{Reached}
 use Rattle.model.proofs.Tests.{split, clash, apart, bool-ext}
 use Rattle.model.proofs.Equal.{object-same, state-same}
@@ -47,13 +47,13 @@ use Rattle.request_orders.proofs.Owners.{OwnersKept, Ranged, same-checks, rights
 use Rattle.request_orders.proofs.RightsLists.{ranged, of-kind}
 
 -- on an object that is not live nobody has a right, and nobody holds an access
-none-there : {P : Type 0} (row : Object → List ℕ) → row noObject ≡ noModes → (n : Monitor) → WellFormed n → (t o : ℕ) (x : Mode)
+none-there : {P : Type 0} (row : Object → List ℕ) → row no_object ≡ no_modes → (n : Monitor) → WellFormed n → (t o : ℕ) (x : Mode)
     → (object n o).live ≡ false → has x (get_or (row (object n o)) t 0) ≡ true → P
-none-there row z n W t o x e = none-held x _ (ap (λ (l : List ℕ). get_or l t 0) (ap row ((W.objects-formed o).shape.not_live e) ∙ z) ∙ no-modes t)
+none-there row z n W t o x e = none-held x _ (ap (λ (l : List ℕ). get_or l t 0) (ap row ((W.objects_formed o).shape.not_live e) ∙ z) ∙ no-modes t)
 
 -- who holds an access is enrolled
 holder-enrolled : (n : Monitor) → WellFormed n → (s o : ℕ) (x : Mode) → Holds n s o x → enrolled n s ≡ true
-holder-enrolled n W s o x h = split (enrolled n s) (λ e. e) (λ e. none-held x _ ((W.objects-formed o).absent-held s e) h)
+holder-enrolled n W s o x h = split (enrolled n s) (λ e. e) (λ e. none-held x _ ((W.objects_formed o).absent_held s e) h)
 
 module _ (m : Monitor) (S : Sound m) where
   C : Commuting m (OwnersKept m) Ranged
@@ -113,7 +113,7 @@ module _ (m : Monitor) (S : Sound m) where
   says-give q t o x = (λ k. (k.0, ap Says k.1), λ k. (k.0, says-one refl k.1))
 
   right-turn : (d : Decoded) → Only Ranged d → (n : Monitor) → OwnersKept m n → (t o : ℕ) (x : Mode)
-      → Permits (carryOut d n).monitor t o x ↔ (Permits n t o x ⊎ (((s : ℕ) × (d ≡ Says (Give s t o x))) × IsGranted (number (carryOut d m).decision)))
+      → Permits (carry_out d n).monitor t o x ↔ (Permits n t o x ⊎ (((s : ℕ) × (d ≡ Says (Give s t o x))) × IsGranted (number (carry_out d m).decision)))
   right-turn Malformed w n P t o x = (λ h. inl h, ⊎_elim (λ h. h) (λ k. absurd (omega (arith, k.1))))
   right-turn (Says q) w n P t o x =
       let one = right-step q (w q refl) n P o t x in
@@ -124,7 +124,7 @@ module _ (m : Monitor) (S : Sound m) where
       )
 
   access-turn : (d : Decoded) → Only Ranged d → (n : Monitor) → OwnersKept m n → (s o : ℕ) (x : Mode)
-      → Holds (carryOut d n).monitor s o x ↔ (Holds n s o x × (d ≡ Says (Release s o x) → ⊥))
+      → Holds (carry_out d n).monitor s o x ↔ (Holds n s o x × (d ≡ Says (Release s o x) → ⊥))
   access-turn Malformed w n P s o x = (λ h. (h, λ e. let z : ◌≡◌ {A = ℕ} 0 1 = cc in omega arith), λ h. h.0)
   access-turn (Says q) w n P s o x =
       let one = access-step q (w q refl) n P o s x in
@@ -135,7 +135,7 @@ module _ (m : Monitor) (S : Sound m) where
       → Permits (respond b n).monitor t o x ↔ (Permits n t o x ⊎ (Gives m.profile t o x b × IsGranted (reply b m)))
   right-one b w n P t o x =
       subst (λ (r : Response). Permits r.monitor t o x ↔ (Permits n t o x ⊎ (Gives m.profile t o x b × IsGranted (reply b m)))) (sym (said-there m (OwnersKept m) Ranged C b n P))
-      (subst (λ (r : Response). Permits (carryOut (decode m.profile b) n).monitor t o x ↔ (Permits n t o x ⊎ (Gives m.profile t o x b × IsGranted (number r.decision))))
+      (subst (λ (r : Response). Permits (carry_out (decode m.profile b) n).monitor t o x ↔ (Permits n t o x ⊎ (Gives m.profile t o x b × IsGranted (number r.decision))))
       (sym (said-there m (OwnersKept m) Ranged C b m C.start)) (right-turn (decode m.profile b) w n P t o x))
 
   access-one : (b : List ℕ) → Saying m.profile Ranged b → (n : Monitor) → OwnersKept m n → (s o : ℕ) (x : Mode)
@@ -196,8 +196,8 @@ rights-left m r bs p cs c =
 -- and that is all of the state: two well-formed states of which it is so are one
 pub left_one : (bs : List (List ℕ)) (m n k : Monitor) → WellFormed n → WellFormed k → Left bs m n → Left bs m k → n ≡ k
 left_one bs m n k N K L M =
-    state-same n k N K (L.profile ∙ sym M.profile) (λ s h. ap (λ (l : List Subject). clearanceAt l s) (L.subjects ∙ sym M.subjects))
-    (λ o h. object-same (object n o) (object k o) (N.objects-formed o) (K.objects-formed o)
+    state-same n k N K (L.profile ∙ sym M.profile) (λ s h. ap (λ (l : List Subject). clearance_at l s) (L.subjects ∙ sym M.subjects))
+    (λ o h. object-same (object n o) (object k o) (N.objects_formed o) (K.objects_formed o)
     (L.lives o ∙ sym (M.lives o)) (L.owners o ∙ sym (M.owners o)) (L.parents o ∙ sym (M.parents o)) (L.labels o ∙ sym (M.labels o)) (L.numbers o ∙ sym (M.numbers o))
     (λ t h x. bool-ext _ _ (λ e. (M.rights t o x).1 ((L.rights t o x).0 e)) (λ e. (L.rights t o x).1 ((M.rights t o x).0 e)))
     (λ s h x. bool-ext _ _ (λ e. (M.accesses s o x).1 ((L.accesses s o x).0 e)) (λ e. (L.accesses s o x).1 ((M.accesses s o x).0 e))))

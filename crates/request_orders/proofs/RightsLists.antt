@@ -19,7 +19,7 @@ use Rattle.model.specs.declared.Decoded.TheVariants.{Malformed, Says}
 use Rattle.model.specs.declared.Response.{Response}
 use Rattle.model.specs.Decisions.{number, refuses}
 use Rattle.model.specs.Requests.{decode, encode, InRange, Within}
-use Rattle.model.specs.Runs.{carryOut, respond, reply, replies}
+use Rattle.model.specs.Runs.{carry_out, respond, reply, replies}
 use Rattle.model.specs.Beginnings.{Reached}
 use Rattle.model.proofs.Requests.{decode-range, encode-decode}
 use Rattle.invariants.specs.Sound.{Sound}
@@ -50,8 +50,8 @@ rights-granted-alone m r bs p = granted-alone m (OwnersKept m) Ranged (rights-co
 
 module _ (m : Monitor) (S : Sound m) where
   -- a refusal has the number that it has alone
-  refused-turn : (d : Decoded) → Only Ranged d → (n : Monitor) → OwnersKept m n → 2 ≤ number (carryOut d n).decision
-      → number (carryOut d n).decision ≡ number (carryOut d m).decision
+  refused-turn : (d : Decoded) → Only Ranged d → (n : Monitor) → OwnersKept m n → 2 ≤ number (carry_out d n).decision
+      → number (carry_out d n).decision ≡ number (carry_out d m).decision
   refused-turn Malformed w n P h = refl
   refused-turn (Says q) w n P h =
       let same = same-checks m q n (w q refl).1 P in
@@ -66,7 +66,7 @@ module _ (m : Monitor) (S : Sound m) where
   refused-at (b ∷ bs) p n P zero h =
       let there = said-there m (OwnersKept m) Ranged (rights-commuting m S) b in
       subst (λ (r : Response). 2 ≤ number r.decision → number r.decision ≡ reply b m) (sym (there n P))
-      (subst (λ (r : Response). 2 ≤ number (carryOut (decode m.profile b) n).decision → number (carryOut (decode m.profile b) n).decision ≡ number r.decision)
+      (subst (λ (r : Response). 2 ≤ number (carry_out (decode m.profile b) n).decision → number (carry_out (decode m.profile b) n).decision ≡ number r.decision)
       (sym (there m (rights-commuting m S).start)) (refused-turn (decode m.profile b) p.0 n P))
   refused-at (b ∷ bs) p n P (suc i) h =
       refused-at bs p.1 (respond b n).monitor (keeps-one m (OwnersKept m) Ranged (rights-commuting m S) b p.0 n P) i (le_of_suc-le-suc h)
@@ -140,19 +140,19 @@ pub no-other-kind : (k : Profile) (b : List ℕ) (q : Request) → decode k b �
 no-other-kind k b q e = (λ w. w q e, λ g r f. subst GiveOrRelease (says-one e f) g)
 
 -- of the eight kinds these are two
-abbrev pub giveOrRelease : Request → Bool
-giveOrRelease (Get s o x) = false
-giveOrRelease (Release s o x) = true
-giveOrRelease (Give s t o x) = true
-giveOrRelease (Rescind s t o x) = false
-giveOrRelease (Create s o c) = false
-giveOrRelease (Delete s o) = false
-giveOrRelease (ChangeLevel s o l) = false
-giveOrRelease (SetCompanies s o n) = false
+abbrev pub give_or_release : Request → Bool
+give_or_release (Get s o x) = false
+give_or_release (Release s o x) = true
+give_or_release (Give s t o x) = true
+give_or_release (Rescind s t o x) = false
+give_or_release (Create s o c) = false
+give_or_release (Delete s o) = false
+give_or_release (ChangeLevel s o l) = false
+give_or_release (SetCompanies s o n) = false
 
-pub two-kinds : (q : Request) → GiveOrRelease q → giveOrRelease q ≡ true
+pub two-kinds : (q : Request) → GiveOrRelease q → give_or_release q ≡ true
 two-kinds _ (give s t o x) = refl
 two-kinds _ (release s o x) = refl
 
-pub of-kind : (q r : Request) → GiveOrRelease q → q ≡ r → giveOrRelease r ≡ true
+pub of-kind : (q r : Request) → GiveOrRelease q → q ≡ r → give_or_release r ≡ true
 of-kind q r w e = two-kinds r (subst GiveOrRelease e w)

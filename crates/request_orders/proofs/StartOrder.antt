@@ -21,7 +21,7 @@ use Rattle.model.specs.Rules.{changed, checks}
 use Rattle.model.specs.Runs.{respond, reply, after}
 use Rattle.model.specs.Beginnings.{Reached}
 use Rattle.model.proofs.Requests.{decode-range}
-use Rattle.invariants.specs.Access.{withAccess}
+use Rattle.invariants.specs.Access.{with_access}
 use Rattle.invariants.specs.Sound.{Sound}
 use Rattle.invariants.proofs.Steps.{step-granted, step-refused}
 use Rattle.images.proofs.Reached.{sound-reached, respond-says}
@@ -101,41 +101,41 @@ clash-turned m r b c K =
       y = K.x;
       first = K.second;
       second = K.first;
-      first_alone = K.second-alone;
-      second-alone = K.first_alone;
+      first_alone = K.second_alone;
+      second_alone = K.first_alone;
       together = λ T. K.together (subst StarAndWall (gets-comm m (sound-reached m r).formed K.s K.p K.x K.t K.q K.y) T);
     }
 
 -- ---- two gets by their replies
 
 module _ (m : Monitor) (S : Sound m) (b c : List ℕ) (s p : ℕ) (x : Mode) (t q : ℕ) (y : Mode) (Says-first : decode m.profile b ≡ Says (Get s p x))
-    (Says-second : decode m.profile c ≡ Says (Get t q y)) (first_alone : reply b m < 2) (second-alone : reply c m < 2) where
+    (Says-second : decode m.profile c ≡ Says (Get t q y)) (first_alone : reply b m < 2) (second_alone : reply c m < 2) where
   first-granted : checks (Get s p x) m ≡ Granted
   first-granted = (says-granted b (Get s p x) m Says-first).0 first_alone
 
   second-granted : checks (Get t q y) m ≡ Granted
-  second-granted = (says-granted c (Get t q y) m Says-second).0 second-alone
+  second-granted = (says-granted c (Get t q y) m Says-second).0 second_alone
 
   -- the state that the first leaves
-  after_first : (respond b m).monitor ≡ withAccess m s p x
+  after_first : (respond b m).monitor ≡ with_access m s p x
   unfolding changed
   after_first = ap (λ (r : Response). r.monitor) (respond-says b (Get s p x) m Says-first ∙ step-granted (Get s p x) m first-granted)
 
   -- where they would together break star or the wall, the second gets 9 or 18 there, and else it is granted
-  refused-there : (d : Decision) → refuses d ≡ true → checks (Get t q y) (withAccess m s p x) ≡ d → reply c (respond b m).monitor ≡ number d
+  refused-there : (d : Decision) → refuses d ≡ true → checks (Get t q y) (with_access m s p x) ≡ d → reply c (respond b m).monitor ≡ number d
   refused-there d r broken =
-      ap (reply c) after_first ∙ ap (λ (r : Response). number r.decision) (respond-says c (Get t q y) (withAccess m s p x) Says-second)
-      ∙ ap (λ (r : Response). number r.decision) (step-refused (Get t q y) (withAccess m s p x) (ap refuses broken ∙ r)) ∙ ap number broken
+      ap (reply c) after_first ∙ ap (λ (r : Response). number r.decision) (respond-says c (Get t q y) (with_access m s p x) Says-second)
+      ∙ ap (λ (r : Response). number r.decision) (step-refused (Get t q y) (with_access m s p x) (ap refuses broken ∙ r)) ∙ ap number broken
 
-  second-refused : (StarAndWall (withAccess (withAccess m s p x) t q y) → ⊥) → (reply c (respond b m).monitor ≡ 9) ⊎ (reply c (respond b m).monitor ≡ 18)
+  second-refused : (StarAndWall (with_access (with_access m s p x) t q y) → ⊥) → (reply c (respond b m).monitor ≡ 9) ⊎ (reply c (respond b m).monitor ≡ 18)
   second-refused n =
       ⊎_elim (λ e. inl (refused-there StarBroken refl e)) (λ e. inr (refused-there WallBroken refl e))
       (refused-after-first m S s p x t q y (decode-range m.profile b _ Says-first) (decode-range m.profile c _ Says-second) first-granted second-granted n)
 
-  second_below : StarAndWall (withAccess (withAccess m s p x) t q y) → reply c (respond b m).monitor < 2
+  second_below : StarAndWall (with_access (with_access m s p x) t q y) → reply c (respond b m).monitor < 2
   second_below T =
       subst (λ (n : Monitor). reply c n < 2) (sym after_first)
-      ((says-granted c (Get t q y) (withAccess m s p x) Says-second).1
+      ((says-granted c (Get t q y) (with_access m s p x) Says-second).1
       (granted-after-first m S s p x t q y (decode-range m.profile b _ Says-first) (decode-range m.profile c _ Says-second) first-granted second-granted T))
 
 -- two gets clash exactly where each gets 0 or 1 if it came alone, and the second gets 9 or 18 after the first
@@ -143,7 +143,7 @@ pub clash-by-replies : (m : Monitor) → Reached m → (b c : List ℕ) → IsGe
     → Clash StarAndWall m b c ↔ ((reply b m < 2) × (reply c m < 2) × ((reply c (respond b m).monitor ≡ 9) ⊎ (reply c (respond b m).monitor ≡ 18)))
 clash-by-replies m r b c v w =
     let S = sound-reached m r in (
-      λ K. (K.first_alone, K.second-alone, second-refused m S b c _ _ _ _ _ _ K.first K.second K.first_alone K.second-alone K.together),
+      λ K. (K.first_alone, K.second_alone, second-refused m S b c _ _ _ _ _ _ K.first K.second K.first_alone K.second_alone K.together),
       λ h. record {
         s = v.0;
         p = v.1;
@@ -154,7 +154,7 @@ clash-by-replies m r b c v w =
         first = v.3;
         second = w.3;
         first_alone = h.0;
-        second-alone = h.1;
+        second_alone = h.1;
         together = λ T.
             let low = second_below m S b c _ _ _ _ _ _ v.3 w.3 h.0 h.1 T in
             ⊎_elim (λ (e : reply c (respond b m).monitor ≡ 9). absurd (omega (arith, low, e)))

@@ -19,7 +19,7 @@ use Rattle.model.specs.Properties.{Holds}
 use Rattle.model.specs.Requests.{decode}
 use Rattle.model.specs.Rules.{changed, checks}
 use Rattle.model.proofs.Tests.{split, apart, le-or-lt}
-use Rattle.invariants.specs.Access.{withAccess, unheld}
+use Rattle.invariants.specs.Access.{with_access, unheld}
 use Rattle.invariants.specs.Sound.{Sound}
 use Rattle.invariants.proofs.Inside.{get-within}
 use Rattle.invariants.proofs.Steps.{sound-afterwards}
@@ -36,7 +36,7 @@ same-get d s p q x y e f = (cc, cc)
 
 module _ (Property : Monitor → Type 0) (R : PairProperty Property) (bs : List (List ℕ)) (m : Monitor) (S : Sound m) where
   -- the state with two accesses added
-  sound-one : (s o : ℕ) (x : Mode) → (s < 16) × (o < 64) → checks (Get s o x) m ≡ Granted → Sound (withAccess m s o x)
+  sound-one : (s o : ℕ) (x : Mode) → (s < 16) × (o < 64) → checks (Get s o x) m ≡ Granted → Sound (with_access m s o x)
   unfolding changed
   sound-one s o x r g = sound-afterwards (Get s o x) m r (get-within m S.inside s o x g) S g
 
@@ -46,11 +46,11 @@ module _ (Property : Monitor → Type 0) (R : PairProperty Property) (bs : List 
         → decode m.profile (get_or bs i []) ≡ Says (Get s p x) → checks (Get s p x) m ≡ Granted
         → decode m.profile (get_or bs j []) ≡ Says (Get s q y) → checks (Get s q y) m ≡ Granted
         → (u v : ℕ) (a b : Mode)
-        → Holds (withAccess (withAccess m s p x) s q y) s u a → Holds (withAccess (withAccess m s p x) s q y) s v b
+        → Holds (with_access (with_access m s p x) s q y) s u a → Holds (with_access (with_access m s p x) s q y) s v b
         → R.test (unheld (object m u)) a (unheld (object m v)) b ≡ true
     two-places i j h k s p q x y d g e f u v a b l r =
-        let both = withAccess (withAccess m s p x) s q y in
-        let E = same-on (added-same (withAccess m s p x) s q y) (added-same m s p x) in
+        let both = with_access (with_access m s p x) s q y in
+        let E = same-on (added-same (with_access m s p x) s q y) (added-same m s p x) in
         split _ (λ z. z)
         (λ z. absurd (N i j h k
         (record {
@@ -63,7 +63,7 @@ module _ (Property : Monitor → Type 0) (R : PairProperty Property) (bs : List 
           first = d;
           second = e;
           first_alone = (says-granted _ (Get s p x) m d).1 g;
-          second-alone = (says-granted _ (Get s q y) m e).1 f;
+          second_alone = (says-granted _ (Get s q y) m e).1 f;
           together = λ T. apart (pairs-by R.test both both E (λ t o c w. w) ((R.means both).0 T) s u v a b l r) z;
         })))
 
@@ -81,10 +81,10 @@ module _ (Property : Monitor → Type 0) (R : PairProperty Property) (bs : List 
               (beside Property R bs m S s p x g s p p x x new new)
           | no n ↦ ⊎_elim
               (λ (h : A.at ≤ C.at). two-places A.at C.at (omega arith) C.within s p q x y A.says g C.says f p q x y
-              (held-still (withAccess m s p x) S₁.formed s q y s p x (holds-now m S s p x r.0 r.1))
-              (holds-now (withAccess m s p x) S₁ s q y k.0 k.1))
+              (held-still (with_access m s p x) S₁.formed s q y s p x (holds-now m S s p x r.0 r.1))
+              (holds-now (with_access m s p x) S₁ s q y k.0 k.1))
               (λ (h : C.at < A.at). two-places C.at A.at h A.within s q p y x C.says f A.says g p q x y
-              (holds-now (withAccess m s q y) S₂ s p x r.0 r.1)
-              (held-still (withAccess m s q y) S₂.formed s p x s q y (holds-now m S s q y k.0 k.1)))
+              (holds-now (with_access m s q y) S₂ s p x r.0 r.1)
+              (held-still (with_access m s q y) S₂.formed s p x s q y (holds-now m S s q y k.0 k.1)))
               (le-or-lt A.at C.at)
         ]

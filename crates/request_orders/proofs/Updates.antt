@@ -14,10 +14,10 @@ use Rattle.model.specs.declared.Mode.{Mode}
 use Rattle.model.specs.declared.Request.TheVariants.{Get, Release, Give}
 use Rattle.model.specs.Tests.{all_below}
 use Rattle.model.specs.Modes.{has, add, remove}
-use Rattle.model.specs.State.{noObject, object, withRows, WellFormed}
+use Rattle.model.specs.State.{no_object, object, with_rows, WellFormed}
 use Rattle.model.specs.Rules.{changed, afterwards}
 use Rattle.model.proofs.Tests.{below_out}
-use Rattle.model.proofs.Modes.{allModes, modes-out}
+use Rattle.model.proofs.Modes.{all_modes, modes-out}
 
 -- ---- two updates of one list
 
@@ -36,8 +36,8 @@ update_comm f g d (x ∷ xs) (suc i) (suc j) h = ap (λ ys. x ∷ ys) (update_co
 
 -- ---- sets of modes, by a test over the sixteen sets
 
-test : (f : Mode → Mode → ℕ → Bool) → allModes (λ x. allModes (λ y. all_below 16 (f x y))) ≡ true → (x y : Mode) (n : ℕ) → n < 16 → f x y n ≡ true
-test f e x y n h = below_out 16 (f x y) (modes-out (λ y. all_below 16 (f x y)) (modes-out (λ x. allModes (λ y. all_below 16 (f x y))) e x) y) n h
+test : (f : Mode → Mode → ℕ → Bool) → all_modes (λ x. all_modes (λ y. all_below 16 (f x y))) ≡ true → (x y : Mode) (n : ℕ) → n < 16 → f x y n ≡ true
+test f e x y n h = below_out 16 (f x y) (modes-out (λ y. all_below 16 (f x y)) (modes-out (λ x. all_modes (λ y. all_below 16 (f x y))) e x) y) n h
 
 add_comm : (x y : Mode) (n : ℕ) → n < 16 → add x (add y n) ≡ add y (add x n)
 unfolding has add
@@ -56,13 +56,13 @@ row-comm f g row s t fits c = update_comm f g 0 row s t (λ e. c _ (fits s))
 
 -- the record of object o becomes what f makes of it; each of these kinds does that
 abbrev remade : (Object → Object) → ℕ → Monitor → Monitor
-remade f o m = record { profile = m.profile; subjects = m.subjects; objects = update f noObject m.objects o }
+remade f o m = record { profile = m.profile; subjects = m.subjects; objects = update f no_object m.objects o }
 
 -- two of them are the same in both orders, where they are at the record that both meet
 objects-comm : (f g : Object → Object) (o p : ℕ) (m : Monitor) → (o ≡ p → f (g (object m o)) ≡ g (f (object m o)))
     → remade f o (remade g p m) ≡ remade g p (remade f o m)
 objects-comm f g o p m h =
-    let same = update_comm f g noObject m.objects o p h in
+    let same = update_comm f g no_object m.objects o p h in
     λ i. record { profile = m.profile; subjects = m.subjects; objects = same i }
 
 -- a give changes rights and a release accesses
@@ -77,21 +77,21 @@ module _ (m : Monitor) (W : WellFormed m) where
   unfolding changed
   gets-comm s o x t p y =
       let ob = object m o in
-      let row = row-comm (add x) (add y) ob.held s t (W.objects-formed o).shape.held-fit (add_comm x y) in
-      objects-comm (changed (Get s o x)) (changed (Get t p y)) o p m (λ e i. withRows ob ob.rights (row i))
+      let row = row-comm (add x) (add y) ob.held s t (W.objects_formed o).shape.held_fit (add_comm x y) in
+      objects-comm (changed (Get s o x)) (changed (Get t p y)) o p m (λ e i. with_rows ob ob.rights (row i))
 
   pub releases-comm : (s o : ℕ) (x : Mode) (t p : ℕ) (y : Mode)
       → afterwards (Release s o x) (afterwards (Release t p y) m) ≡ afterwards (Release t p y) (afterwards (Release s o x) m)
   unfolding changed
   releases-comm s o x t p y =
       let ob = object m o in
-      let row = row-comm (remove x) (remove y) ob.held s t (W.objects-formed o).shape.held-fit (remove-comm x y) in
-      objects-comm (changed (Release s o x)) (changed (Release t p y)) o p m (λ e i. withRows ob ob.rights (row i))
+      let row = row-comm (remove x) (remove y) ob.held s t (W.objects_formed o).shape.held_fit (remove-comm x y) in
+      objects-comm (changed (Release s o x)) (changed (Release t p y)) o p m (λ e i. with_rows ob ob.rights (row i))
 
   pub gives-comm : (a s o : ℕ) (x : Mode) (b t p : ℕ) (y : Mode)
       → afterwards (Give a s o x) (afterwards (Give b t p y) m) ≡ afterwards (Give b t p y) (afterwards (Give a s o x) m)
   unfolding changed
   gives-comm a s o x b t p y =
       let ob = object m o in
-      let row = row-comm (add x) (add y) ob.rights s t (W.objects-formed o).shape.rights-fit (add_comm x y) in
-      objects-comm (changed (Give a s o x)) (changed (Give b t p y)) o p m (λ e i. withRows ob (row i) ob.held)
+      let row = row-comm (add x) (add y) ob.rights s t (W.objects_formed o).shape.rights-fit (add_comm x y) in
+      objects-comm (changed (Give a s o x)) (changed (Give b t p y)) o p m (λ e i. with_rows ob (row i) ob.held)

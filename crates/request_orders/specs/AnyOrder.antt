@@ -6,11 +6,11 @@ use Rattle.model.specs.Runs.{after, replies}
 use Rattle.orders.specs.Orders.{OrderOf}
 
 -- two byte strings are the same
-abbrev pub sameBytes : List ℕ → List ℕ → Bool
-sameBytes [] [] = true
-sameBytes [] (y ∷ ys) = false
-sameBytes (x ∷ xs) [] = false
-sameBytes (x ∷ xs) (y ∷ ys) = eqb x y && sameBytes xs ys
+abbrev pub same_bytes : List ℕ → List ℕ → Bool
+same_bytes [] [] = true
+same_bytes [] (y ∷ ys) = false
+same_bytes (x ∷ xs) [] = false
+same_bytes (x ∷ xs) (y ∷ ys) = eqb x y && same_bytes xs ys
 
 -- "all orders of the list leave equal states"; the orders are all permutations, which are the lists in which each byte string stands
 -- equally often (`byte-orders`)

@@ -9,7 +9,7 @@ use Rattle.model.specs.declared.Decoded.TheVariants.{Says}
 use Rattle.model.specs.Properties.{Star, Wall}
 use Rattle.model.specs.Requests.{decode}
 use Rattle.model.specs.Runs.{reply}
-use Rattle.invariants.specs.Access.{withAccess}
+use Rattle.invariants.specs.Access.{with_access}
 
 -- "every list of gets": each element is bytes that say a get to a monitor of the profile
 abbrev pub IsGet : Profile → List ℕ → Type 0
@@ -31,8 +31,8 @@ pub record Clash (Property : Monitor → Type 0) (m : Monitor) (b c : List ℕ) 
   pub first : decode m.profile b ≡ Says (Get s p x)
   pub second : decode m.profile c ≡ Says (Get t q y)
   pub first_alone : reply b m < 2
-  pub second-alone : reply c m < 2
-  pub together : Property (withAccess (withAccess m s p x) t q y) → ⊥
+  pub second_alone : reply c m < 2
+  pub together : Property (with_access (with_access m s p x) t q y) → ⊥
 
 -- "no two gets in it": at no two places of the list
 abbrev pub NoClash : (Monitor → Type 0) → List (List ℕ) → Monitor → Type 0

@@ -1,9 +1,12 @@
 // The kinds of request about the rights of another subject, on a unit: give and rescind. The checks are in the scope's order, then stands
 // what the kind stores. Each returns the number of its answer; a refusal leaves every byte.
+
+#![tactic(auto)]
+
 ghost use Rattle.std.specs.Prelude.{◌≡◌, ◌<◌, length};
-ghost use Rattle.model.specs.State.{subjectCount, objectCount};
+ghost use Rattle.model.specs.State.{subject_count, object_count};
 ghost use Rattle.model.specs.Rules.{checks};
-ghost use Rattle.unit.specs.Rows.{rowCount, stateIn};
+ghost use Rattle.unit.specs.Rows.{row_count, state_in};
 ghost use Rattle.kinds.specs.Carried.{Does};
 
 use labels::{check, number, refuses};
@@ -13,8 +16,8 @@ use unit::{flag, held_by, is_enrolled, is_live, is_owner, rights_of, set_held, s
 
 // 3: the other subject gains the right.
 pub fn give(unit: &mut [[u8; 16]], s: u8, t: u8, o: u8, x: Mode) -> u8
-    requires* do_value { do ⌜ (← ⟦unit.len()⟧) ≡ rowCount ⌝ }
-    requires s_lt_subject_count { (s < subjectCount) × (t < subjectCount) × (o < objectCount) }
+    requires unit_len { length unit.old ≡ row_count }
+    requires s_lt_subject_count { (s < subject_count) × (t < subject_count) × (o < object_count) }
     ensures { Does (Request.Give s t o x) unit.old unit.new result }
 {
     let d = may_give(unit, s, t, o, x);
@@ -29,8 +32,8 @@ pub fn give(unit: &mut [[u8; 16]], s: u8, t: u8, o: u8, x: Mode) -> u8
 
 // 4: the other subject loses the right and the access.
 pub fn rescind(unit: &mut [[u8; 16]], s: u8, t: u8, o: u8, x: Mode) -> u8
-    requires* do_value { do ⌜ (← ⟦unit.len()⟧) ≡ rowCount ⌝ }
-    requires s_lt_subject_count { (s < subjectCount) × (t < subjectCount) × (o < objectCount) }
+    requires unit_len { length unit.old ≡ row_count }
+    requires s_lt_subject_count { (s < subject_count) × (t < subject_count) × (o < object_count) }
     ensures { Does (Request.Rescind s t o x) unit.old unit.new result }
 {
     let d = may_give(unit, s, t, o, x);
@@ -48,9 +51,9 @@ pub fn rescind(unit: &mut [[u8; 16]], s: u8, t: u8, o: u8, x: Mode) -> u8
 
 // The checks of give and rescind: 3 of both subjects, 4, and 6: the actor is owner and has that right itself.
 fn may_give(unit: &[[u8; 16]], s: u8, t: u8, o: u8, x: Mode) -> Decision
-    requires unit_len { length unit.now ≡ rowCount }
-    requires s_lt_subject_count { (s < subjectCount) × (t < subjectCount) × (o < objectCount) }
-    ensures { result ≡ checks (Request.Give s t o x) (stateIn unit.now) }
+    requires unit_len { length unit.now ≡ row_count }
+    requires s_lt_subject_count { (s < subject_count) × (t < subject_count) × (o < object_count) }
+    ensures { result ≡ checks (Request.Give s t o x) (state_in unit.now) }
 {
     let right = is_owner(unit, s, o) & has(x, rights_of(unit, o, s));
     let allowed = check(right, Decision::NoRight, Decision::Granted);

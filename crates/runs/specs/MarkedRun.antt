@@ -14,16 +14,16 @@ abbrev pub level : ℕ → ℕ → Level
 level class needs = record { class = class; needs = needs }
 
 -- "subject 0 has (1, 0001), subject 1 (3, 0003), subject 2 (0, 0000)"
-unfoldable pub subjectsW : List Subject
-subjectsW =
+unfoldable pub subjects_w : List Subject
+subjects_w =
     record { clearance = Present (level 1 0x0001) }
     ∷ record { clearance = Present (level 3 0x0003) }
     ∷ record { clearance = Present (level 0 0x0000) }
     ∷ replicate 13 nobody
 
 -- "it is 88 00 0C C0 00 E0 and 36 zero bytes"
-unfoldable pub tableW : List ℕ
-tableW = 0x88 ∷ 0x00 ∷ 0x0C ∷ 0xC0 ∷ 0x00 ∷ 0xE0 ∷ replicate 36 0
+unfoldable pub table_w : List ℕ
+table_w = 0x88 ∷ 0x00 ∷ 0x0C ∷ 0xC0 ∷ 0x00 ∷ 0xE0 ∷ replicate 36 0
 
 pub record Row : Type 0 where
   pub request : Request

@@ -1,4 +1,7 @@
 // The parts of a line that the programs over the scope's edges print, and the table that they begin with.
+
+#![tactic(auto)]
+
 ghost use Rattle.std.specs.Prelude.{◌≡◌};
 ghost use Rattle.saying.specs.Enrolment.{enrolled};
 

@@ -9,9 +9,9 @@ use lib.Dec.{leb, ltb}
 use borrow.Author.Tests.{leb-true, le-leb, ltb-true, lt-ltb}
 use Rattle.model.specs.declared.Object.{Object}
 use Rattle.model.specs.Tests.{all_below, implies}
-use Rattle.model.specs.Rules.{starFor, starAll}
+use Rattle.model.specs.Rules.{star_for, star_all}
 use Rattle.model.proofs.Tests.{split, apart, bool-ext, and_left, and_right, and_both, implies-in, implies-out, below_in, below_out}
-use Rattle.star.specs.Between.{between, starBetween}
+use Rattle.star.specs.Between.{between, star_between}
 
 abbrev within : ℕ → ℕ → (ℕ → Bool) → ℕ → Bool
 within low high f s = implies (leb low s && ltb s high) (f s)
@@ -48,9 +48,9 @@ all-subjects f =
 
 -- ---- the star property
 
-pub between-one : (s : ℕ) (l : List Object) → s < 16 → starBetween s (s + 1) l ≡ starFor s l
-between-one s l w = one-subject s (λ (k : ℕ). starFor k l) w
+pub between-one : (s : ℕ) (l : List Object) → s < 16 → star_between s (s + 1) l ≡ star_for s l
+between-one s l w = one-subject s (λ (k : ℕ). star_for k l) w
 
-pub between-all : (l : List Object) → starBetween 0 16 l ≡ starAll l
-unfolding starAll
-between-all l = all-subjects (λ (s : ℕ). starFor s l)
+pub between-all : (l : List Object) → star_between 0 16 l ≡ star_all l
+unfolding star_all
+between-all l = all-subjects (λ (s : ℕ). star_for s l)

@@ -16,16 +16,16 @@ use Rattle.model.specs.declared.Object.{Object}
 use Rattle.model.specs.Tests.{all_below}
 use Rattle.model.specs.Levels.{Dominates, dominates}
 use Rattle.model.specs.declared.Mode.{Mode}
-use Rattle.model.specs.Modes.{has, observes, alters, anyObserves, anyAlters, anyNeedsLabel}
-use Rattle.model.specs.State.{heldBy}
-use Rattle.model.specs.Rules.{starFor, starFrom, starPair}
+use Rattle.model.specs.Modes.{has, observes, alters, any_observes, any_alters, any_needs_label}
+use Rattle.model.specs.State.{held_by}
+use Rattle.model.specs.Rules.{star_for, star_from, star_pair}
 use Rattle.model.proofs.Tests.{split, apart, or_left, or_right, not_on, cond-all, below_out, below_in}
 use Rattle.model.proofs.Modes.{any-observes, any-alters, observes-some, alters-some}
 use Rattle.model.proofs.Levels.{dominates-decides}
 use Rattle.model.proofs.ModePairs.{entry-star}
-use Rattle.star.specs.Idle.{free, nothingHeld, idle}
+use Rattle.star.specs.Idle.{free, nothing_held, idle}
 use Rattle.star.proofs.Pairs.{pairs-listed}
-use Rattle.star.specs.Lists.{read_by, alteredBy, busyFor, Listed, itself, out_of, Numbers, Covers, label_at, pairsKept, TabledFor}
+use Rattle.star.specs.Lists.{read_by, altered_by, busy_for, Listed, itself, out_of, Numbers, Covers, label_at, pairs_kept, TabledFor}
 
 pub listed-none : (f : ℕ → Bool) (from : ℕ → ℕ) (a : List ℕ) → length a ≡ 64 → Listed f from a 0 0
 listed-none f from a e =
@@ -102,7 +102,7 @@ bit-small false = omega arith
 
 -- an idle row has nothing of a subject that is asked about
 idle-free : (row : List ℕ) (low end s : ℕ) → low ≤ s → s < end → end ≤ 16 → idle row low end ≡ true → free row s ≡ true
-unfolding idle nothingHeld
+unfolding idle nothing_held
 idle-free row low end s g h w =
     cond-all (λ (b : Bool). b ≡ true → free row s ≡ true) (eqb (min low 15 + 1) end) (free row (min low 15)) (all_below 16 (free row))
     (λ e t. let one : min low 15 + 1 ≡ end = eqb-true _ _ e in let z : s ≡ min low 15 = omega arith in ap (free row) z ∙ t)
@@ -110,49 +110,49 @@ idle-free row low end s g h w =
 
 -- what a subject reads or alters is not passed over
 module _ (low end s : ℕ) (g : low ≤ s) (h : s < end) (w : end ≤ 16) (at : ℕ → Object) where
-  held-busy : (k : ℕ) → anyNeedsLabel (heldBy (at k) s) ≡ true → busyFor low end at k ≡ true
+  held-busy : (k : ℕ) → any_needs_label (held_by (at k) s) ≡ true → busy_for low end at k ≡ true
   held-busy k t =
       split (idle (at k).held low end)
       (λ e. apart t (not_on _ (idle-free (at k).held low end s g h w e)))
       (λ e. ap not e)
 
-  pub busy-covers : (a : List ℕ) (n : ℕ) → Listed (busyFor low end at) itself a n 64 → Covers s at a n
+  pub busy-covers : (a : List ℕ) (n : ℕ) → Listed (busy_for low end at) itself a n 64 → Covers s at a n
   busy-covers a n L =
       record {
         numbers = listed-numbers _ _ a n 64 L (omega arith);
-        reads = λ k b t. L.complete k b (held-busy k (or_left (read_by s at k) (alteredBy s at k) t));
-        alters = λ k b t. L.complete k b (held-busy k (or_right (read_by s at k) (alteredBy s at k) t));
+        reads = λ k b t. L.complete k b (held-busy k (or_left (read_by s at k) (altered_by s at k) t));
+        alters = λ k b t. L.complete k b (held-busy k (or_right (read_by s at k) (altered_by s at k) t));
       }
 
 -- a pair that is not in order
 pub pair-apart : (at : ℕ → Object) (read : List ℕ) (r : ℕ) (altered : List ℕ) (a i : ℕ) → i < r → (j : ℕ) → j < a → dominates (label_at at altered j) (label_at at read i) ≡ false
-    → pairsKept at read r altered a ≡ false
-unfolding pairsKept
+    → pairs_kept at read r altered a ≡ false
+unfolding pairs_kept
 pair-apart at read r altered a i hi j hj e =
-    split (pairsKept at read r altered a) (λ t. apart (below_out a _ (below_out r _ t i hi) j hj) e) (λ f. f)
+    split (pairs_kept at read r altered a) (λ t. apart (below_out a _ (below_out r _ t i hi) j hj) e) (λ f. f)
 
 -- going over the two lists is going over all objects; `at` has what the list of the objects has
 pub star-pairs : (s : ℕ) (l : List Object) → length l ≡ 64 → (d : Object) (at : ℕ → Object) → ((k : ℕ) → k < 64 → get_or l k d ≡ at k)
-    → (read altered : List ℕ) (r a : ℕ) → Listed (read_by s at) itself read r 64 → Listed (alteredBy s at) itself altered a 64
-    → starFor s l ≡ pairsKept at read r altered a
-unfolding starFor starFrom starPair pairsKept
+    → (read altered : List ℕ) (r a : ℕ) → Listed (read_by s at) itself read r 64 → Listed (altered_by s at) itself altered a 64
+    → star_for s l ≡ pairs_kept at read r altered a
+unfolding star_for star_from star_pair pairs_kept
 star-pairs s l n d at same read altered r a R A =
-    pairs-listed (λ (p : Object). anyObserves (heldBy p s)) (λ (q : Object). anyAlters (heldBy q s)) (λ (p q : Object). dominates q.label p.label) l n d at same
+    pairs-listed (λ (p : Object). any_observes (held_by p s)) (λ (q : Object). any_alters (held_by q s)) (λ (p q : Object). dominates q.label p.label) l n d at same
     read altered r a R A
 
 -- going over the two lists is going over the table for every pair of accesses of the subject
-module _ (s : ℕ) (at : ℕ → Object) (read altered : List ℕ) (r a : ℕ) (R : Listed (read_by s at) itself read r 64) (A : Listed (alteredBy s at) itself altered a 64) where
-  pair-kept : pairsKept at read r altered a ≡ true → (p q : ℕ) → p < 64 → q < 64 → (x y : Mode) → has x (heldBy (at p) s) ≡ true → observes x ≡ true
-      → has y (heldBy (at q) s) ≡ true → alters y ≡ true → Dominates (at q).label (at p).label
-  unfolding pairsKept
+module _ (s : ℕ) (at : ℕ → Object) (read altered : List ℕ) (r a : ℕ) (R : Listed (read_by s at) itself read r 64) (A : Listed (altered_by s at) itself altered a 64) where
+  pair-kept : pairs_kept at read r altered a ≡ true → (p q : ℕ) → p < 64 → q < 64 → (x y : Mode) → has x (held_by (at p) s) ≡ true → observes x ≡ true
+      → has y (held_by (at q) s) ≡ true → alters y ≡ true → Dominates (at q).label (at p).label
+  unfolding pairs_kept
   pair-kept t p q hp hq x y h o k w =
       let i = R.complete p hp (any-observes x _ h o) in
       let j = A.complete q hq (any-alters y _ k w) in
       (dominates-decides _ _).0
       (sym (ap₂ (λ (u v : ℕ). dominates (at v).label (at u).label) i.1.1 j.1.1) ∙ below_out a _ (below_out r _ t i.0 i.1.0) j.0 j.1.0)
 
-  pub lists-table : (pairsKept at read r altered a ≡ true) ↔ TabledFor s at
-  unfolding pairsKept
+  pub lists-table : (pairs_kept at read r altered a ≡ true) ↔ TabledFor s at
+  unfolding pairs_kept
   lists-table = (
     λ t p q hp hq x y h k. (entry-star x y _ _).1 (λ o w. pair-kept t p q hp hq x y h o k w, λ o w. pair-kept t q p hq hp y x k o h w),
     λ T. below_in r _ (λ i hi. below_in a _ (λ j hj.

@@ -6,30 +6,30 @@ use Rattle.model.specs.declared.Object.{Object}
 use Rattle.model.specs.declared.Mode.{Mode}
 use Rattle.model.specs.Tests.{all_below}
 use Rattle.model.specs.Levels.{dominates}
-use Rattle.model.specs.Modes.{has, anyObserves, anyAlters}
-use Rattle.model.specs.State.{objectCount, heldBy}
+use Rattle.model.specs.Modes.{has, any_observes, any_alters}
+use Rattle.model.specs.State.{object_count, held_by}
 use Rattle.model.specs.ModePairs.{entry, Kept}
 use Rattle.star.specs.Idle.{idle}
 
 -- ---- which objects; `at` has the record of each number
 
 abbrev pub read_by : ℕ → (ℕ → Object) → ℕ → Bool
-read_by s at k = anyObserves (heldBy (at k) s)
+read_by s at k = any_observes (held_by (at k) s)
 
-abbrev pub alteredBy : ℕ → (ℕ → Object) → ℕ → Bool
-alteredBy s at k = anyAlters (heldBy (at k) s)
+abbrev pub altered_by : ℕ → (ℕ → Object) → ℕ → Bool
+altered_by s at k = any_alters (held_by (at k) s)
 
 -- those that a star check of the subjects from low to below end does not pass over
-abbrev pub busyFor : ℕ → ℕ → (ℕ → Object) → ℕ → Bool
-busyFor low end at k = not (idle (at k).held low end)
+abbrev pub busy_for : ℕ → ℕ → (ℕ → Object) → ℕ → Bool
+busy_for low end at k = not (idle (at k).held low end)
 
 -- ---- lists
 
 -- q numbers were looked at, `from 0` the first; the first n numbers of a are those that pass f
 pub record Listed (f : ℕ → Bool) (from : ℕ → ℕ) (a : List ℕ) (n q : ℕ) : Type 0 where
-  pub whole : length a ≡ objectCount
+  pub whole : length a ≡ object_count
   pub few : n ≤ q
-  pub sound : (j : ℕ) → j < n → (get_or a j 0 < objectCount) × (f (get_or a j 0) ≡ true)
+  pub sound : (j : ℕ) → j < n → (get_or a j 0 < object_count) × (f (get_or a j 0) ≡ true)
   pub complete : (k : ℕ) → k < q → f (from k) ≡ true → (j : ℕ) × ((j < n) × (get_or a j 0 ≡ from k))
 
 -- of all objects, by their own numbers, or out of another list
@@ -41,14 +41,14 @@ out_of a k = get_or a k 0
 
 -- the first n numbers of a list are those of objects
 pub record Numbers (a : List ℕ) (n : ℕ) : Type 0 where
-  pub few : n ≤ objectCount
-  pub below : (j : ℕ) → j < n → get_or a j 0 < objectCount
+  pub few : n ≤ object_count
+  pub below : (j : ℕ) → j < n → get_or a j 0 < object_count
 
 -- and none is left out that a subject reads or alters
 pub record Covers (s : ℕ) (at : ℕ → Object) (a : List ℕ) (n : ℕ) : Type 0 where
   pub numbers : Numbers a n
-  pub reads : (k : ℕ) → k < objectCount → read_by s at k ≡ true → (j : ℕ) × ((j < n) × (get_or a j 0 ≡ k))
-  pub alters : (k : ℕ) → k < objectCount → alteredBy s at k ≡ true → (j : ℕ) × ((j < n) × (get_or a j 0 ≡ k))
+  pub reads : (k : ℕ) → k < object_count → read_by s at k ≡ true → (j : ℕ) × ((j < n) × (get_or a j 0 ≡ k))
+  pub alters : (k : ℕ) → k < object_count → altered_by s at k ≡ true → (j : ℕ) × ((j < n) × (get_or a j 0 ≡ k))
 
 -- ---- pairs
 
@@ -57,13 +57,13 @@ abbrev pub label_at : (ℕ → Object) → List ℕ → ℕ → Label
 label_at at a j = (at (get_or a j 0)).label
 
 -- the label of each of n objects dominates that of each of r others
-unfoldable pub pairsKept : (ℕ → Object) → List ℕ → ℕ → List ℕ → ℕ → Bool
-pairsKept at read r altered n = all_below r (λ i. all_below n (λ j. dominates (label_at at altered j) (label_at at read i)))
+unfoldable pub pairs_kept : (ℕ → Object) → List ℕ → ℕ → List ℕ → ℕ → Bool
+pairs_kept at read r altered n = all_below r (λ i. all_below n (λ j. dominates (label_at at altered j) (label_at at read i)))
 
 -- ---- the table over all of them
 
 -- of every two accesses that subject s holds, the entry is kept by the labels; `at` has the record of each number
 abbrev pub TabledFor : ℕ → (ℕ → Object) → Type 0
 TabledFor s at =
-    (p q : ℕ) → p < objectCount → q < objectCount → (x y : Mode) → has x (heldBy (at p) s) ≡ true → has y (heldBy (at q) s) ≡ true
+    (p q : ℕ) → p < object_count → q < object_count → (x y : Mode) → has x (held_by (at p) s) ≡ true → has y (held_by (at q) s) ≡ true
     → Kept (entry x y) (at p).label (at q).label

@@ -1,14 +1,17 @@
 // The star property over all objects, and the simple property over all subjects.
+
+#![tactic(auto)]
+
 mod lists;
 
 ghost use Rattle.std.specs.Prelude.{◌≡◌, not, ◌<◌, ◌≤◌, length};
 ghost use Rattle.bits.specs.Bits.{bit};
-ghost use Rattle.model.specs.Rules.{simpleAll};
-ghost use Rattle.star.specs.Between.{starBetween};
-ghost use Rattle.star.specs.Idle.{nothingHeld, idle};
-ghost use Rattle.model.specs.State.{subjectCount, objectCount, object, objectAt};
-ghost use Rattle.model.specs.Rules.{starFor};
-ghost use Rattle.unit.specs.Rows.{rowCount, subjectsIn, objectsIn, stateIn};
+ghost use Rattle.model.specs.Rules.{simple_all};
+ghost use Rattle.star.specs.Between.{star_between};
+ghost use Rattle.star.specs.Idle.{nothing_held, idle};
+ghost use Rattle.model.specs.State.{subject_count, object_count, object, object_at};
+ghost use Rattle.model.specs.Rules.{star_for};
+ghost use Rattle.unit.specs.Rows.{row_count, subjects_in, objects_in, state_in};
 ghost use Rattle.star.specs.Lists.{Covers};
 
 use crate::lists::{list_busy, list_held, pair_offends};
@@ -28,7 +31,7 @@ pub fn one_if(b: bool) -> usize
 
 // Nobody holds r, w or a in the row. Every set is looked at, without a branch: sixteen at once are quicker than up to the first.
 fn nothing_held(row: [u8; 16]) -> bool
-    ensures { result ≡ nothingHeld row }
+    ensures { result ≡ nothing_held row }
 {
     let mut free = true;
     let mut s = 0usize;
@@ -41,9 +44,9 @@ fn nothing_held(row: [u8; 16]) -> bool
 
 // Nobody from low to below end holds r, w or a at object o: of one subject its set is looked at, else all.
 fn idle(unit: &[[u8; 16]], o: u8, low: usize, end: usize) -> bool
-    requires unit_len { length unit.now ≡ rowCount }
-    requires o_lt_object_count { o < objectCount }
-    ensures { result ≡ idle (object (stateIn unit.now) o).held low end }
+    requires unit_len { length unit.now ≡ row_count }
+    requires o_lt_object_count { o < object_count }
+    ensures { result ≡ idle (object (state_in unit.now) o).held low end }
 {
     let first = smaller(low, 15);
     if first + 1 == end {
@@ -55,10 +58,10 @@ fn idle(unit: &[[u8; 16]], o: u8, low: usize, end: usize) -> bool
 
 // Whether subject s breaks the star property: the objects that it reads and those that it alters are listed, and their pairs looked at.
 fn subject_breaks_star(unit: &[[u8; 16]], s: u8, busy: &[u8], count: usize) -> bool
-    requires unit_len { length unit.now ≡ rowCount }
-    requires busy_len { length busy.now ≡ objectCount }
-    requires s_lt_subject_count { (s < subjectCount) × Covers s (objectAt (objectsIn unit.now)) busy.now count }
-    ensures { result ≡ not (starFor s (objectsIn unit.now)) }
+    requires unit_len { length unit.now ≡ row_count }
+    requires busy_len { length busy.now ≡ object_count }
+    requires s_lt_subject_count { (s < subject_count) × Covers s (object_at (objects_in unit.now)) busy.now count }
+    ensures { result ≡ not (star_for s (objects_in unit.now)) }
 {
     let mut read = [0u8; Monitor::OBJECTS];
     let mut altered = [0u8; Monitor::OBJECTS];
@@ -68,9 +71,9 @@ fn subject_breaks_star(unit: &[[u8; 16]], s: u8, busy: &[u8], count: usize) -> b
 
 // Whether a subject from low to below high breaks the star property. The objects that are not idle are listed once for all of them.
 pub fn breaks_star(unit: &[[u8; 16]], low: usize, high: usize) -> bool
-    requires unit_len { length unit.now ≡ rowCount }
-    requires high_le_subject_count { high ≤ subjectCount }
-    ensures { result ≡ not (starBetween low high (objectsIn unit.now)) }
+    requires unit_len { length unit.now ≡ row_count }
+    requires high_le_subject_count { high ≤ subject_count }
+    ensures { result ≡ not (star_between low high (objects_in unit.now)) }
 {
     let mut busy = [0u8; Monitor::OBJECTS];
     let count = list_busy(unit, low, high, &mut busy);
@@ -86,9 +89,9 @@ pub fn breaks_star(unit: &[[u8; 16]], low: usize, high: usize) -> bool
 
 // Whether each subject that reads object o has a clearance that dominates its label.
 pub fn keeps_simple(unit: &[[u8; 16]], o: u8) -> bool
-    requires unit_len { length unit.now ≡ rowCount }
-    requires o_lt_object_count { o < objectCount }
-    ensures { result ≡ simpleAll (subjectsIn unit.now) (object (stateIn unit.now) o) }
+    requires unit_len { length unit.now ≡ row_count }
+    requires o_lt_object_count { o < object_count }
+    ensures { result ≡ simple_all (subjects_in unit.now) (object (state_in unit.now) o) }
 {
     let label = label_of(unit, o);
     let mut i = 0usize;

@@ -1,8 +1,8 @@
 // Lists of objects for the star check of a unit, in arrays that the caller lends, and the pairs of two such lists.
 ghost use Rattle.std.specs.Prelude.{◌≡◌, not, ◌<◌, length};
-ghost use Rattle.model.specs.State.{subjectCount, objectCount, objectAt};
-ghost use Rattle.unit.specs.Rows.{rowCount, objectsIn};
-ghost use Rattle.star.specs.Lists.{read_by, alteredBy, busyFor, Listed, itself, out_of, Numbers, pairsKept};
+ghost use Rattle.model.specs.State.{subject_count, object_count, object_at};
+ghost use Rattle.unit.specs.Rows.{row_count, objects_in};
+ghost use Rattle.star.specs.Lists.{read_by, altered_by, busy_for, Listed, itself, out_of, Numbers, pairs_kept};
 
 use crate::{idle, one_if};
 use labels::dominates;
@@ -12,9 +12,9 @@ use unit::{held_by, label_of};
 
 // The objects that are not idle for the subjects from low to below end. Each number is stored, and counted where it passes.
 pub fn list_busy(unit: &[[u8; 16]], low: usize, end: usize, busy: &mut [u8]) -> usize
-    requires unit_len { length unit.now ≡ rowCount }
-    requires* do_value { do ⌜ (← ⟦busy.len()⟧) ≡ objectCount ⌝ }
-    ensures { Listed (busyFor low end (objectAt (objectsIn unit.now))) itself busy.new result objectCount }
+    requires unit_len { length unit.now ≡ row_count }
+    requires busy_len { length busy.old ≡ object_count }
+    ensures { Listed (busy_for low end (object_at (objects_in unit.now))) itself busy.new result object_count }
 {
     let mut count = 0usize;
     let mut o = 0usize;
@@ -43,13 +43,13 @@ pub fn list_held(
     read: &mut [u8],
     altered: &mut [u8],
 ) -> Counts
-    requires unit_len { length unit.now ≡ rowCount }
-    requires busy_len { length busy.now ≡ objectCount }
-    requires* do_value { do ⌜ (← ⟦read.len()⟧) ≡ objectCount ⌝ }
-    requires* do_value_2 { do ⌜ (← ⟦altered.len()⟧) ≡ objectCount ⌝ }
-    requires s_lt_subject_count { (s < subjectCount) × Numbers busy.now count }
-    ensures reads { Listed (read_by s (objectAt (objectsIn unit.now))) (out_of busy.now) read.new result.read count }
-    ensures alters { Listed (alteredBy s (objectAt (objectsIn unit.now))) (out_of busy.now) altered.new result.altered count }
+    requires unit_len { length unit.now ≡ row_count }
+    requires busy_len { length busy.now ≡ object_count }
+    requires read_len { length read.old ≡ object_count }
+    requires altered_len { length altered.old ≡ object_count }
+    requires s_lt_subject_count { (s < subject_count) × Numbers busy.now count }
+    ensures reads { Listed (read_by s (object_at (objects_in unit.now))) (out_of busy.now) read.new result.read count }
+    ensures alters { Listed (altered_by s (object_at (objects_in unit.now))) (out_of busy.now) altered.new result.altered count }
 {
     let mut r = 0usize;
     let mut a = 0usize;
@@ -71,11 +71,11 @@ pub fn list_held(
 
 // Whether the label of one of a objects does not dominate that of one of r others: left at the first such pair.
 pub fn pair_offends(unit: &[[u8; 16]], read: &[u8], r: usize, altered: &[u8], a: usize) -> bool
-    requires unit_len { length unit.now ≡ rowCount }
-    requires read_len { length read.now ≡ objectCount }
-    requires altered_len { length altered.now ≡ objectCount }
+    requires unit_len { length unit.now ≡ row_count }
+    requires read_len { length read.now ≡ object_count }
+    requires altered_len { length altered.now ≡ object_count }
     requires numbers { Numbers read.now r × Numbers altered.now a }
-    ensures { result ≡ not (pairsKept (objectAt (objectsIn unit.now)) read.now r altered.now a) }
+    ensures { result ≡ not (pairs_kept (object_at (objects_in unit.now)) read.now r altered.now a) }
 {
     let mut offends = false;
     let mut p = 0usize;

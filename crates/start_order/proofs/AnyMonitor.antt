@@ -15,10 +15,10 @@ use Rattle.orders.specs.Orders.{Each}
 use Rattle.request_orders.specs.StartOrder.{IsGet}
 use Rattle.start_order.specs.declared.StartOrder.{StartOrder}
 use Rattle.start_order.specs.declared.StartOrder.TheVariants.{Agree, Clash as Clashing, NoGet, TooMany}
-use Rattle.start_order.specs.Answers.{mostPieces, firstOther, partner, firstWith, firstClash, startOrder}
+use Rattle.start_order.specs.Answers.{most_pieces, first_other, partner, first_with, first_clash, start_order}
 use Rattle.start_order.specs.Meaning.{FirstOther, PlacesFit}
 use Rattle.start_order.proofs.First.{first-means}
-use Rattle.start_order.proofs.Searching.{isPartner, hasPartner}
+use Rattle.start_order.proofs.Searching.{is_partner, has_partner}
 use Rattle.start_order.proofs.Meaning.{other-found, all-gets, other-not-all, others_same}
 
 -- an answer about gets is of gets alone, and not of too many
@@ -28,24 +28,24 @@ GetsOnly p bs (NoGet i) = (length bs ≤ 4096) × FirstOther p bs i
 GetsOnly p bs (Clashing i j) = (length bs ≤ 4096) × Each (IsGet p) bs
 GetsOnly p bs Agree = (length bs ≤ 4096) × Each (IsGet p) bs
 
-first-looks : (m : Monitor) (bs : List (List ℕ)) → GetsOnly m.profile bs (startOrder bs m)
-unfolding startOrder firstClash GetsOnly
+first-looks : (m : Monitor) (bs : List (List ℕ)) → GetsOnly m.profile bs (start_order bs m)
+unfolding start_order first_clash GetsOnly
 first-looks m bs =
-    cond-all (GetsOnly m.profile bs) (ltb mostPieces (length bs)) TooMany _
-    (λ e. ltb-true mostPieces (length bs) e)
+    cond-all (GetsOnly m.profile bs) (ltb most_pieces (length bs)) TooMany _
+    (λ e. ltb-true most_pieces (length bs) e)
     (λ e.
-    let few : length bs ≤ 4096 = ltb-false mostPieces (length bs) e in
-    cond-all (GetsOnly m.profile bs) (ltb (firstOther m.profile bs) (length bs)) (NoGet (firstOther m.profile bs)) _
+    let few : length bs ≤ 4096 = ltb-false most_pieces (length bs) e in
+    cond-all (GetsOnly m.profile bs) (ltb (first_other m.profile bs) (length bs)) (NoGet (first_other m.profile bs)) _
     (λ w. (few, other-found m.profile bs (ltb-true _ _ w)))
     (λ w.
     let G = all-gets m.profile bs (ltb-false _ _ w) in
-    cond-all (GetsOnly m.profile bs) (ltb (firstWith m bs) (length bs)) (Clashing (firstWith m bs) (partner m bs (firstWith m bs))) Agree (λ v. (few, G)) (λ v. (few, G))))
+    cond-all (GetsOnly m.profile bs) (ltb (first_with m bs) (length bs)) (Clashing (first_with m bs) (partner m bs (first_with m bs))) Agree (λ v. (few, G)) (λ v. (few, G))))
 
 module _ (m : Monitor) (bs : List (List ℕ)) where
   -- more than 4,096 pieces, whatever they are
-  pub too-many-exactly : (startOrder bs m ≡ TooMany) ↔ (4096 < length bs)
+  pub too-many-exactly : (start_order bs m ≡ TooMany) ↔ (4096 < length bs)
   unfolding GetsOnly
-  too-many-exactly = (λ e. subst (GetsOnly m.profile bs) e (first-looks m bs), λ h. go (startOrder bs m) (first-looks m bs) h)
+  too-many-exactly = (λ e. subst (GetsOnly m.profile bs) e (first-looks m bs), λ h. go (start_order bs m) (first-looks m bs) h)
     where
       go : (r : StartOrder) → GetsOnly m.profile bs r → 4096 < length bs → r ≡ TooMany
       go TooMany p h = refl
@@ -54,9 +54,9 @@ module _ (m : Monitor) (bs : List (List ℕ)) where
       go Agree p h = absurd (omega (arith, h, p.0))
 
   -- the first piece that is no well-formed get
-  pub no-get-exactly : (i : ℕ) → (startOrder bs m ≡ NoGet i) ↔ ((length bs ≤ 4096) × FirstOther m.profile bs i)
+  pub no-get-exactly : (i : ℕ) → (start_order bs m ≡ NoGet i) ↔ ((length bs ≤ 4096) × FirstOther m.profile bs i)
   unfolding GetsOnly
-  no-get-exactly i = (λ e. subst (GetsOnly m.profile bs) e (first-looks m bs), λ h. go (startOrder bs m) (first-looks m bs) h)
+  no-get-exactly i = (λ e. subst (GetsOnly m.profile bs) e (first-looks m bs), λ h. go (start_order bs m) (first-looks m bs) h)
     where
       go : (r : StartOrder) → GetsOnly m.profile bs r → (length bs ≤ 4096) × FirstOther m.profile bs i → r ≡ NoGet i
       go TooMany p h = absurd (omega (arith, p, h.0))
@@ -65,18 +65,18 @@ module _ (m : Monitor) (bs : List (List ℕ)) where
       go Agree p h = other-not-all m.profile bs i h.1 p.1
 
 -- the places of an answer
-pub places-fit : (m : Monitor) (bs : List (List ℕ)) → PlacesFit (startOrder bs m)
-unfolding startOrder firstClash
+pub places-fit : (m : Monitor) (bs : List (List ℕ)) → PlacesFit (start_order bs m)
+unfolding start_order first_clash
 places-fit m bs =
-    cond-all PlacesFit (ltb mostPieces (length bs)) TooMany _ (λ e. tt)
+    cond-all PlacesFit (ltb most_pieces (length bs)) TooMany _ (λ e. tt)
     (λ e.
-    let few : length bs ≤ 4096 = ltb-false mostPieces (length bs) e in
-    cond-all PlacesFit (ltb (firstOther m.profile bs) (length bs)) (NoGet (firstOther m.profile bs)) _
-    (λ w. let within : firstOther m.profile bs < length bs = ltb-true _ _ w in omega arith)
-    (λ w. cond-all PlacesFit (ltb (firstWith m bs) (length bs)) (Clashing (firstWith m bs) (partner m bs (firstWith m bs))) Agree
+    let few : length bs ≤ 4096 = ltb-false most_pieces (length bs) e in
+    cond-all PlacesFit (ltb (first_other m.profile bs) (length bs)) (NoGet (first_other m.profile bs)) _
+    (λ w. let within : first_other m.profile bs < length bs = ltb-true _ _ w in omega arith)
+    (λ w. cond-all PlacesFit (ltb (first_with m bs) (length bs)) (Clashing (first_with m bs) (partner m bs (first_with m bs))) Agree
     (λ v.
-    let i = firstWith m bs in
+    let i = first_with m bs in
     let j = partner m bs i in
-    let second : j < length bs = ltb-true j (length bs) ((first-means (length bs) (hasPartner m bs)).passes (ltb-true _ _ v)) in
-    (ltb-true i j (and_left (ltb i j) _ ((first-means (length bs) (isPartner m bs i)).passes second)), omega arith))
+    let second : j < length bs = ltb-true j (length bs) ((first-means (length bs) (has_partner m bs)).passes (ltb-true _ _ v)) in
+    (ltb-true i j (and_left (ltb i j) _ ((first-means (length bs) (is_partner m bs i)).passes second)), omega arith))
     (λ v. tt)))

@@ -15,7 +15,7 @@ use Rattle.model.specs.declared.Request.TheVariants.{Get}
 use Rattle.model.specs.declared.Decoded.TheVariants.{Says}
 use Rattle.model.specs.declared.Response.{Response}
 use Rattle.model.specs.State.{object}
-use Rattle.model.specs.Companies.{WallAsks, wallKept}
+use Rattle.model.specs.Companies.{WallAsks, wall_kept}
 use Rattle.model.specs.ModePairs.{entry, Kept, kept}
 use Rattle.model.specs.Decisions.{number, refuses}
 use Rattle.model.specs.Requests.{decode}
@@ -26,14 +26,14 @@ use Rattle.model.proofs.Tests.{split, clash, apart, and_left, and_right, and_bot
 use Rattle.model.proofs.Requests.{decode-range}
 use Rattle.model.proofs.ModePairs.{kept-decides}
 use Rattle.model.proofs.Companies.{wall-kept-decides}
-use Rattle.invariants.specs.Access.{withAccess}
+use Rattle.invariants.specs.Access.{with_access}
 use Rattle.images.proofs.Reached.{sound-reached, respond-says}
 use Rattle.request_orders.specs.StartOrder.{IsGet, StarAndWall, Clash}
 use Rattle.request_orders.proofs.Commuting.{says-granted}
 use Rattle.request_orders.proofs.TwoGets.{together-by-pair}
 use Rattle.start_order.specs.declared.wanted.Wanted.{Wanted}
 use Rattle.start_order.specs.declared.wanted.Wanted.TheVariants.{Access, Nothing}
-use Rattle.start_order.specs.Answers.{wantedBy, wanted, isAccess, alone, breaks, clashes}
+use Rattle.start_order.specs.Answers.{wanted_by, wanted, is_access, alone, breaks, clashes}
 use Rattle.start_order.proofs.Trying.{wanted-says}
 
 -- ---- one get
@@ -41,17 +41,17 @@ use Rattle.start_order.proofs.Trying.{wanted-says}
 -- what a get asks for
 pub wanted-get : (k : Profile) (b : List ℕ) (s o : ℕ) (x : Mode) → decode k b ≡ Says (Get s o x) → wanted k b ≡ Access s o x
 unfolding wanted
-wanted-get k b s o x e = ap wantedBy e
+wanted-get k b s o x e = ap wanted_by e
 
 -- bytes that ask for an access say a get, and no others do
-access-in : (k : Profile) (b : List ℕ) (w : Wanted) → wanted k b ≡ w → isAccess w ≡ true → IsGet k b
-unfolding isAccess
+access-in : (k : Profile) (b : List ℕ) (w : Wanted) → wanted k b ≡ w → is_access w ≡ true → IsGet k b
+unfolding is_access
 access-in k b (Access s o x) e t = (s, o, x, wanted-says k b s o x e)
 access-in k b Nothing e t = clash (sym t)
 
-pub access-get : (k : Profile) (b : List ℕ) → (isAccess (wanted k b) ≡ true) ↔ IsGet k b
-unfolding isAccess
-access-get k b = (access-in k b (wanted k b) refl, λ g. ap isAccess (wanted-get k b g.0 g.1 g.2 g.3))
+pub access-get : (k : Profile) (b : List ℕ) → (is_access (wanted k b) ≡ true) ↔ IsGet k b
+unfolding is_access
+access-get k b = (access-in k b (wanted k b) refl, λ g. ap is_access (wanted-get k b g.0 g.1 g.2 g.3))
 
 -- the test of a get that came alone is its reply, 0 or 1
 alone-reply : (m : Monitor) (b : List ℕ) (s o : ℕ) (x : Mode) → decode m.profile b ≡ Says (Get s o x) → (alone m (wanted m.profile b) ≡ true) ↔ (reply b m < 2)
@@ -63,8 +63,8 @@ alone-reply m b s o x e =
       λ h. let k : number (step (Get s o x) m).decision < 2 = omega (arith, h, said) in asked ∙ ap not (lt-leb 2 _ k),
     )
 
-alone-access : (m : Monitor) (w : Wanted) → alone m w ≡ true → isAccess w ≡ true
-unfolding alone isAccess
+alone-access : (m : Monitor) (w : Wanted) → alone m w ≡ true → is_access w ≡ true
+unfolding alone is_access
 alone-access m (Access s o x) t = refl
 alone-access m Nothing t = clash (sym t)
 
@@ -78,15 +78,15 @@ alone-exactly m b = (
 -- ---- two gets
 
 -- only two accesses break anything
-pub breaks-accesses : (m : Monitor) (v w : Wanted) → breaks m v w ≡ true → (isAccess v ≡ true) × (isAccess w ≡ true)
-unfolding breaks isAccess
+pub breaks-accesses : (m : Monitor) (v w : Wanted) → breaks m v w ≡ true → (is_access v ≡ true) × (is_access w ≡ true)
+unfolding breaks is_access
 breaks-accesses m Nothing w e = clash (sym e)
 breaks-accesses m (Access s p x) Nothing e = clash (sym e)
 breaks-accesses m (Access s p x) (Access t q y) e = (refl, refl)
 
 -- the test of two accesses
 breaks-at : (m : Monitor) (b c : List ℕ) (s p : ℕ) (x : Mode) (t q : ℕ) (y : Mode) → decode m.profile b ≡ Says (Get s p x) → decode m.profile c ≡ Says (Get t q y)
-    → breaks m (wanted m.profile b) (wanted m.profile c) ≡ (eqb s t && not (kept (entry x y) (object m p).label (object m q).label && wallKept x y (object m p).companies (object m q).companies))
+    → breaks m (wanted m.profile b) (wanted m.profile c) ≡ (eqb s t && not (kept (entry x y) (object m p).label (object m q).label && wall_kept x y (object m p).companies (object m q).companies))
 unfolding breaks
 breaks-at m b c s p x t q y d e = ap₂ (breaks m) (wanted-get m.profile b s p x d) (wanted-get m.profile c t q y e)
 
@@ -94,7 +94,7 @@ module _ (m : Monitor) (R : Reached m) (b c : List ℕ) (s p : ℕ) (x : Mode) (
     (e : decode m.profile c ≡ Says (Get t q y)) (g : reply b m < 2) (h : reply c m < 2) where
   -- what is asked of the two objects, as a test and as it is said
   asked : Bool
-  asked = kept (entry x y) (object m p).label (object m q).label && wallKept x y (object m p).companies (object m q).companies
+  asked = kept (entry x y) (object m p).label (object m q).label && wall_kept x y (object m p).companies (object m q).companies
 
   asked-decides : (asked ≡ true) ↔ (Kept (entry x y) (object m p).label (object m q).label × WallAsks x y (object m p).companies (object m q).companies)
   unfolding asked
@@ -106,7 +106,7 @@ module _ (m : Monitor) (R : Reached m) (b c : List ℕ) (s p : ℕ) (x : Mode) (
       )
 
   -- "would together break star or wall": the table of mode pairs and the rules of the wall say it
-  breaks-either : (breaks m (wanted m.profile b) (wanted m.profile c) ≡ true) ↔ (StarAndWall (withAccess (withAccess m s p x) t q y) → ⊥)
+  breaks-either : (breaks m (wanted m.profile b) (wanted m.profile c) ≡ true) ↔ (StarAndWall (with_access (with_access m s p x) t q y) → ⊥)
   unfolding asked
   breaks-either =
       let pair = together-by-pair m (sound-reached m R) s p x t q y (decode-range m.profile b _ d) (decode-range m.profile c _ e) ((says-granted b _ m d).0 g) ((says-granted c _ m e).0 h) in
@@ -140,10 +140,10 @@ clashes-exactly m R b c = (
         first = v.3;
         second = w.3;
         first_alone = first.1;
-        second-alone = second.1;
+        second_alone = second.1;
         together = (breaks-either m R b c _ _ _ _ _ _ v.3 w.3 first.1 second.1).0 (and_right (alone m (wanted m.profile c)) _ later);
       },
   λ K. and_both ((alone-exactly m b).1 ((K.s, K.p, K.x, K.first), K.first_alone))
-      (and_both ((alone-exactly m c).1 ((K.t, K.q, K.y, K.second), K.second-alone))
-      ((breaks-either m R b c _ _ _ _ _ _ K.first K.second K.first_alone K.second-alone).1 K.together)),
+      (and_both ((alone-exactly m c).1 ((K.t, K.q, K.y, K.second), K.second_alone))
+      ((breaks-either m R b c _ _ _ _ _ _ K.first K.second K.first_alone K.second_alone).1 K.together)),
 )

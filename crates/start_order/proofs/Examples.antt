@@ -4,24 +4,24 @@ use Prim.Native.Nat.{ℕ}
 use mathlib.Core.Path.{◌≡◌, refl}
 use mathlib.Core.List.{List, [], ◌∷◌, ◌++◌}
 use lib.ListN.{replicate}
-use Rattle.bits.specs.Bits.{cut, odd, to_bits, fromBits, bytesToBits, field}
+use Rattle.bits.specs.Bits.{cut, odd, to_bits, from_bits, bytes_to_bits, field}
 use Rattle.model.specs.declared.Subject.{Subject}
 use Rattle.model.specs.declared.Monitor.{Monitor}
 use Rattle.model.specs.declared.Label.TheVariants.{Present}
 use Rattle.model.specs.Tests.{implies, unless}
-use Rattle.model.specs.Levels.{compare, levelDominates, dominates, sameLabel}
+use Rattle.model.specs.Levels.{compare, level_dominates, dominates, same_label}
 use Rattle.model.specs.Modes.{has, add, remove}
 use Rattle.model.specs.State.{widest, nobody, fresh}
 use Rattle.model.specs.ModePairs.{kept}
-use Rattle.model.specs.Requests.{fields, modeAllowed, unusedZero, parentWithin, fieldsFormed, within, wellFormed, request, decodeFields, decode}
-use Rattle.model.specs.Companies.{company, compatible, confined, wallKept}
-use Rattle.model.specs.Hierarchy.{parentLive, labelUnder, labelsRise}
-use Rattle.model.specs.Rules.{simpleAll, starPair, starFrom, starFor, starAll, notLowered, changed, already, checks, answer, step, wallPair, wallFrom, wallFor, wallAll}
+use Rattle.model.specs.Requests.{fields, mode_allowed, unused_zero, parent_within, fields_formed, within, well_formed, request, decode_fields, decode}
+use Rattle.model.specs.Companies.{company, compatible, confined, wall_kept}
+use Rattle.model.specs.Hierarchy.{parent_live, label_under, labels_rise}
+use Rattle.model.specs.Rules.{simple_all, star_pair, star_from, star_for, star_all, not_lowered, changed, already, checks, answer, step, wall_pair, wall_from, wall_for, wall_all}
 use Rattle.model.specs.Runs.{respond, after}
 use Rattle.model.specs.Program.{pieces}
 use Rattle.start_order.specs.declared.StartOrder.TheVariants.{Agree, Clash, NoGet}
-use Rattle.start_order.specs.First.{firstBelow}
-use Rattle.start_order.specs.Answers.{wanted, isAccess, alone, breaks, clashes, firstClash, startOrder}
+use Rattle.start_order.specs.First.{first_below}
+use Rattle.start_order.specs.Answers.{wanted, is_access, alone, breaks, clashes, first_clash, start_order}
 
 -- six bytes of which the last three are 0
 abbrev pub bytes : ℕ → ℕ → ℕ → List ℕ
@@ -82,39 +82,39 @@ other-read-1 = bytes 0x11 0x00 0x09
 
 -- which two clash: r on the higher label and a on the lower one, the same get twice among them; w and w; in both orders; the least first place,
 -- and not the least second
-pub clashing : (startOrder (read-1 ∷ read-1 ∷ append-0 ∷ []) labelled ≡ Clash 0 2)
-    × (startOrder (append-0 ∷ read-0 ∷ read-1 ∷ append-0 ∷ []) labelled ≡ Clash 0 2)
-    × (startOrder (read-0 ∷ read-1 ∷ append-0 ∷ append-0 ∷ []) labelled ≡ Clash 1 2)
-    × (startOrder (write-0 ∷ write-1 ∷ []) labelled ≡ Clash 0 1)
-    × (startOrder (other-read-1 ∷ read-1 ∷ append-0 ∷ other-append-0 ∷ []) labelled ≡ Clash 0 3)
-unfolding other-read-1 made labelled read-1 append-0 write-0 write-1 read-0 append-1 execute-1 other-append-0 firstBelow wanted isAccess alone breaks clashes firstClash startOrder kept wallKept bytesToBits to_bits odd fromBits field decode decodeFields fields wellFormed fieldsFormed within modeAllowed unusedZero request respond step after checks already changed starAll starFor starFrom starPair wallAll wallFor wallFrom wallPair compatible confined company implies unless answer simpleAll notLowered has add remove sameLabel dominates levelDominates compare parentWithin parentLive labelUnder labelsRise
+pub clashing : (start_order (read-1 ∷ read-1 ∷ append-0 ∷ []) labelled ≡ Clash 0 2)
+    × (start_order (append-0 ∷ read-0 ∷ read-1 ∷ append-0 ∷ []) labelled ≡ Clash 0 2)
+    × (start_order (read-0 ∷ read-1 ∷ append-0 ∷ append-0 ∷ []) labelled ≡ Clash 1 2)
+    × (start_order (write-0 ∷ write-1 ∷ []) labelled ≡ Clash 0 1)
+    × (start_order (other-read-1 ∷ read-1 ∷ append-0 ∷ other-append-0 ∷ []) labelled ≡ Clash 0 3)
+unfolding other-read-1 made labelled read-1 append-0 write-0 write-1 read-0 append-1 execute-1 other-append-0 first_below wanted is_access alone breaks clashes first_clash start_order kept wall_kept bytes_to_bits to_bits odd from_bits field decode decode_fields fields well_formed fields_formed within mode_allowed unused_zero request respond step after checks already changed star_all star_for star_from star_pair wall_all wall_for wall_from wall_pair compatible confined company implies unless answer simple_all not_lowered has add remove same_label dominates level_dominates compare parent_within parent_live label_under labels_rise
 clashing = (refl, refl, refl, refl, refl)
 
 -- which do not: the same get twice; r on the lower label and a on the higher one; e; two subjects; none
-pub agreeing : (startOrder (read-1 ∷ read-1 ∷ []) labelled ≡ Agree)
-    × (startOrder (read-0 ∷ append-1 ∷ []) labelled ≡ Agree)
-    × (startOrder (execute-1 ∷ append-0 ∷ []) labelled ≡ Agree)
-    × (startOrder (read-1 ∷ other-append-0 ∷ []) labelled ≡ Agree)
-    × (startOrder [] labelled ≡ Agree)
-unfolding other-read-1 made labelled read-1 append-0 write-0 write-1 read-0 append-1 execute-1 other-append-0 firstBelow wanted isAccess alone breaks clashes firstClash startOrder kept wallKept bytesToBits to_bits odd fromBits field decode decodeFields fields wellFormed fieldsFormed within modeAllowed unusedZero request respond step after checks already changed starAll starFor starFrom starPair wallAll wallFor wallFrom wallPair compatible confined company implies unless answer simpleAll notLowered has add remove sameLabel dominates levelDominates compare parentWithin parentLive labelUnder labelsRise
+pub agreeing : (start_order (read-1 ∷ read-1 ∷ []) labelled ≡ Agree)
+    × (start_order (read-0 ∷ append-1 ∷ []) labelled ≡ Agree)
+    × (start_order (execute-1 ∷ append-0 ∷ []) labelled ≡ Agree)
+    × (start_order (read-1 ∷ other-append-0 ∷ []) labelled ≡ Agree)
+    × (start_order [] labelled ≡ Agree)
+unfolding other-read-1 made labelled read-1 append-0 write-0 write-1 read-0 append-1 execute-1 other-append-0 first_below wanted is_access alone breaks clashes first_clash start_order kept wall_kept bytes_to_bits to_bits odd from_bits field decode decode_fields fields well_formed fields_formed within mode_allowed unused_zero request respond step after checks already changed star_all star_for star_from star_pair wall_all wall_for wall_from wall_pair compatible confined company implies unless answer simple_all not_lowered has add remove same_label dominates level_dominates compare parent_within parent_live label_under labels_rise
 agreeing = (refl, refl, refl, refl, refl)
 
 -- where r on o1 is held, a on o0 is refused alone, and clashes with none
-pub held-already : (startOrder (append-0 ∷ read-1 ∷ []) (after (read-1 ∷ []) labelled) ≡ Agree)
-    × (startOrder (read-1 ∷ append-0 ∷ []) (after (read-1 ∷ []) labelled) ≡ Agree)
-unfolding other-read-1 made labelled read-1 append-0 write-0 write-1 read-0 append-1 execute-1 other-append-0 firstBelow wanted isAccess alone breaks clashes firstClash startOrder kept wallKept bytesToBits to_bits odd fromBits field decode decodeFields fields wellFormed fieldsFormed within modeAllowed unusedZero request respond step after checks already changed starAll starFor starFrom starPair wallAll wallFor wallFrom wallPair compatible confined company implies unless answer simpleAll notLowered has add remove sameLabel dominates levelDominates compare parentWithin parentLive labelUnder labelsRise
+pub held-already : (start_order (append-0 ∷ read-1 ∷ []) (after (read-1 ∷ []) labelled) ≡ Agree)
+    × (start_order (read-1 ∷ append-0 ∷ []) (after (read-1 ∷ []) labelled) ≡ Agree)
+unfolding other-read-1 made labelled read-1 append-0 write-0 write-1 read-0 append-1 execute-1 other-append-0 first_below wanted is_access alone breaks clashes first_clash start_order kept wall_kept bytes_to_bits to_bits odd from_bits field decode decode_fields fields well_formed fields_formed within mode_allowed unused_zero request respond step after checks already changed star_all star_for star_from star_pair wall_all wall_for wall_from wall_pair compatible confined company implies unless answer simple_all not_lowered has add remove same_label dominates level_dominates compare parent_within parent_live label_under labels_rise
 held-already = (refl, refl)
 
 -- what is no get: s1 releases r on o1; a short piece; six bytes 0
-pub no-gets : (startOrder (read-1 ∷ append-0 ∷ bytes 0x20 0x80 0x09 ∷ []) labelled ≡ NoGet 2)
-    × (startOrder (read-1 ∷ (0x10 ∷ []) ∷ append-0 ∷ []) labelled ≡ NoGet 1)
-    × (startOrder (bytes 0 0 0 ∷ []) labelled ≡ NoGet 0)
-unfolding other-read-1 made labelled read-1 append-0 write-0 write-1 read-0 append-1 execute-1 other-append-0 firstBelow wanted isAccess alone breaks clashes firstClash startOrder kept wallKept bytesToBits to_bits odd fromBits field decode decodeFields fields wellFormed fieldsFormed within modeAllowed unusedZero request respond step after checks already changed starAll starFor starFrom starPair wallAll wallFor wallFrom wallPair compatible confined company implies unless answer simpleAll notLowered has add remove sameLabel dominates levelDominates compare parentWithin parentLive labelUnder labelsRise
+pub no-gets : (start_order (read-1 ∷ append-0 ∷ bytes 0x20 0x80 0x09 ∷ []) labelled ≡ NoGet 2)
+    × (start_order (read-1 ∷ (0x10 ∷ []) ∷ append-0 ∷ []) labelled ≡ NoGet 1)
+    × (start_order (bytes 0 0 0 ∷ []) labelled ≡ NoGet 0)
+unfolding other-read-1 made labelled read-1 append-0 write-0 write-1 read-0 append-1 execute-1 other-append-0 first_below wanted is_access alone breaks clashes first_clash start_order kept wall_kept bytes_to_bits to_bits odd from_bits field decode decode_fields fields well_formed fields_formed within mode_allowed unused_zero request respond step after checks already changed star_all star_for star_from star_pair wall_all wall_for wall_from wall_pair compatible confined company implies unless answer simple_all not_lowered has add remove same_label dominates level_dominates compare parent_within parent_live label_under labels_rise
 no-gets = (refl, refl, refl)
 
 -- thirteen bytes, cut into pieces: the last one is short, and no get
-pub short-last : startOrder (pieces (read-1 ++ (append-0 ++ (0x10 ∷ [])))) labelled ≡ NoGet 2
-unfolding pieces cut other-read-1 made labelled read-1 append-0 write-0 write-1 read-0 append-1 execute-1 other-append-0 firstBelow wanted isAccess alone breaks clashes firstClash startOrder kept wallKept bytesToBits to_bits odd fromBits field decode decodeFields fields wellFormed fieldsFormed within modeAllowed unusedZero request respond step after checks already changed starAll starFor starFrom starPair wallAll wallFor wallFrom wallPair compatible confined company implies unless answer simpleAll notLowered has add remove sameLabel dominates levelDominates compare parentWithin parentLive labelUnder labelsRise
+pub short-last : start_order (pieces (read-1 ++ (append-0 ++ (0x10 ∷ [])))) labelled ≡ NoGet 2
+unfolding pieces cut other-read-1 made labelled read-1 append-0 write-0 write-1 read-0 append-1 execute-1 other-append-0 first_below wanted is_access alone breaks clashes first_clash start_order kept wall_kept bytes_to_bits to_bits odd from_bits field decode decode_fields fields well_formed fields_formed within mode_allowed unused_zero request respond step after checks already changed star_all star_for star_from star_pair wall_all wall_for wall_from wall_pair compatible confined company implies unless answer simple_all not_lowered has add remove same_label dominates level_dominates compare parent_within parent_live label_under labels_rise
 short-last = refl
 
 -- o0 is of company 1 and o1 of company 2 of the first conflict class (change request §10)
@@ -122,9 +122,9 @@ unfoldable pub marked : Monitor
 marked = after ((0x80 ∷ 0x80 ∷ 0x00 ∷ 0x01 ∷ 0x00 ∷ 0x00 ∷ []) ∷ (0x80 ∷ 0x80 ∷ 0x08 ∷ 0x02 ∷ 0x00 ∷ 0x00 ∷ []) ∷ []) labelled
 
 -- "star or wall": two gets of one subject that break the wall alone, e among them; of two subjects none
-pub clashing-by-wall : (startOrder (read-0 ∷ read-1 ∷ []) marked ≡ Clash 0 1)
-    × (startOrder (read-0 ∷ read-0 ∷ execute-1 ∷ []) marked ≡ Clash 0 2)
-    × (startOrder (read-0 ∷ other-read-1 ∷ []) marked ≡ Agree)
-    × (startOrder (read-0 ∷ read-1 ∷ []) labelled ≡ Agree)
-unfolding marked other-read-1 made labelled read-1 append-0 write-0 write-1 read-0 append-1 execute-1 other-append-0 firstBelow wanted isAccess alone breaks clashes firstClash startOrder kept wallKept bytesToBits to_bits odd fromBits field decode decodeFields fields wellFormed fieldsFormed within modeAllowed unusedZero request respond step after checks already changed starAll starFor starFrom starPair wallAll wallFor wallFrom wallPair compatible confined company implies unless answer simpleAll notLowered has add remove sameLabel dominates levelDominates compare parentWithin parentLive labelUnder labelsRise
+pub clashing-by-wall : (start_order (read-0 ∷ read-1 ∷ []) marked ≡ Clash 0 1)
+    × (start_order (read-0 ∷ read-0 ∷ execute-1 ∷ []) marked ≡ Clash 0 2)
+    × (start_order (read-0 ∷ other-read-1 ∷ []) marked ≡ Agree)
+    × (start_order (read-0 ∷ read-1 ∷ []) labelled ≡ Agree)
+unfolding marked other-read-1 made labelled read-1 append-0 write-0 write-1 read-0 append-1 execute-1 other-append-0 first_below wanted is_access alone breaks clashes first_clash start_order kept wall_kept bytes_to_bits to_bits odd from_bits field decode decode_fields fields well_formed fields_formed within mode_allowed unused_zero request respond step after checks already changed star_all star_for star_from star_pair wall_all wall_for wall_from wall_pair compatible confined company implies unless answer simple_all not_lowered has add remove same_label dominates level_dominates compare parent_within parent_live label_under labels_rise
 clashing-by-wall = (refl, refl, refl, refl)

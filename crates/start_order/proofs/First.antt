@@ -10,7 +10,7 @@ use lib.Dec.{ltb}
 use borrow.Author.Count.{below_more}
 use borrow.Author.Tests.{ltb-true, ltb-false, lt-ltb, le-ltb}
 use Rattle.model.proofs.Tests.{cond-all, cond-true, cond-false}
-use Rattle.start_order.specs.First.{firstBelow}
+use Rattle.start_order.specs.First.{first_below}
 
 -- no number below k passes
 abbrev pub NoneBelow : (ℕ → Bool) → ℕ → Type 0
@@ -19,34 +19,34 @@ NoneBelow f k = (i : ℕ) → i < k → f i ≡ false
 pub none_more : (f : ℕ → Bool) (k : ℕ) → NoneBelow f k → f k ≡ false → NoneBelow f (k + 1)
 none_more f k h e = below_more (λ i. f i ≡ false) k h e
 
-pub first-none : (n : ℕ) (f : ℕ → Bool) → NoneBelow f n → firstBelow n f ≡ n
-unfolding firstBelow
+pub first-none : (n : ℕ) (f : ℕ → Bool) → NoneBelow f n → first_below n f ≡ n
+unfolding first_below
 first-none zero f h = refl
 first-none (suc n) f h =
-    let before : firstBelow n f ≡ n = first-none n f (λ i w. h i (omega arith)) in
-    let all : n ≤ firstBelow n f = omega arith in
-    cond-false (ltb (firstBelow n f) n) _ _ (le-ltb _ _ all) ∙ cond-false (f n) _ _ (h n (omega arith))
+    let before : first_below n f ≡ n = first-none n f (λ i w. h i (omega arith)) in
+    let all : n ≤ first_below n f = omega arith in
+    cond-false (ltb (first_below n f) n) _ _ (le-ltb _ _ all) ∙ cond-false (f n) _ _ (h n (omega arith))
 
-pub first-at : (n k : ℕ) (f : ℕ → Bool) → NoneBelow f k → f k ≡ true → k < n → firstBelow n f ≡ k
-unfolding firstBelow
+pub first-at : (n k : ℕ) (f : ℕ → Bool) → NoneBelow f k → f k ≡ true → k < n → first_below n f ≡ k
+unfolding first_below
 first-at zero k f h e w = absurd (not-suc-le-zero w)
 first-at (suc n) k f h e w =
     ⊎_elim
     (λ (p : k ≡ n).
-    let before : firstBelow n f ≡ n = first-none n f (λ i v. h i (omega arith)) in
-    let all : n ≤ firstBelow n f = omega arith in
-    cond-false (ltb (firstBelow n f) n) _ _ (le-ltb _ _ all) ∙ cond-true (f n) _ _ (ap f (sym p) ∙ e) ∙ sym p)
+    let before : first_below n f ≡ n = first-none n f (λ i v. h i (omega arith)) in
+    let all : n ≤ first_below n f = omega arith in
+    cond-false (ltb (first_below n f) n) _ _ (le-ltb _ _ all) ∙ cond-true (f n) _ _ (ap f (sym p) ∙ e) ∙ sym p)
     (λ (p : k < n).
-    let before : firstBelow n f ≡ k = first-at n k f h e p in
-    let found : firstBelow n f < n = omega arith in
-    cond-true (ltb (firstBelow n f) n) _ _ (lt-ltb _ _ found) ∙ before)
+    let before : first_below n f ≡ k = first-at n k f h e p in
+    let found : first_below n f < n = omega arith in
+    cond-true (ltb (first_below n f) n) _ _ (lt-ltb _ _ found) ∙ before)
     (eq-or-lt_of_le (le_of_suc-le-suc w))
 
 -- the same where a loop counts to a number that is n
-pub found_first : (n count k : ℕ) (f : ℕ → Bool) → count ≡ n → NoneBelow f k → f k ≡ true → k < count → k ≡ firstBelow n f
+pub found_first : (n count k : ℕ) (f : ℕ → Bool) → count ≡ n → NoneBelow f k → f k ≡ true → k < count → k ≡ first_below n f
 found_first n count k f c h e w = sym (first-at n k f h e (subst (λ (i : ℕ). k < i) c w))
 
-pub ended-first : (n count k : ℕ) (f : ℕ → Bool) → count ≡ n → NoneBelow f k → count ≤ k → count ≡ firstBelow n f
+pub ended-first : (n count k : ℕ) (f : ℕ → Bool) → count ≡ n → NoneBelow f k → count ≤ k → count ≡ first_below n f
 ended-first n count k f c h w = c ∙ sym (first-none n f (λ i v. h i (omega arith)))
 
 -- what the first number is
@@ -55,17 +55,17 @@ pub record First (n : ℕ) (f : ℕ → Bool) (k : ℕ) : Type 0 where
   pub none : NoneBelow f k
   pub passes : k < n → f k ≡ true
 
-pub first-means : (n : ℕ) (f : ℕ → Bool) → First n f (firstBelow n f)
-unfolding firstBelow
+pub first-means : (n : ℕ) (f : ℕ → Bool) → First n f (first_below n f)
+unfolding first_below
 first-means zero f = record { bound = omega arith; none = λ i h. absurd (omega arith); passes = λ h. absurd (omega arith) }
 first-means (suc n) f =
-    let before : First n f (firstBelow n f) = first-means n f in
-    cond-all (First (suc n) f) (ltb (firstBelow n f) n) (firstBelow n f) (cond (f n) n (suc n))
+    let before : First n f (first_below n f) = first-means n f in
+    cond-all (First (suc n) f) (ltb (first_below n f) n) (first_below n f) (cond (f n) n (suc n))
     (λ e.
-    let found : firstBelow n f < n = ltb-true _ n e in
+    let found : first_below n f < n = ltb-true _ n e in
     record { bound = omega arith; none = before.none; passes = λ h. before.passes found })
     (λ e.
-    let all : n ≤ firstBelow n f = ltb-false _ n e in
+    let all : n ≤ first_below n f = ltb-false _ n e in
     let none : NoneBelow f n = λ i h. before.none i (omega arith) in
     cond-all (First (suc n) f) (f n) n (suc n)
     (λ t. record { bound = omega arith; none = none; passes = λ h. t })

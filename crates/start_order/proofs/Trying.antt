@@ -16,26 +16,26 @@ use Rattle.model.specs.declared.Request.{Request}
 use Rattle.model.specs.declared.Request.TheVariants.{Get, Release, Give, Rescind, Create, Delete, ChangeLevel, SetCompanies}
 use Rattle.model.specs.declared.Decoded.{Decoded}
 use Rattle.model.specs.declared.Decoded.TheVariants.{Malformed, Says}
-use Rattle.model.specs.State.{object, heldBy}
+use Rattle.model.specs.State.{object, held_by}
 use Rattle.model.specs.Decisions.{number, refuses}
-use Rattle.model.specs.Requests.{mode_of, levelOf, wellFormed, creation, request, decodeFields, decode, InRange}
+use Rattle.model.specs.Requests.{mode_of, level_of, well_formed, creation, request, decode_fields, decode, InRange}
 use Rattle.model.specs.Rules.{step}
-use Rattle.model.specs.Runs.{carryOut, respond, reply}
+use Rattle.model.specs.Runs.{carry_out, respond, reply}
 use Rattle.model.proofs.Tests.{split, clash, and_left, and_right, and-false, cond-all, cond-true, cond-false}
 use Rattle.model.proofs.Requests.{decode-range}
-use Rattle.unit.specs.Rows.{Rows, rowCount, heldRow, row_at, stateIn}
-use Rattle.unit.specs.Stored.{setHeld}
+use Rattle.unit.specs.Rows.{Rows, row_count, held_row, row_at, state_in}
+use Rattle.unit.specs.Stored.{set_held}
 use Rattle.unit.proofs.Readings.{read_held}
 use Rattle.kinds.specs.Carried.{stores, carried}
 use Rattle.kinds.proofs.Effects.{held_back}
-use Rattle.asking.specs.Asked.{askedSaid, asked}
+use Rattle.asking.specs.Asked.{asked_said, asked}
 use Rattle.start_order.specs.declared.wanted.Wanted.{Wanted}
 use Rattle.start_order.specs.declared.wanted.Wanted.TheVariants.{Access, Nothing}
-use Rattle.start_order.specs.Answers.{wantedOf, wantedBy, wanted, isAccess, Fits, alone}
+use Rattle.start_order.specs.Answers.{wanted_of, wanted_by, wanted, is_access, Fits, alone}
 
 -- ---- what is asked for
 
-of-fits : (q : Request) → InRange q → Fits (wantedOf q)
+of-fits : (q : Request) → InRange q → Fits (wanted_of q)
 unfolding Fits
 of-fits (Get s o x) r = r
 of-fits (Release s o x) r = tt
@@ -46,7 +46,7 @@ of-fits (Delete s o) r = tt
 of-fits (ChangeLevel s o l) r = tt
 of-fits (SetCompanies s o n) r = tt
 
-by_fits : (k : Profile) (b : List ℕ) (d : Decoded) → decode k b ≡ d → Fits (wantedBy d)
+by_fits : (k : Profile) (b : List ℕ) (d : Decoded) → decode k b ≡ d → Fits (wanted_by d)
 unfolding Fits
 by_fits k b Malformed e = tt
 by_fits k b (Says q) e = of-fits q (decode-range k b q e)
@@ -57,29 +57,29 @@ unfolding wanted
 wanted-fits k b = by_fits k b (decode k b) refl
 
 -- fields that are well formed and of kind 1 ask for an access, and no others
-pub fields-get : (k : Profile) (f : Fields) → (wellFormed k f && eqb f.kind 1) ≡ true → Access f.actor f.object (mode_of f.mode) ≡ wantedBy (decodeFields k f)
-unfolding decodeFields request
+pub fields-get : (k : Profile) (f : Fields) → (well_formed k f && eqb f.kind 1) ≡ true → Access f.actor f.object (mode_of f.mode) ≡ wanted_by (decode_fields k f)
+unfolding decode_fields request
 fields-get k f e =
-    sym (ap wantedBy (cond-true (wellFormed k f) (Says (request f)) Malformed (and_left (wellFormed k f) _ e))
-    ∙ ap wantedOf (cond-true (eqb f.kind 1) (Get f.actor f.object (mode_of f.mode)) _ (and_right (wellFormed k f) _ e)))
+    sym (ap wanted_by (cond-true (well_formed k f) (Says (request f)) Malformed (and_left (well_formed k f) _ e))
+    ∙ ap wanted_of (cond-true (eqb f.kind 1) (Get f.actor f.object (mode_of f.mode)) _ (and_right (well_formed k f) _ e)))
 
-pub fields-other : (k : Profile) (f : Fields) → (wellFormed k f && eqb f.kind 1) ≡ false → Nothing ≡ wantedBy (decodeFields k f)
-unfolding decodeFields request
+pub fields-other : (k : Profile) (f : Fields) → (well_formed k f && eqb f.kind 1) ≡ false → Nothing ≡ wanted_by (decode_fields k f)
+unfolding decode_fields request
 fields-other k f e =
-    and-false (wellFormed k f) _ e
-    (λ w. sym (ap wantedBy (cond-false (wellFormed k f) (Says (request f)) Malformed w)))
-    (λ w. sym (cond-all (λ (d : Decoded). wantedBy d ≡ Nothing) (wellFormed k f) (Says (request f)) Malformed
-    (λ t. ap wantedOf (cond-false (eqb f.kind 1) _ _ w) ∙ others) (λ t. refl)))
+    and-false (well_formed k f) _ e
+    (λ w. sym (ap wanted_by (cond-false (well_formed k f) (Says (request f)) Malformed w)))
+    (λ w. sym (cond-all (λ (d : Decoded). wanted_by d ≡ Nothing) (well_formed k f) (Says (request f)) Malformed
+    (λ t. ap wanted_of (cond-false (eqb f.kind 1) _ _ w) ∙ others) (λ t. refl)))
   where
-    others : wantedOf (cond (eqb f.kind 2) (Release f.actor f.object (mode_of f.mode))
+    others : wanted_of (cond (eqb f.kind 2) (Release f.actor f.object (mode_of f.mode))
         (cond (eqb f.kind 3) (Give f.actor f.other f.object (mode_of f.mode))
         (cond (eqb f.kind 4) (Rescind f.actor f.other f.object (mode_of f.mode))
         (cond (eqb f.kind 5) (Create f.actor f.object (creation (eqb f.mode 4) f.needs))
         (cond (eqb f.kind 6) (Delete f.actor f.object)
-        (cond (eqb f.kind 7) (ChangeLevel f.actor f.object (levelOf f))
+        (cond (eqb f.kind 7) (ChangeLevel f.actor f.object (level_of f))
         (SetCompanies f.actor f.object f.needs))))))) ≡ Nothing
     others =
-        let none : Request → Type 0 = λ q. wantedOf q ≡ Nothing in
+        let none : Request → Type 0 = λ q. wanted_of q ≡ Nothing in
         cond-all none (eqb f.kind 2) _ _ (λ t. refl)
         (λ t. cond-all none (eqb f.kind 3) _ _ (λ t. refl)
         (λ t. cond-all none (eqb f.kind 4) _ _ (λ t. refl)
@@ -88,24 +88,24 @@ fields-other k f e =
         (λ t. cond-all none (eqb f.kind 7) _ _ (λ t. refl) (λ t. refl))))))
 
 -- bytes that ask for an access say its get
-getFor : Wanted → Request
-getFor (Access s o x) = Get s o x
-getFor Nothing = Delete 0 0
+get_for : Wanted → Request
+get_for (Access s o x) = Get s o x
+get_for Nothing = Delete 0 0
 
-of-says : (q : Request) (s o : ℕ) (x : Mode) → wantedOf q ≡ Access s o x → q ≡ Get s o x
-unfolding getFor isAccess
-of-says (Get t p y) s o x e = ap getFor e
-of-says (Release t p y) s o x e = clash (sym (ap isAccess e))
-of-says (Give t u p y) s o x e = clash (sym (ap isAccess e))
-of-says (Rescind t u p y) s o x e = clash (sym (ap isAccess e))
-of-says (Create t p c) s o x e = clash (sym (ap isAccess e))
-of-says (Delete t p) s o x e = clash (sym (ap isAccess e))
-of-says (ChangeLevel t p l) s o x e = clash (sym (ap isAccess e))
-of-says (SetCompanies t p n) s o x e = clash (sym (ap isAccess e))
+of-says : (q : Request) (s o : ℕ) (x : Mode) → wanted_of q ≡ Access s o x → q ≡ Get s o x
+unfolding get_for is_access
+of-says (Get t p y) s o x e = ap get_for e
+of-says (Release t p y) s o x e = clash (sym (ap is_access e))
+of-says (Give t u p y) s o x e = clash (sym (ap is_access e))
+of-says (Rescind t u p y) s o x e = clash (sym (ap is_access e))
+of-says (Create t p c) s o x e = clash (sym (ap is_access e))
+of-says (Delete t p) s o x e = clash (sym (ap is_access e))
+of-says (ChangeLevel t p l) s o x e = clash (sym (ap is_access e))
+of-says (SetCompanies t p n) s o x e = clash (sym (ap is_access e))
 
-by-says : (d : Decoded) (s o : ℕ) (x : Mode) → wantedBy d ≡ Access s o x → d ≡ Says (Get s o x)
-unfolding isAccess
-by-says Malformed s o x e = clash (sym (ap isAccess e))
+by-says : (d : Decoded) (s o : ℕ) (x : Mode) → wanted_by d ≡ Access s o x → d ≡ Says (Get s o x)
+unfolding is_access
+by-says Malformed s o x e = clash (sym (ap is_access e))
 by-says (Says q) s o x e = ap Says (of-says q s o x e)
 
 pub wanted-says : (k : Profile) (b : List ℕ) (s o : ℕ) (x : Mode) → wanted k b ≡ Access s o x → decode k b ≡ Says (Get s o x)
@@ -117,20 +117,20 @@ wanted-says k b s o x e = by-says (decode k b) s o x e
 granted-below : (k : ℕ) → ltb k 2 ≡ not (leb 2 k)
 granted-below k = split (leb 2 k) (λ e. le-ltb k 2 (leb-true 2 k e) ∙ sym (ap not e)) (λ e. lt-ltb k 2 (leb-false 2 k e) ∙ sym (ap not e))
 
-module _ (u : Rows) (b : List ℕ) (s o : ℕ) (x : Mode) (e : wanted (stateIn u).profile b ≡ Access s o x) where
+module _ (u : Rows) (b : List ℕ) (s o : ℕ) (x : Mode) (e : wanted (state_in u).profile b ≡ Access s o x) where
   -- granted where the reply is below 2
-  pub tried-alone : (r : ℕ) → r ≡ reply b (stateIn u) → bit (ltb r 2) ≡ bit (alone (stateIn u) (wanted (stateIn u).profile b))
+  pub tried-alone : (r : ℕ) → r ≡ reply b (state_in u) → bit (ltb r 2) ≡ bit (alone (state_in u) (wanted (state_in u).profile b))
   unfolding alone respond
   tried-alone r k =
-      let d = (step (Get s o x) (stateIn u)).decision in
-      ap (λ (n : ℕ). bit (ltb n 2)) (k ∙ ap (λ (c : Decoded). number (carryOut c (stateIn u)).decision) (wanted-says (stateIn u).profile b s o x e))
-      ∙ ap bit (granted-below (number d)) ∙ sym (ap (λ (w : Wanted). bit (alone (stateIn u) w)) e)
+      let d = (step (Get s o x) (state_in u)).decision in
+      ap (λ (n : ℕ). bit (ltb n 2)) (k ∙ ap (λ (c : Decoded). number (carry_out c (state_in u)).decision) (wanted-says (state_in u).profile b s o x e))
+      ∙ ap bit (granted-below (number d)) ∙ sym (ap (λ (w : Wanted). bit (alone (state_in u) w)) e)
 
   -- the rows are as they were, whether it was granted or not
-  pub taken_back : length u ≡ rowCount → o < 64 → (w : Rows) → w ≡ asked b u → setHeld w o s (heldBy (object (stateIn u) o) s) ≡ u
+  pub taken_back : length u ≡ row_count → o < 64 → (w : Rows) → w ≡ asked b u → set_held w o s (held_by (object (state_in u) o) s) ≡ u
   unfolding asked carried stores
   taken_back n h w k =
-      ap (λ (v : Rows). setHeld v o s (heldBy (object (stateIn u) o) s)) (k ∙ ap (λ (d : Decoded). askedSaid d u) (wanted-says (stateIn u).profile b s o x e))
-      ∙ cond-all (λ (v : Rows). setHeld v o s (heldBy (object (stateIn u) o) s) ≡ u) (refuses (step (Get s o x) (stateIn u)).decision) u _
-      (λ r. ap (setHeld u o s) (sym (read_held u o h s)) ∙ ap (set u (heldRow o)) (set-get_or (row_at u (heldRow o)) s 0) ∙ set-get_or u (heldRow o) [])
+      ap (λ (v : Rows). set_held v o s (held_by (object (state_in u) o) s)) (k ∙ ap (λ (d : Decoded). asked_said d u) (wanted-says (state_in u).profile b s o x e))
+      ∙ cond-all (λ (v : Rows). set_held v o s (held_by (object (state_in u) o) s) ≡ u) (refuses (step (Get s o x) (state_in u)).decision) u _
+      (λ r. ap (set_held u o s) (sym (read_held u o h s)) ∙ ap (set u (held_row o)) (set-get_or (row_at u (held_row o)) s 0) ∙ set-get_or u (held_row o) [])
       (λ r. held_back u n o h s _)

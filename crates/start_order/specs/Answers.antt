@@ -8,8 +8,8 @@ use Rattle.model.specs.declared.Request.{Request}
 use Rattle.model.specs.declared.Request.TheVariants.{Get, Release, Give, Rescind, Create, Delete, ChangeLevel, SetCompanies}
 use Rattle.model.specs.declared.Decoded.{Decoded}
 use Rattle.model.specs.declared.Decoded.TheVariants.{Malformed, Says}
-use Rattle.model.specs.State.{subjectCount, objectCount, object}
-use Rattle.model.specs.Companies.{wallKept}
+use Rattle.model.specs.State.{subject_count, object_count, object}
+use Rattle.model.specs.Companies.{wall_kept}
 use Rattle.model.specs.ModePairs.{entry, kept}
 use Rattle.model.specs.Decisions.{refuses}
 use Rattle.model.specs.Requests.{decode}
@@ -18,36 +18,36 @@ use Rattle.start_order.specs.declared.StartOrder.{StartOrder}
 use Rattle.start_order.specs.declared.StartOrder.TheVariants.{Agree, Clash, NoGet, TooMany}
 use Rattle.start_order.specs.declared.wanted.Wanted.{Wanted}
 use Rattle.start_order.specs.declared.wanted.Wanted.TheVariants.{Access, Nothing}
-use Rattle.start_order.specs.First.{firstBelow}
+use Rattle.start_order.specs.First.{first_below}
 
 -- ---- one get
 
 -- the access that a get asks for; what is no get asks for nothing
-abbrev pub wantedOf : Request → Wanted
-wantedOf (Get s o x) = Access s o x
-wantedOf (Release s o x) = Nothing
-wantedOf (Give s t o x) = Nothing
-wantedOf (Rescind s t o x) = Nothing
-wantedOf (Create s o c) = Nothing
-wantedOf (Delete s o) = Nothing
-wantedOf (ChangeLevel s o l) = Nothing
-wantedOf (SetCompanies s o n) = Nothing
+abbrev pub wanted_of : Request → Wanted
+wanted_of (Get s o x) = Access s o x
+wanted_of (Release s o x) = Nothing
+wanted_of (Give s t o x) = Nothing
+wanted_of (Rescind s t o x) = Nothing
+wanted_of (Create s o c) = Nothing
+wanted_of (Delete s o) = Nothing
+wanted_of (ChangeLevel s o l) = Nothing
+wanted_of (SetCompanies s o n) = Nothing
 
-abbrev pub wantedBy : Decoded → Wanted
-wantedBy Malformed = Nothing
-wantedBy (Says q) = wantedOf q
+abbrev pub wanted_by : Decoded → Wanted
+wanted_by Malformed = Nothing
+wanted_by (Says q) = wanted_of q
 
 -- as bytes say it to a monitor of a profile
 unfoldable pub wanted : Profile → List ℕ → Wanted
-wanted p b = wantedBy (decode p b)
+wanted p b = wanted_by (decode p b)
 
-unfoldable pub isAccess : Wanted → Bool
-isAccess (Access s o x) = true
-isAccess Nothing = false
+unfoldable pub is_access : Wanted → Bool
+is_access (Access s o x) = true
+is_access Nothing = false
 
 -- the numbers of a subject below 16 and of an object below 64
 unfoldable pub Fits : Wanted → Type 0
-Fits (Access s o x) = (s < subjectCount) × (o < objectCount)
+Fits (Access s o x) = (s < subject_count) × (o < object_count)
 Fits Nothing = Unit {0}
 
 -- "granted if it came alone"
@@ -63,7 +63,7 @@ unfoldable pub breaks : Monitor → Wanted → Wanted → Bool
 breaks m Nothing w = false
 breaks m (Access s p x) Nothing = false
 breaks m (Access s p x) (Access t q y) =
-    eqb s t && not (kept (entry x y) (object m p).label (object m q).label && wallKept x y (object m p).companies (object m q).companies)
+    eqb s t && not (kept (entry x y) (object m p).label (object m q).label && wall_kept x y (object m p).companies (object m q).companies)
 
 -- "two of its gets, each granted alone, would together break star or wall"
 unfoldable pub clashes : Monitor → List ℕ → List ℕ → Bool
@@ -72,27 +72,27 @@ clashes m b c = alone m (wanted m.profile b) && (alone m (wanted m.profile c) &&
 -- ---- a list
 
 -- the most pieces that are looked at
-abbrev pub mostPieces : ℕ
-mostPieces = 4096
+abbrev pub most_pieces : ℕ
+most_pieces = 4096
 
 -- the place of the first piece that is no get, or the length
-abbrev pub firstOther : Profile → List (List ℕ) → ℕ
-firstOther p bs = firstBelow (length bs) (λ i. not (isAccess (wanted p (get_or bs i []))))
+abbrev pub first_other : Profile → List (List ℕ) → ℕ
+first_other p bs = first_below (length bs) (λ i. not (is_access (wanted p (get_or bs i []))))
 
 -- the place of the first get behind i that clashes with the one at i, or the length
 abbrev pub partner : Monitor → List (List ℕ) → ℕ → ℕ
-partner m bs i = firstBelow (length bs) (λ j. ltb i j && clashes m (get_or bs i []) (get_or bs j []))
+partner m bs i = first_below (length bs) (λ j. ltb i j && clashes m (get_or bs i []) (get_or bs j []))
 
 -- the place of the first get that has such a partner, or the length
-abbrev pub firstWith : Monitor → List (List ℕ) → ℕ
-firstWith m bs = firstBelow (length bs) (λ i. ltb (partner m bs i) (length bs))
+abbrev pub first_with : Monitor → List (List ℕ) → ℕ
+first_with m bs = first_below (length bs) (λ i. ltb (partner m bs i) (length bs))
 
-unfoldable pub firstClash : Monitor → List (List ℕ) → StartOrder
-firstClash m bs =
-    cond (ltb (firstWith m bs) (length bs)) (Clash (firstWith m bs) (partner m bs (firstWith m bs))) Agree
+unfoldable pub first_clash : Monitor → List (List ℕ) → StartOrder
+first_clash m bs =
+    cond (ltb (first_with m bs) (length bs)) (Clash (first_with m bs) (partner m bs (first_with m bs))) Agree
 
 -- the answer: too many before any is looked at, then a piece that is no get, then two that clash
-unfoldable pub startOrder : List (List ℕ) → Monitor → StartOrder
-startOrder bs m =
-    cond (ltb mostPieces (length bs)) TooMany
-    (cond (ltb (firstOther m.profile bs) (length bs)) (NoGet (firstOther m.profile bs)) (firstClash m bs))
+unfoldable pub start_order : List (List ℕ) → Monitor → StartOrder
+start_order bs m =
+    cond (ltb most_pieces (length bs)) TooMany
+    (cond (ltb (first_other m.profile bs) (length bs)) (NoGet (first_other m.profile bs)) (first_clash m bs))

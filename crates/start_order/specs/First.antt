@@ -3,6 +3,6 @@
 use Rattle.std.specs.Prelude.{ℕ, zero, suc, Bool, cond, ltb}
 
 -- the least number below n that passes, and n where none does
-unfoldable pub firstBelow : ℕ → (ℕ → Bool) → ℕ
-firstBelow zero f = 0
-firstBelow (suc n) f = cond (ltb (firstBelow n f) n) (firstBelow n f) (cond (f n) n (suc n))
+unfoldable pub first_below : ℕ → (ℕ → Bool) → ℕ
+first_below zero f = 0
+first_below (suc n) f = cond (ltb (first_below n f) n) (first_below n f) (cond (f n) n (suc n))

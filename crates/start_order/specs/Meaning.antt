@@ -12,8 +12,8 @@ use Rattle.start_order.specs.declared.StartOrder.TheVariants.{Agree, Clash as Cl
 -- the piece at i is the first that is no get, to a monitor of the profile
 pub record FirstOther (p : Profile) (bs : List (List ℕ)) (i : ℕ) : Type 0 where
   pub within : i < length bs
-  pub no-get : IsGet p (get_or bs i []) → ⊥
-  pub gets-before : (k : ℕ) → k < i → IsGet p (get_or bs k [])
+  pub no_get : IsGet p (get_or bs i []) → ⊥
+  pub gets_before : (k : ℕ) → k < i → IsGet p (get_or bs k [])
 
 -- the gets at i and j clash, and no two with a lesser first place, nor with the same and a lesser second
 pub record FirstClash (m : Monitor) (bs : List (List ℕ)) (i j : ℕ) : Type 0 where

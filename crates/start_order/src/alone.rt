@@ -1,8 +1,8 @@
 // Which gets are granted if they came alone.
 ghost use Rattle.std.specs.Prelude.{◌≡◌, ◌≤◌, length};
 ghost use Rattle.bits.specs.Bits.{bit};
-ghost use Rattle.model.specs.Program.{pieces, pieceCount};
-ghost use Rattle.unit.specs.Rows.{rowCount, stateIn};
+ghost use Rattle.model.specs.Program.{pieces, piece_count};
+ghost use Rattle.unit.specs.Rows.{row_count, state_in};
 ghost use Rattle.start_order.specs.Answers.{wanted, alone};
 ghost use Rattle.start_order.specs.Tried.{Tried};
 
@@ -12,8 +12,8 @@ use unit::{ROWS, flag, held_by, profile_of, set_held};
 
 // The rows once more, for gets that are tried.
 pub fn copy_rows(unit: &[[u8; 16]], copy: &mut [[u8; 16]])
-    requires unit_len { length unit.now ≡ rowCount }
-    requires* do_value { do ⌜ (← ⟦copy.len()⟧) ≡ rowCount ⌝ }
+    requires unit_len { length unit.now ≡ row_count }
+    requires copy_len { length copy.old ≡ row_count }
     ensures { copy.new ≡ unit.now }
 {
     let mut i = 0usize;
@@ -25,8 +25,8 @@ pub fn copy_rows(unit: &[[u8; 16]], copy: &mut [[u8; 16]])
 
 // 1 where the piece is a get that is granted on the unit as it is, else 0. It is carried out, and then the actor's set is what it was before.
 fn is_alone(unit: &mut [[u8; 16]], piece: &[u8]) -> u8
-    requires* { do ⌜ (← ⟦unit.len()⟧) ≡ rowCount ⌝ }
-    ensures answered { result ≡ bit (alone (stateIn unit.old) (wanted (stateIn unit.old).profile piece.now)) }
+    requires unit_len { length unit.old ≡ row_count }
+    ensures answered { result ≡ bit (alone (state_in unit.old) (wanted (state_in unit.old).profile piece.now)) }
     ensures left { unit.new ≡ unit.old }
 {
     let profile = profile_of(unit);
@@ -44,9 +44,9 @@ fn is_alone(unit: &mut [[u8; 16]], piece: &[u8]) -> u8
 
 // One byte for each piece: 1 where it is granted if it came alone.
 pub fn list_alone(unit: &mut [[u8; 16]], requests: &[u8], count: usize, list: &mut [u8])
-    requires* do_value { do ⌜ (← ⟦unit.len()⟧) ≡ rowCount ⌝ }
-    requires count_value { (count ≡ pieceCount (length requests.now)) × (count ≤ length list.old) }
-    ensures listed { Tried (stateIn unit.old) (pieces requests.now) count list.new }
+    requires unit_len { length unit.old ≡ row_count }
+    requires count_value { (count ≡ piece_count (length requests.now)) × (count ≤ length list.old) }
+    ensures listed { Tried (state_in unit.old) (pieces requests.now) count list.new }
     ensures left { unit.new ≡ unit.old }
 {
     let mut i = 0usize;

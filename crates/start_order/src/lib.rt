@@ -1,12 +1,15 @@
 // Whether the order of a list of gets matters: the first two of them that clash.
+
+#![tactic(auto)]
+
 mod alone;
 mod search;
 mod wanted;
 
 ghost use Rattle.std.specs.Prelude.{◌≡◌, length};
 ghost use Rattle.model.specs.Program.{pieces};
-ghost use Rattle.unit.specs.Rows.{rowCount, stateIn};
-ghost use Rattle.start_order.specs.Answers.{startOrder};
+ghost use Rattle.unit.specs.Rows.{row_count, state_in};
+ghost use Rattle.start_order.specs.Answers.{start_order};
 
 use crate::alone::{copy_rows, list_alone};
 use crate::search::{first_clash, first_other};
@@ -27,8 +30,8 @@ pub enum StartOrder {
 
 // The answer for the pieces of a row of requests. Gets are tried on a copy of the unit.
 pub fn start_order(unit: &[[u8; 16]], requests: &[u8]) -> StartOrder
-    requires { length unit.now ≡ rowCount }
-    ensures { result ≡ startOrder (pieces requests.now) (stateIn unit.now) }
+    requires { length unit.now ≡ row_count }
+    ensures { result ≡ start_order (pieces requests.now) (state_in unit.now) }
 {
     let count = piece_count(requests.len());
     if MOST < count {

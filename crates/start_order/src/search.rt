@@ -1,8 +1,8 @@
 // The first piece that is no get, and the first two gets that clash.
 ghost use Rattle.std.specs.Prelude.{◌≡◌, ◌&&◌, [], ◌<◌, length, get_or};
-ghost use Rattle.model.specs.Program.{pieces, pieceCount};
-ghost use Rattle.unit.specs.Rows.{rowCount, stateIn};
-ghost use Rattle.start_order.specs.Answers.{wanted, alone, breaks, Fits, firstOther, partner, firstClash};
+ghost use Rattle.model.specs.Program.{pieces, piece_count};
+ghost use Rattle.unit.specs.Rows.{row_count, state_in};
+ghost use Rattle.start_order.specs.Answers.{wanted, alone, breaks, Fits, first_other, partner, first_clash};
 ghost use Rattle.start_order.specs.Tried.{Tried};
 
 use crate::StartOrder;
@@ -12,8 +12,8 @@ use unit::profile_of;
 
 // The place of the first piece that is no well-formed get, or the count where there is none.
 pub fn first_other(p: Profile, requests: &[u8], count: usize) -> usize
-    requires { count ≡ pieceCount (length requests.now) }
-    ensures { result ≡ firstOther p (pieces requests.now) }
+    requires { count ≡ piece_count (length requests.now) }
+    ensures { result ≡ first_other p (pieces requests.now) }
 {
     let mut i = 0usize;
     while i < count {
@@ -34,10 +34,10 @@ fn clashes_at(
     first: Wanted,
     j: usize,
 ) -> bool
-    requires unit_len { length unit.now ≡ rowCount }
-    requires tried { Tried (stateIn unit.now) (pieces requests.now) count list.now }
+    requires unit_len { length unit.now ≡ row_count }
+    requires tried { Tried (state_in unit.now) (pieces requests.now) count list.now }
     requires fits { Fits first × (j < count) }
-    ensures { result ≡ (alone (stateIn unit.now) (wanted (stateIn unit.now).profile (get_or (pieces requests.now) j [])) && breaks (stateIn unit.now) first (wanted (stateIn unit.now).profile (get_or (pieces requests.now) j []))) }
+    ensures { result ≡ (alone (state_in unit.now) (wanted (state_in unit.now).profile (get_or (pieces requests.now) j [])) && breaks (state_in unit.now) first (wanted (state_in unit.now).profile (get_or (pieces requests.now) j []))) }
 {
     if list[j] != 1 {
         return false;
@@ -48,10 +48,10 @@ fn clashes_at(
 
 // The place of the first get behind i that clashes with the one at i, or the count where there is none.
 fn partner(unit: &[[u8; 16]], requests: &[u8], count: usize, list: &[u8], i: usize) -> usize
-    requires unit_len { length unit.now ≡ rowCount }
-    requires tried { Tried (stateIn unit.now) (pieces requests.now) count list.now }
+    requires unit_len { length unit.now ≡ row_count }
+    requires tried { Tried (state_in unit.now) (pieces requests.now) count list.now }
     requires i_lt_count { i < count }
-    ensures { result ≡ partner (stateIn unit.now) (pieces requests.now) i }
+    ensures { result ≡ partner (state_in unit.now) (pieces requests.now) i }
 {
     if list[i] != 1 {
         return count;
@@ -70,9 +70,9 @@ fn partner(unit: &[[u8; 16]], requests: &[u8], count: usize, list: &[u8], i: usi
 
 // The first two gets that clash.
 pub fn first_clash(unit: &[[u8; 16]], requests: &[u8], count: usize, list: &[u8]) -> StartOrder
-    requires unit_len { length unit.now ≡ rowCount }
-    requires tried { Tried (stateIn unit.now) (pieces requests.now) count list.now }
-    ensures { result ≡ firstClash (stateIn unit.now) (pieces requests.now) }
+    requires unit_len { length unit.now ≡ row_count }
+    requires tried { Tried (state_in unit.now) (pieces requests.now) count list.now }
+    ensures { result ≡ first_clash (state_in unit.now) (pieces requests.now) }
 {
     let mut i = 0usize;
     while i < count {

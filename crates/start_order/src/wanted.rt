@@ -1,9 +1,9 @@
 // What a piece of the requests asks for.
 ghost use Rattle.std.specs.Prelude.{◌≡◌, [], ◌<◌, length, get_or};
-ghost use Rattle.model.specs.Requests.{decodeFields};
-ghost use Rattle.model.specs.Program.{pieces, pieceCount};
-ghost use Rattle.unit.specs.Rows.{rowCount, stateIn};
-ghost use Rattle.start_order.specs.Answers.{wantedBy, wanted, isAccess, breaks, Fits};
+ghost use Rattle.model.specs.Requests.{decode_fields};
+ghost use Rattle.model.specs.Program.{pieces, piece_count};
+ghost use Rattle.unit.specs.Rows.{row_count, state_in};
+ghost use Rattle.start_order.specs.Answers.{wanted_by, wanted, is_access, breaks, Fits};
 
 use bits::{read_word, smaller};
 use decoding::{fields_of, mode_of, well_formed};
@@ -21,7 +21,7 @@ pub enum Wanted {
 
 // The piece at place i: six bytes, or fewer at the end.
 pub fn piece(requests: &[u8], i: usize) -> &[u8]
-    requires { i < pieceCount (length requests.now) }
+    requires { i < piece_count (length requests.now) }
     ensures { result.now ≡ get_or (pieces requests.now) i [] }
 {
     let at = i * 6;
@@ -30,7 +30,7 @@ pub fn piece(requests: &[u8], i: usize) -> &[u8]
 }
 
 fn access_of(p: Profile, f: Fields) -> Wanted
-    ensures { result ≡ wantedBy (decodeFields p f) }
+    ensures { result ≡ wanted_by (decode_fields p f) }
 {
     let x = mode_of(f.mode);
     if well_formed(p, f) & (f.kind == 1) {
@@ -53,14 +53,14 @@ pub fn access_in(p: Profile, b: &[u8]) -> Wanted
 
 // What the piece at place i asks for.
 pub fn wanted_at(p: Profile, requests: &[u8], i: usize) -> Wanted
-    requires { i < pieceCount (length requests.now) }
+    requires { i < piece_count (length requests.now) }
     ensures { result ≡ wanted p (get_or (pieces requests.now) i []) }
 {
     access_in(p, piece(requests, i))
 }
 
 pub fn is_access(w: Wanted) -> bool
-    ensures { result ≡ isAccess w }
+    ensures { result ≡ is_access w }
 {
     match w {
         Wanted::Access(s, o, x) => true,
@@ -71,9 +71,9 @@ pub fn is_access(w: Wanted) -> bool
 // Whether two accesses would together break star or the wall: they are of one subject, and the labels do not keep what the table of mode
 // pairs asks, or the company numbers what the wall does.
 pub fn breaks(unit: &[[u8; 16]], v: Wanted, w: Wanted) -> bool
-    requires unit_len { length unit.now ≡ rowCount }
+    requires unit_len { length unit.now ≡ row_count }
     requires fits { Fits v × Fits w }
-    ensures { result ≡ breaks (stateIn unit.now) v w }
+    ensures { result ≡ breaks (state_in unit.now) v w }
 {
     match v {
         Wanted::Nothing => false,

@@ -9,13 +9,13 @@ abbrev pub most : ℕ
 most = 16
 
 -- a task without a request
-abbrev pub noTask : Task
-noTask = record { subject = 0; start = 0; count = 0 }
+abbrev pub no_task : Task
+no_task = record { subject = 0; start = 0; count = 0 }
 
 -- as many as are lent, none of them copied yet
-abbrev pub noTasks : ℕ → TaskList
-noTasks count = record { count = count; tasks = replicate most noTask }
+abbrev pub no_tasks : ℕ → TaskList
+no_tasks count = record { count = count; tasks = replicate most no_task }
 
 -- how many are lent, and the first sixteen of them; behind these stand tasks without a request
 unfoldable pub list_of : List Task → TaskList
-list_of ts = record { count = length ts; tasks = take most (ts ++ replicate most noTask) }
+list_of ts = record { count = length ts; tasks = take most (ts ++ replicate most no_task) }

@@ -1,6 +1,9 @@
 // The task records that are lent for a rehearsal, and the list that is made of them.
+
+#![tactic(auto)]
+
 ghost use Rattle.std.specs.Prelude.{◌≡◌, ◌<◌, set};
-ghost use Rattle.task_list.specs.Tasks.{most, noTasks};
+ghost use Rattle.task_list.specs.Tasks.{most, no_tasks};
 
 // A task: its subject, and its place in the script area, a start and a count of requests. Three bytes for C, without padding.
 #[repr(C)]
@@ -23,7 +26,7 @@ pub struct TaskList {
 
 // A list of as many tasks as are lent, before any of them is copied.
 fn no_tasks(count: usize) -> TaskList
-    ensures { result ≡ noTasks count }
+    ensures { result ≡ no_tasks count }
 {
     let none = Task {
         subject: 0,

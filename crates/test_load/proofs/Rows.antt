@@ -12,9 +12,9 @@ use lib.Bits.{bit_xor, differ, xor_step, xor_shr}
 use lib.ListN.{take, drop}
 use lib.Seq.{take_at, drop_at}
 use Rattle.bits.specs.Bits.{odd, to_bits}
-use Rattle.bits.specs.Laws.{length-toBits, toBits-split, toBits-join, toBits-mod, toBits-zero}
-use Rattle.test_load.specs.Generator.{stateWidth, shiftLeft, shiftRight, xorshift}
-use Rattle.test_load.specs.Rows.{movedLeft, movedRight, combined, nextRow}
+use Rattle.bits.specs.Laws.{length-to_bits, to_bits-split, to_bits-join, to_bits-mod, to_bits-zero}
+use Rattle.test_load.specs.Generator.{state_width, shift_left, shift_right, xorshift}
+use Rattle.test_load.specs.Rows.{moved_left, moved_right, combined, next_row}
 use Rattle.test_load.proofs.States.{left-fits}
 
 -- ---- exclusive or
@@ -55,45 +55,45 @@ xor-bits (suc w) a b = ap₂ (λ x y. x ∷ y) (ap odd (xor_shr a b w) ∙ odd-x
 
 -- ---- shifts
 
-module _ (k : ℕ) (h : k ≤ stateWidth) (x : ℕ) where
-  sum : stateWidth ≡ stateWidth - k + k
+module _ (k : ℕ) (h : k ≤ state_width) (x : ℕ) where
+  sum : state_width ≡ state_width - k + k
   sum = omega arith
 
-  turned : stateWidth ≡ k + (stateWidth - k)
+  turned : state_width ≡ k + (state_width - k)
   turned = omega arith
 
-  left-moved : to_bits stateWidth (x * 2 ^ k % 2 ^ stateWidth) ≡ movedLeft k (to_bits stateWidth x)
+  left-moved : to_bits state_width (x * 2 ^ k % 2 ^ state_width) ≡ moved_left k (to_bits state_width x)
   left-moved =
-      let lower = to_bits (stateWidth - k) x in
-      let dropped : drop k (to_bits stateWidth x) ≡ lower =
-      ap (λ w. drop k (to_bits w x)) turned ∙ ap (drop k) (toBits-split k (stateWidth - k) x)
-      ∙ drop_at (to_bits k (x / 2 ^ (stateWidth - k))) lower k (length-toBits k (x / 2 ^ (stateWidth - k))) in
-      toBits-mod stateWidth (x * 2 ^ k) ∙ ap₂ to_bits sum (sym (add-zero (x * 2 ^ k))) ∙ toBits-join (stateWidth - k) k x {r = 0} (pow_pos k)
-      ∙ ap₂ (λ a b. a ++ b) (sym dropped) (toBits-zero k)
+      let lower = to_bits (state_width - k) x in
+      let dropped : drop k (to_bits state_width x) ≡ lower =
+      ap (λ w. drop k (to_bits w x)) turned ∙ ap (drop k) (to_bits-split k (state_width - k) x)
+      ∙ drop_at (to_bits k (x / 2 ^ (state_width - k))) lower k (length-to_bits k (x / 2 ^ (state_width - k))) in
+      to_bits-mod state_width (x * 2 ^ k) ∙ ap₂ to_bits sum (sym (add-zero (x * 2 ^ k))) ∙ to_bits-join (state_width - k) k x {r = 0} (pow_pos k)
+      ∙ ap₂ (λ a b. a ++ b) (sym dropped) (to_bits-zero k)
 
-  right-moved : x < 2 ^ stateWidth → to_bits stateWidth (x / 2 ^ k) ≡ movedRight k (to_bits stateWidth x)
+  right-moved : x < 2 ^ state_width → to_bits state_width (x / 2 ^ k) ≡ moved_right k (to_bits state_width x)
   right-moved g =
-      let upper = to_bits (stateWidth - k) (x / 2 ^ k) in
-      let taken : take (stateWidth - k) (to_bits stateWidth x) ≡ upper =
-      ap (λ w. take (stateWidth - k) (to_bits w x)) sum ∙ ap (take (stateWidth - k)) (toBits-split (stateWidth - k) k x)
-      ∙ take_at upper (to_bits k x) (stateWidth - k) (length-toBits (stateWidth - k) (x / 2 ^ k)) in
-      let none : x / 2 ^ k / 2 ^ (stateWidth - k) ≡ 0 =
-      shr-shr x k (stateWidth - k) ∙ ap (λ w. x / 2 ^ w) (sym turned) ∙ div-eq_of_lt g in
-      ap (λ w. to_bits w (x / 2 ^ k)) turned ∙ toBits-split k (stateWidth - k) (x / 2 ^ k)
-      ∙ ap₂ (λ a b. a ++ b) (ap (to_bits k) none ∙ toBits-zero k)
-      (sym taken ∙ ap (λ n. take (n - k) (to_bits stateWidth x)) (sym (length-toBits stateWidth x)))
+      let upper = to_bits (state_width - k) (x / 2 ^ k) in
+      let taken : take (state_width - k) (to_bits state_width x) ≡ upper =
+      ap (λ w. take (state_width - k) (to_bits w x)) sum ∙ ap (take (state_width - k)) (to_bits-split (state_width - k) k x)
+      ∙ take_at upper (to_bits k x) (state_width - k) (length-to_bits (state_width - k) (x / 2 ^ k)) in
+      let none : x / 2 ^ k / 2 ^ (state_width - k) ≡ 0 =
+      shr-shr x k (state_width - k) ∙ ap (λ w. x / 2 ^ w) (sym turned) ∙ div-eq_of_lt g in
+      ap (λ w. to_bits w (x / 2 ^ k)) turned ∙ to_bits-split k (state_width - k) (x / 2 ^ k)
+      ∙ ap₂ (λ a b. a ++ b) (ap (to_bits k) none ∙ to_bits-zero k)
+      (sym taken ∙ ap (λ n. take (n - k) (to_bits state_width x)) (sym (length-to_bits state_width x)))
 
-  left-row : to_bits stateWidth (shiftLeft k x) ≡ combined (movedLeft k) (to_bits stateWidth x)
-  left-row = xor-bits stateWidth x (x * 2 ^ k % 2 ^ stateWidth) ∙ ap (zip_with xor (to_bits stateWidth x)) left-moved
+  left-row : to_bits state_width (shift_left k x) ≡ combined (moved_left k) (to_bits state_width x)
+  left-row = xor-bits state_width x (x * 2 ^ k % 2 ^ state_width) ∙ ap (zip_with xor (to_bits state_width x)) left-moved
 
-  right-row : x < 2 ^ stateWidth → to_bits stateWidth (shiftRight k x) ≡ combined (movedRight k) (to_bits stateWidth x)
-  right-row g = xor-bits stateWidth x (x / 2 ^ k) ∙ ap (zip_with xor (to_bits stateWidth x)) (right-moved g)
+  right-row : x < 2 ^ state_width → to_bits state_width (shift_right k x) ≡ combined (moved_right k) (to_bits state_width x)
+  right-row g = xor-bits state_width x (x / 2 ^ k) ∙ ap (zip_with xor (to_bits state_width x)) (right-moved g)
 
 -- the next draw, bit by bit
-pub xorshift-row : (x : ℕ) → x < 2 ^ stateWidth → to_bits stateWidth (xorshift x) ≡ nextRow (to_bits stateWidth x)
-unfolding xorshift nextRow
+pub xorshift-row : (x : ℕ) → x < 2 ^ state_width → to_bits state_width (xorshift x) ≡ next_row (to_bits state_width x)
+unfolding xorshift next_row
 xorshift-row x h =
-    let a = shiftLeft 13 x in
-    let b = shiftRight 17 a in
+    let a = shift_left 13 x in
+    let b = shift_right 17 a in
     left-row 5 (omega arith) b
-    ∙ ap (combined (movedLeft 5)) (right-row 17 (omega arith) a (left-fits x h 13) ∙ ap (combined (movedRight 17)) (left-row 13 (omega arith) x))
+    ∙ ap (combined (moved_left 5)) (right-row 17 (omega arith) a (left-fits x h 13) ∙ ap (combined (moved_right 17)) (left-row 13 (omega arith) x))

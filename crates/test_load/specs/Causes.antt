@@ -5,5 +5,5 @@ use Rattle.model.specs.declared.Decision.TheVariants.{ZeroSeed}
 use Rattle.refusals.specs.First.{Causes, none, row}
 
 -- "Refused: 15, seed 0"
-abbrev pub loadCauses : ℕ → Causes
-loadCauses seed = row ZeroSeed (seed ≡ 0) none
+abbrev pub load_causes : ℕ → Causes
+load_causes seed = row ZeroSeed (seed ≡ 0) none

@@ -1,9 +1,12 @@
 // A test load from a seed, for laboratories that want to run the same requests.
+
+#![tactic(auto)]
+
 mod requests;
 mod xorshift;
 
 ghost use Rattle.std.specs.Prelude.{◌≡◌};
-ghost use Rattle.test_load.specs.Load.{loading, loadCount, loaded};
+ghost use Rattle.test_load.specs.Load.{loading, load_count, loaded};
 
 use buffers::put_bytes;
 use encoding::pack;
@@ -20,7 +23,7 @@ pub struct Loaded {
 // As many whole requests as fit, from the front of a lent buffer on; the bytes behind the last one are left. From seed 0 every
 // draw would be 0: it is refused, and every byte is left.
 pub fn fill(seed: u32, out: &mut [u8]) -> Loaded
-    ensures { (result.decision ≡ loading seed) × (result.count ≡ loadCount seed out.old) × (out.new ≡ loaded seed out.old) }
+    ensures { (result.decision ≡ loading seed) × (result.count ≡ load_count seed out.old) × (out.new ≡ loaded seed out.old) }
 {
     if seed == 0 {
         return Loaded {

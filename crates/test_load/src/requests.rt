@@ -1,32 +1,32 @@
 // One request of a test load: what each of its seven draws says.
 ghost use Rattle.std.specs.Prelude.{◌≡◌};
 ghost use Rattle.test_load.specs.Generator.{draw};
-ghost use Rattle.test_load.specs.Load.{kindDrawn, usesOther, otherDrawn, modeDrawn, classDrawn, needsDrawn, made};
+ghost use Rattle.test_load.specs.Load.{kind_drawn, uses_other, other_drawn, mode_drawn, class_drawn, needs_drawn, made};
 
 use crate::xorshift::next;
 use model::{Fields, Level};
 
 fn kind_drawn(d: u32) -> u8
-    ensures { result ≡ kindDrawn d }
+    ensures { result ≡ kind_drawn d }
 {
     1 + (d % 7) as u8
 }
 
 // Give and rescind name another subject.
 fn uses_other(kind: u8) -> bool
-    ensures { result ≡ usesOther kind }
+    ensures { result ≡ uses_other kind }
 {
     kind == 3 || kind == 4
 }
 
 fn other_drawn(kind: u8, d: u32) -> u8
-    ensures { result ≡ otherDrawn kind d }
+    ensures { result ≡ other_drawn kind d }
 {
     if uses_other(kind) { (d % 16) as u8 } else { 0 }
 }
 
 fn mode_drawn(kind: u8, d: u32) -> u8
-    ensures { result ≡ modeDrawn kind d }
+    ensures { result ≡ mode_drawn kind d }
 {
     if kind <= 4 {
         return 1 + (d % 4) as u8;
@@ -39,7 +39,7 @@ fn mode_drawn(kind: u8, d: u32) -> u8
 
 // Class and needs stand in a change of level.
 fn level_drawn(kind: u8, class: u32, needs: u32) -> Level
-    ensures { (result.class ≡ classDrawn kind class) × (result.needs ≡ needsDrawn kind needs) }
+    ensures { (result.class ≡ class_drawn kind class) × (result.needs ≡ needs_drawn kind needs) }
 {
     if kind != 7 {
         return Level { class: 0, needs: 0 };

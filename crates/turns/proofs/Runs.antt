@@ -13,8 +13,8 @@ use Rattle.model.specs.Runs.{reply, after, replies}
 use Rattle.model.specs.Program.{pieces}
 use Rattle.model.proofs.Tests.{le-or-lt}
 use Rattle.model.proofs.Lists.{replies-append, length-replies}
-use Rattle.unit.specs.Rows.{Rows, rowCount, stateIn}
-use Rattle.asking.specs.Asked.{asked, askedAll}
+use Rattle.unit.specs.Rows.{Rows, row_count, state_in}
+use Rattle.asking.specs.Asked.{asked, asked_all}
 use Rattle.asking.proofs.Lists.{all_append, all-state}
 
 -- one element more is taken
@@ -39,11 +39,11 @@ drop_more (suc i) (x ∷ l) = drop_more i l
 
 -- what a loop over the pieces has after i of them
 pub record After (ps : List (List ℕ)) (out₀ : List ℕ) (u₀ : Rows) (out : List ℕ) (u : Rows) (i : ℕ) : Type 0 where
-  pub left : u ≡ askedAll (take i ps) u₀
-  pub written : out ≡ replies (take i ps) (stateIn u₀) ++ drop i out₀
+  pub left : u ≡ asked_all (take i ps) u₀
+  pub written : out ≡ replies (take i ps) (state_in u₀) ++ drop i out₀
 
 pub start : (ps : List (List ℕ)) (out : List ℕ) (u : Rows) → After ps out u out u 0
-unfolding askedAll replies
+unfolding asked_all replies
 start ps out u = record { left = refl; written = refl }
 
 length_taken : {A : Type 0} (i : ℕ) (l : List A) → i ≤ length l → length (take i l) ≡ i
@@ -52,17 +52,17 @@ length_taken (suc i) [] h = absurd (omega arith)
 length_taken (suc i) (x ∷ l) h = ap suc (length_taken i l (omega arith))
 
 -- one turn more
-pub further : (ps : List (List ℕ)) (out₀ : List ℕ) (u₀ : Rows) (out : List ℕ) (u : Rows) (i : ℕ) (b : List ℕ) (w : Rows) (r : ℕ) → length u₀ ≡ rowCount
-    → After ps out₀ u₀ out u i → i < length ps → i < length out₀ → get_or ps i [] ≡ b → w ≡ asked b u → r ≡ reply b (stateIn u)
+pub further : (ps : List (List ℕ)) (out₀ : List ℕ) (u₀ : Rows) (out : List ℕ) (u : Rows) (i : ℕ) (b : List ℕ) (w : Rows) (r : ℕ) → length u₀ ≡ row_count
+    → After ps out₀ u₀ out u i → i < length ps → i < length out₀ → get_or ps i [] ≡ b → w ≡ asked b u → r ≡ reply b (state_in u)
     → After ps out₀ u₀ (set out i r) w (i + 1)
-unfolding askedAll replies
+unfolding asked_all replies
 further ps out₀ u₀ out u i b w r n A h g e p q =
-    let m = stateIn u₀ in
+    let m = state_in u₀ in
     let more : take (i + 1) ps ≡ take i ps ++ (b ∷ []) = rw (add-one i) (take_more i ps [] h ∙ ap (λ c. take i ps ++ (c ∷ [])) e) in
     let size : length (replies (take i ps) m) ≡ i = length-replies (take i ps) m ∙ length_taken i ps (omega arith) in
-    let says : stateIn u ≡ after (take i ps) m = ap stateIn A.left ∙ all-state (take i ps) u₀ n in
+    let says : state_in u ≡ after (take i ps) m = ap state_in A.left ∙ all-state (take i ps) u₀ n in
     record {
-      left = p ∙ ap (asked b) A.left ∙ sym (all_append (take i ps) (b ∷ []) u₀) ∙ ap (λ l. askedAll l u₀) (sym more);
+      left = p ∙ ap (asked b) A.left ∙ sym (all_append (take i ps) (b ∷ []) u₀) ∙ ap (λ l. asked_all l u₀) (sym more);
       written = ap (λ l. set l i r) A.written
           ∙ set_front (replies (take i ps) m) (drop i out₀) i r size (omega (arith, size, length-drop i out₀))
           ∙ ap₂ (λ (x y : List ℕ). x ++ y)
@@ -93,8 +93,8 @@ pub record Looping (requests out₀ : List ℕ) (u₀ : Rows) (count : ℕ) (out
   pub bound : i ≤ count
   pub counted : count ≡ min ((length requests + 5) / 6) (length out₀)
   pub so_far : After (pieces requests) out₀ u₀ out u i
-  pub out-length : length out ≡ length out₀
-  pub rows : length u ≡ rowCount
+  pub out_length : length out ≡ length out₀
+  pub rows : length u ≡ row_count
 
 -- as many pieces as were counted are those that have room
 pub taken : {A : Type 0} (l : List A) (room : ℕ) → take (min (length l) room) l ≡ take room l
@@ -104,11 +104,11 @@ taken (x ∷ l) zero = let e : min (suc (length l)) 0 ≡ 0 = omega arith in rw 
 taken (x ∷ l) (suc room) = let e : min (suc (length l)) (suc room) ≡ suc (min (length l) room) = omega arith in rw e (ap (λ r. x ∷ r) (taken l room))
 
 pub ended : (requests out₀ : List ℕ) (u₀ : Rows) (count : ℕ) (out : List ℕ) (u : Rows) (i : ℕ) → Looping requests out₀ u₀ count out u i → count ≤ i
-    → (u ≡ askedAll (take (length out₀) (pieces requests)) u₀)
-    × (out ≡ replies (take (length out₀) (pieces requests)) (stateIn u₀) ++ drop (length (take (length out₀) (pieces requests))) out₀)
+    → (u ≡ asked_all (take (length out₀) (pieces requests)) u₀)
+    × (out ≡ replies (take (length out₀) (pieces requests)) (state_in u₀) ++ drop (length (take (length out₀) (pieces requests))) out₀)
 ended requests out₀ u₀ count out u i L h =
     let l : length (pieces requests) ≡ (length requests + 5) / 6 = length-pieces requests in
     let all : i ≡ min (length (pieces requests)) (length out₀) = omega (arith, L.bound, L.counted, l) in
     let same : take i (pieces requests) ≡ take (length out₀) (pieces requests) = ap (λ k. take k (pieces requests)) all ∙ taken (pieces requests) (length out₀) in
     let size : length (take (length out₀) (pieces requests)) ≡ i = ap length (sym same) ∙ length_taken i (pieces requests) (omega arith) in
-    (L.so_far.left ∙ ap (λ k. askedAll k u₀) same, L.so_far.written ∙ ap₂ (λ k j. replies k (stateIn u₀) ++ drop j out₀) same (sym size))
+    (L.so_far.left ∙ ap (λ k. asked_all k u₀) same, L.so_far.written ∙ ap₂ (λ k j. replies k (state_in u₀) ++ drop j out₀) same (sym size))

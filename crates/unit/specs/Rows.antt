@@ -9,27 +9,27 @@ use Rattle.model.specs.declared.Subject.{Subject}
 use Rattle.model.specs.declared.Object.{Object}
 use Rattle.model.specs.declared.Profile.{Profile}
 use Rattle.model.specs.declared.Monitor.{Monitor}
-use Rattle.model.specs.State.{subjectCount, objectCount}
+use Rattle.model.specs.State.{subject_count, object_count}
 
 abbrev pub Rows : Type 0
 Rows = List (List ℕ)
 
 -- three rows for each object, one for each subject, one for the profile
-abbrev pub rowCount : ℕ
-rowCount = 3 * objectCount + subjectCount + 1
+abbrev pub row_count : ℕ
+row_count = 3 * object_count + subject_count + 1
 
 -- the row of the accesses held at object o, that of the rest of its record, that of the clearance of subject s; its rights are row o
-abbrev pub heldRow : ℕ → ℕ
-heldRow o = objectCount + o
+abbrev pub held_row : ℕ → ℕ
+held_row o = object_count + o
 
-abbrev pub restRow : ℕ → ℕ
-restRow o = 2 * objectCount + o
+abbrev pub rest_row : ℕ → ℕ
+rest_row o = 2 * object_count + o
 
-abbrev pub clearanceRow : ℕ → ℕ
-clearanceRow s = 3 * objectCount + s
+abbrev pub clearance_row : ℕ → ℕ
+clearance_row s = 3 * object_count + s
 
-abbrev pub profileRow : ℕ
-profileRow = 3 * objectCount + subjectCount
+abbrev pub profile_row : ℕ
+profile_row = 3 * object_count + subject_count
 
 abbrev pub row_at : Rows → ℕ → List ℕ
 row_at u i = get_or u i []
@@ -38,56 +38,56 @@ abbrev pub byte_at : List ℕ → ℕ → ℕ
 byte_at row i = get_or row i 0
 
 -- byte 3: the class; bytes 4 and 5: the needs
-abbrev pub levelIn : List ℕ → Level
-levelIn row = record { class = byte_at row 3; needs = byte_at row 4 * 256 + byte_at row 5 }
+abbrev pub level_in : List ℕ → Level
+level_in row = record { class = byte_at row 3; needs = byte_at row 4 * 256 + byte_at row 5 }
 
 -- byte 2 is 1: a label; else none
-unfoldable pub labelIn : List ℕ → Label
-labelIn row = cond (eqb (byte_at row 2) 1) (Present (levelIn row)) Absent
+unfoldable pub label_in : List ℕ → Label
+label_in row = cond (eqb (byte_at row 2) 1) (Present (level_in row)) Absent
 
 -- byte 0: the subjects in use; byte 1: the objects in use; the highest class and the needs in use stand where a level does
-unfoldable pub profileIn : List ℕ → Profile
-profileIn row = record { subjects = byte_at row 0; objects = byte_at row 1; highest = levelIn row }
+unfoldable pub profile_in : List ℕ → Profile
+profile_in row = record { subjects = byte_at row 0; objects = byte_at row 1; highest = level_in row }
 
 -- byte 6: the company numbers of the first two conflict classes; byte 7: those of the last two (change request §10)
-abbrev pub companiesIn : List ℕ → ℕ
-companiesIn row = byte_at row 6 * 256 + byte_at row 7
+abbrev pub companies_in : List ℕ → ℕ
+companies_in row = byte_at row 6 * 256 + byte_at row 7
 
 -- byte 8: the parent, number plus one, 0 for none (change request §11)
 abbrev pub parent_in : List ℕ → ℕ
 parent_in row = byte_at row 8
 
 -- byte 0 is 1: live; byte 1: the owner
-unfoldable pub objectOf : List ℕ → List ℕ → List ℕ → Object
-objectOf rights held rest =
+unfoldable pub object_of : List ℕ → List ℕ → List ℕ → Object
+object_of rights held rest =
     record {
       live = eqb (byte_at rest 0) 1;
       owner = byte_at rest 1;
-      label = labelIn rest;
-      companies = companiesIn rest;
+      label = label_in rest;
+      companies = companies_in rest;
       rights = rights;
       held = held;
       parent = parent_in rest;
     }
 
 -- object o and subject s, as the rows say them
-abbrev pub objectIn : Rows → ℕ → Object
-objectIn u o = objectOf (row_at u o) (row_at u (heldRow o)) (row_at u (restRow o))
+abbrev pub object_in : Rows → ℕ → Object
+object_in u o = object_of (row_at u o) (row_at u (held_row o)) (row_at u (rest_row o))
 
-abbrev pub subjectIn : Rows → ℕ → Subject
-subjectIn u s = record { clearance = labelIn (row_at u (clearanceRow s)) }
+abbrev pub subject_in : Rows → ℕ → Subject
+subject_in u s = record { clearance = label_in (row_at u (clearance_row s)) }
 
 -- f at each number below n
 unfoldable pub tabulate : {A : Type 0} → ℕ → (ℕ → A) → List A
 tabulate zero f = []
 tabulate (suc n) f = f 0 ∷ tabulate n (λ i. f (suc i))
 
-abbrev pub subjectsIn : Rows → List Subject
-subjectsIn u = tabulate subjectCount (subjectIn u)
+abbrev pub subjects_in : Rows → List Subject
+subjects_in u = tabulate subject_count (subject_in u)
 
-abbrev pub objectsIn : Rows → List Object
-objectsIn u = tabulate objectCount (objectIn u)
+abbrev pub objects_in : Rows → List Object
+objects_in u = tabulate object_count (object_in u)
 
 -- the monitor that the rows say
-abbrev pub stateIn : Rows → Monitor
-stateIn u = record { profile = profileIn (row_at u profileRow); subjects = subjectsIn u; objects = objectsIn u }
+abbrev pub state_in : Rows → Monitor
+state_in u = record { profile = profile_in (row_at u profile_row); subjects = subjects_in u; objects = objects_in u }

@@ -1,4 +1,7 @@
 // The monitor of a unit: 209 rows of sixteen bytes in memory that the caller owns, without its journal. Every content of that memory is a state.
+
+#![tactic(auto)]
+
 mod parts;
 mod rows;
 mod whole;

@@ -1,9 +1,9 @@
 // What the checks read of a unit, and what the kinds store: a row is taken out, changed and stored back.
 ghost use Rattle.std.specs.Prelude.{◌≡◌, ◌<◌, length, set};
-ghost use Rattle.model.specs.State.{subjectCount, objectCount, object, clearance, enrolled, rightsOf, heldBy};
+ghost use Rattle.model.specs.State.{subject_count, object_count, object, clearance, enrolled, rights_of, held_by};
 ghost use Rattle.model.specs.Rules.{owns};
-ghost use Rattle.unit.specs.Rows.{rowCount, stateIn, row_at, restRow};
-ghost use Rattle.unit.specs.Stored.{setRights, setHeld, setLabel, setCompanies, setRows};
+ghost use Rattle.unit.specs.Rows.{row_count, state_in, row_at, rest_row};
+ghost use Rattle.unit.specs.Stored.{set_rights, set_held, set_label, set_companies, set_rows};
 
 use crate::rows::{
     CLEARANCES, HELD, PROFILE, REST, companies_in, flag, label_in, profile_in, row_of,
@@ -11,18 +11,18 @@ use crate::rows::{
 use model::{Label, Profile};
 
 pub fn is_enrolled(unit: &[[u8; 16]], s: u8) -> bool
-    requires unit_len { length unit.now ≡ rowCount }
-    requires s_lt_subject_count { s < subjectCount }
-    ensures { result ≡ enrolled (stateIn unit.now) s }
+    requires unit_len { length unit.now ≡ row_count }
+    requires s_lt_subject_count { s < subject_count }
+    ensures { result ≡ enrolled (state_in unit.now) s }
 {
     let i = CLEARANCES + s as usize;
     unit[i][2] == 1
 }
 
 pub fn clearance_of(unit: &[[u8; 16]], s: u8) -> Label
-    requires unit_len { length unit.now ≡ rowCount }
-    requires s_lt_subject_count { s < subjectCount }
-    ensures { result ≡ clearance (stateIn unit.now) s }
+    requires unit_len { length unit.now ≡ row_count }
+    requires s_lt_subject_count { s < subject_count }
+    ensures { result ≡ clearance (state_in unit.now) s }
 {
     let row = unit[CLEARANCES + s as usize];
     label_in(row)
@@ -30,44 +30,44 @@ pub fn clearance_of(unit: &[[u8; 16]], s: u8) -> Label
 
 // The profile of the monitor.
 pub fn profile_of(unit: &[[u8; 16]]) -> Profile
-    requires { length unit.now ≡ rowCount }
-    ensures { result ≡ (stateIn unit.now).profile }
+    requires { length unit.now ≡ row_count }
+    ensures { result ≡ (state_in unit.now).profile }
 {
     let row = unit[PROFILE];
     profile_in(row)
 }
 
 pub fn is_live(unit: &[[u8; 16]], o: u8) -> bool
-    requires unit_len { length unit.now ≡ rowCount }
-    requires o_lt_object_count { o < objectCount }
-    ensures { result ≡ (object (stateIn unit.now) o).live }
+    requires unit_len { length unit.now ≡ row_count }
+    requires o_lt_object_count { o < object_count }
+    ensures { result ≡ (object (state_in unit.now) o).live }
 {
     let i = REST + o as usize;
     unit[i][0] == 1
 }
 
 pub fn is_owner(unit: &[[u8; 16]], s: u8, o: u8) -> bool
-    requires unit_len { length unit.now ≡ rowCount }
-    requires o_lt_object_count { o < objectCount }
-    ensures { result ≡ owns s (object (stateIn unit.now) o) }
+    requires unit_len { length unit.now ≡ row_count }
+    requires o_lt_object_count { o < object_count }
+    ensures { result ≡ owns s (object (state_in unit.now) o) }
 {
     let i = REST + o as usize;
     unit[i][1] == s
 }
 
 pub fn owner_of(unit: &[[u8; 16]], o: u8) -> u8
-    requires unit_len { length unit.now ≡ rowCount }
-    requires o_lt_object_count { o < objectCount }
-    ensures { result ≡ (object (stateIn unit.now) o).owner }
+    requires unit_len { length unit.now ≡ row_count }
+    requires o_lt_object_count { o < object_count }
+    ensures { result ≡ (object (state_in unit.now) o).owner }
 {
     let i = REST + o as usize;
     unit[i][1]
 }
 
 pub fn label_of(unit: &[[u8; 16]], o: u8) -> Label
-    requires unit_len { length unit.now ≡ rowCount }
-    requires o_lt_object_count { o < objectCount }
-    ensures { result ≡ (object (stateIn unit.now) o).label }
+    requires unit_len { length unit.now ≡ row_count }
+    requires o_lt_object_count { o < object_count }
+    ensures { result ≡ (object (state_in unit.now) o).label }
 {
     let row = unit[REST + o as usize];
     label_in(row)
@@ -75,9 +75,9 @@ pub fn label_of(unit: &[[u8; 16]], o: u8) -> Label
 
 // The four company numbers of an object, in one.
 pub fn companies_of(unit: &[[u8; 16]], o: u8) -> u16
-    requires unit_len { length unit.now ≡ rowCount }
-    requires o_lt_object_count { o < objectCount }
-    ensures { result ≡ (object (stateIn unit.now) o).companies }
+    requires unit_len { length unit.now ≡ row_count }
+    requires o_lt_object_count { o < object_count }
+    ensures { result ≡ (object (state_in unit.now) o).companies }
 {
     let row = unit[REST + o as usize];
     companies_in(row)
@@ -85,18 +85,18 @@ pub fn companies_of(unit: &[[u8; 16]], o: u8) -> u16
 
 // The parent of an object, its number plus one, or 0.
 pub fn parent_of(unit: &[[u8; 16]], o: u8) -> u8
-    requires unit_len { length unit.now ≡ rowCount }
-    requires o_lt_object_count { o < objectCount }
-    ensures { result ≡ (object (stateIn unit.now) o).parent }
+    requires unit_len { length unit.now ≡ row_count }
+    requires o_lt_object_count { o < object_count }
+    ensures { result ≡ (object (state_in unit.now) o).parent }
 {
     let i = REST + o as usize;
     unit[i][8]
 }
 
 pub fn rights_of(unit: &[[u8; 16]], o: u8, s: u8) -> u8
-    requires unit_len { length unit.now ≡ rowCount }
-    requires o_lt_object_count { (o < objectCount) × (s < subjectCount) }
-    ensures { result ≡ rightsOf (object (stateIn unit.now) o) s }
+    requires unit_len { length unit.now ≡ row_count }
+    requires o_lt_object_count { (o < object_count) × (s < subject_count) }
+    ensures { result ≡ rights_of (object (state_in unit.now) o) s }
 {
     let i = o as usize;
     let j = s as usize;
@@ -104,9 +104,9 @@ pub fn rights_of(unit: &[[u8; 16]], o: u8, s: u8) -> u8
 }
 
 pub fn held_by(unit: &[[u8; 16]], o: u8, s: u8) -> u8
-    requires unit_len { length unit.now ≡ rowCount }
-    requires o_lt_object_count { (o < objectCount) × (s < subjectCount) }
-    ensures { result ≡ heldBy (object (stateIn unit.now) o) s }
+    requires unit_len { length unit.now ≡ row_count }
+    requires o_lt_object_count { (o < object_count) × (s < subject_count) }
+    ensures { result ≡ held_by (object (state_in unit.now) o) s }
 {
     let i = HELD + o as usize;
     let j = s as usize;
@@ -115,17 +115,17 @@ pub fn held_by(unit: &[[u8; 16]], o: u8, s: u8) -> u8
 
 // The accesses of all subjects at an object.
 pub fn held_row(unit: &[[u8; 16]], o: u8) -> [u8; 16]
-    requires unit_len { length unit.now ≡ rowCount }
-    requires o_lt_object_count { o < objectCount }
-    ensures { result ≡ (object (stateIn unit.now) o).held }
+    requires unit_len { length unit.now ≡ row_count }
+    requires o_lt_object_count { o < object_count }
+    ensures { result ≡ (object (state_in unit.now) o).held }
 {
     unit[HELD + o as usize]
 }
 
 pub fn set_rights(unit: &mut [[u8; 16]], o: u8, s: u8, n: u8)
-    requires* do_value { do ⌜ (← ⟦unit.len()⟧) ≡ rowCount ⌝ }
-    requires o_lt_object_count { (o < objectCount) × (s < subjectCount) }
-    ensures { unit.new ≡ setRights unit.old o s n }
+    requires unit_len { length unit.old ≡ row_count }
+    requires o_lt_object_count { (o < object_count) × (s < subject_count) }
+    ensures { unit.new ≡ set_rights unit.old o s n }
 {
     let i = o as usize;
     let j = s as usize;
@@ -135,9 +135,9 @@ pub fn set_rights(unit: &mut [[u8; 16]], o: u8, s: u8, n: u8)
 }
 
 pub fn set_held(unit: &mut [[u8; 16]], o: u8, s: u8, n: u8)
-    requires* do_value { do ⌜ (← ⟦unit.len()⟧) ≡ rowCount ⌝ }
-    requires o_lt_object_count { (o < objectCount) × (s < subjectCount) }
-    ensures { unit.new ≡ setHeld unit.old o s n }
+    requires unit_len { length unit.old ≡ row_count }
+    requires o_lt_object_count { (o < object_count) × (s < subject_count) }
+    ensures { unit.new ≡ set_held unit.old o s n }
 {
     let i = HELD + o as usize;
     let j = s as usize;
@@ -148,25 +148,25 @@ pub fn set_held(unit: &mut [[u8; 16]], o: u8, s: u8, n: u8)
 
 // The row of an object that has all but its sets, as it stands; a refused change of its label or of its company numbers puts it back.
 pub fn rest_of(unit: &[[u8; 16]], o: u8) -> [u8; 16]
-    requires unit_len { length unit.now ≡ rowCount }
-    requires o_lt_object_count { o < objectCount }
-    ensures { result ≡ row_at unit.now (restRow o) }
+    requires unit_len { length unit.now ≡ row_count }
+    requires o_lt_object_count { o < object_count }
+    ensures { result ≡ row_at unit.now (rest_row o) }
 {
     unit[REST + o as usize]
 }
 
 pub fn set_rest(unit: &mut [[u8; 16]], o: u8, row: [u8; 16])
-    requires* do_value { do ⌜ (← ⟦unit.len()⟧) ≡ rowCount ⌝ }
-    requires o_lt_object_count { o < objectCount }
-    ensures { unit.new ≡ set unit.old (restRow o) row }
+    requires unit_len { length unit.old ≡ row_count }
+    requires o_lt_object_count { o < object_count }
+    ensures { unit.new ≡ set unit.old (rest_row o) row }
 {
     unit[REST + o as usize] = row;
 }
 
 pub fn set_label(unit: &mut [[u8; 16]], o: u8, label: Label)
-    requires* do_value { do ⌜ (← ⟦unit.len()⟧) ≡ rowCount ⌝ }
-    requires o_lt_object_count { o < objectCount }
-    ensures { unit.new ≡ setLabel unit.old o label }
+    requires unit_len { length unit.old ≡ row_count }
+    requires o_lt_object_count { o < object_count }
+    ensures { unit.new ≡ set_label unit.old o label }
 {
     let row = rest_of(unit, o);
     let companies = companies_in(row);
@@ -175,9 +175,9 @@ pub fn set_label(unit: &mut [[u8; 16]], o: u8, label: Label)
 }
 
 pub fn set_companies(unit: &mut [[u8; 16]], o: u8, companies: u16)
-    requires* do_value { do ⌜ (← ⟦unit.len()⟧) ≡ rowCount ⌝ }
-    requires o_lt_object_count { o < objectCount }
-    ensures { unit.new ≡ setCompanies unit.old o companies }
+    requires unit_len { length unit.old ≡ row_count }
+    requires o_lt_object_count { o < object_count }
+    ensures { unit.new ≡ set_companies unit.old o companies }
 {
     let row = rest_of(unit, o);
     let kept = label_in(row);
@@ -187,9 +187,9 @@ pub fn set_companies(unit: &mut [[u8; 16]], o: u8, companies: u16)
 
 // The three rows of an object.
 pub fn set_rows(unit: &mut [[u8; 16]], o: u8, rights: [u8; 16], held: [u8; 16], rest: [u8; 16])
-    requires* do_value { do ⌜ (← ⟦unit.len()⟧) ≡ rowCount ⌝ }
-    requires o_lt_object_count { o < objectCount }
-    ensures { unit.new ≡ setRows unit.old o rights held rest }
+    requires unit_len { length unit.old ≡ row_count }
+    requires o_lt_object_count { o < object_count }
+    ensures { unit.new ≡ set_rows unit.old o rights held rest }
 {
     let i = o as usize;
     unit[i] = rights;

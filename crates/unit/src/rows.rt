@@ -2,8 +2,8 @@
 // in one byte behind it.
 ghost use Rattle.std.specs.Prelude.{◌≡◌, ◌+◌, ◌*◌, ◌/◌, ◌%◌};
 ghost use Rattle.bits.specs.Bits.{bit};
-ghost use Rattle.unit.specs.Rows.{levelIn, labelIn, companiesIn, profileIn};
-ghost use Rattle.unit.specs.Stored.{labelBytes, row_of, profileOf};
+ghost use Rattle.unit.specs.Rows.{level_in, label_in, companies_in, profile_in};
+ghost use Rattle.unit.specs.Stored.{label_bytes, row_of, profile_of};
 
 use model::{Label, Level, Monitor, Profile};
 
@@ -44,7 +44,7 @@ pub fn flag(b: bool) -> u8
 
 // The level that a row says where it has one.
 fn level_in(row: [u8; 16]) -> Level
-    ensures { result ≡ levelIn row }
+    ensures { result ≡ level_in row }
 {
     let class = row[3];
     let high = row[4];
@@ -57,7 +57,7 @@ fn level_in(row: [u8; 16]) -> Level
 
 // The label that a row says, or none.
 pub fn label_in(row: [u8; 16]) -> Label
-    ensures { result ≡ labelIn row }
+    ensures { result ≡ label_in row }
 {
     if row[2] == 1 {
         Label::Present(level_in(row))
@@ -68,14 +68,14 @@ pub fn label_in(row: [u8; 16]) -> Label
 
 // The company numbers that a row says.
 pub fn companies_in(row: [u8; 16]) -> u16
-    ensures { result ≡ companiesIn row }
+    ensures { result ≡ companies_in row }
 {
     word(row[6], row[7])
 }
 
 // The profile that a row says.
 pub fn profile_in(row: [u8; 16]) -> Profile
-    ensures { result ≡ profileIn row }
+    ensures { result ≡ profile_in row }
 {
     let subjects = row[0];
     let objects = row[1];
@@ -96,7 +96,7 @@ struct LabelBytes {
 }
 
 fn label_bytes(label: Label) -> LabelBytes
-    ensures { result ≡ labelBytes label }
+    ensures { result ≡ label_bytes label }
 {
     match label {
         Label::Absent => LabelBytes {
@@ -128,7 +128,7 @@ pub fn row_of(a: u8, b: u8, label: Label, companies: u16, parent: u8) -> [u8; 16
 
 // The row of a profile.
 pub fn profile_row(p: Profile) -> [u8; 16]
-    ensures { result ≡ profileOf p }
+    ensures { result ≡ profile_of p }
 {
     let highest = p.highest;
     row_of(p.subjects, p.objects, Label::Present(highest), 0, 0)

@@ -1,8 +1,8 @@
 // A whole record out of its rows, and the rows of a record and of a monitor.
 ghost use Rattle.std.specs.Prelude.{◌≡◌, ◌<◌, length};
-ghost use Rattle.model.specs.State.{objectCount, object};
-ghost use Rattle.unit.specs.Rows.{rowCount, objectOf, stateIn};
-ghost use Rattle.unit.specs.Stored.{setObject, unit_of};
+ghost use Rattle.model.specs.State.{object_count, object};
+ghost use Rattle.unit.specs.Rows.{row_count, object_of, state_in};
+ghost use Rattle.unit.specs.Stored.{set_object, unit_of};
 
 use crate::parts::set_rows;
 use crate::rows::{
@@ -12,7 +12,7 @@ use model::{Monitor, Object};
 
 // The record that three rows say.
 pub fn object_of(rights: [u8; 16], held: [u8; 16], rest: [u8; 16]) -> Object
-    ensures { result ≡ objectOf rights held rest }
+    ensures { result ≡ object_of rights held rest }
 {
     let label = label_in(rest);
     let companies = companies_in(rest);
@@ -29,9 +29,9 @@ pub fn object_of(rights: [u8; 16], held: [u8; 16], rest: [u8; 16]) -> Object
 
 // The record of an object.
 pub fn object_in(unit: &[[u8; 16]], o: u8) -> Object
-    requires unit_len { length unit.now ≡ rowCount }
-    requires o_lt_object_count { o < objectCount }
-    ensures { result ≡ object (stateIn unit.now) o }
+    requires unit_len { length unit.now ≡ row_count }
+    requires o_lt_object_count { o < object_count }
+    ensures { result ≡ object (state_in unit.now) o }
 {
     let i = o as usize;
     let rights = unit[i];
@@ -41,9 +41,9 @@ pub fn object_in(unit: &[[u8; 16]], o: u8) -> Object
 }
 
 pub fn set_object(unit: &mut [[u8; 16]], o: u8, ob: Object)
-    requires* do_value { do ⌜ (← ⟦unit.len()⟧) ≡ rowCount ⌝ }
-    requires o_lt_object_count { o < objectCount }
-    ensures { unit.new ≡ setObject unit.old o ob }
+    requires unit_len { length unit.old ≡ row_count }
+    requires o_lt_object_count { o < object_count }
+    ensures { unit.new ≡ set_object unit.old o ob }
 {
     let rights = ob.rights;
     let held = ob.held;
@@ -54,7 +54,7 @@ pub fn set_object(unit: &mut [[u8; 16]], o: u8, ob: Object)
 
 // Every row of a monitor.
 pub fn fill(unit: &mut [[u8; 16]], m: Monitor)
-    requires* { do ⌜ (← ⟦unit.len()⟧) ≡ rowCount ⌝ }
+    requires unit_len { length unit.old ≡ row_count }
     ensures { unit.new ≡ unit_of m }
 {
     let mut o = 0usize;

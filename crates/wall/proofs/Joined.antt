@@ -11,7 +11,7 @@ use borrow.Author.Tests.{eqb-true, eqb-false, eq-eqb, ne_eqb}
 use Rattle.model.specs.Companies.{company, Compatible, Confined}
 use Rattle.model.proofs.Tests.{split, apart, and_both, cond-all, cond-true, cond-false, below_out}
 use Rattle.model.proofs.Companies.{four-numbers, no-company}
-use Rattle.wall.specs.Joined.{numberOr, joined, joinedBelow}
+use Rattle.wall.specs.Joined.{number_or, joined, joined_below}
 
 -- ---- the four numbers of two objects, joined
 
@@ -23,21 +23,21 @@ pub last-company : (n : ℕ) → n % 16 ≡ company 3 n
 unfolding company
 last-company n = omega arith
 
-pub number-or-fits : (a b : ℕ) → a < 16 → b < 16 → numberOr a b < 16
+pub number-or-fits : (a b : ℕ) → a < 16 → b < 16 → number_or a b < 16
 number-or-fits a b h g = cond-all (λ (n : ℕ). n < 16) (eqb a 0) b a (λ e. g) (λ e. h)
 
 -- in each class the number of p, and where that is 0 the number of q
-pub joined-company : (k p q : ℕ) → k < 4 → company k (joined p q) ≡ numberOr (company k p) (company k q)
+pub joined-company : (k p q : ℕ) → k < 4 → company k (joined p q) ≡ number_or (company k p) (company k q)
 unfolding joined
 joined-company k p q h =
-    let fits : (i : ℕ) → numberOr (company i p) (company i q) < 16 = λ i. number-or-fits _ _ (company-fits i p) (company-fits i q) in
+    let fits : (i : ℕ) → number_or (company i p) (company i q) < 16 = λ i. number-or-fits _ _ (company-fits i p) (company-fits i q) in
     let four = four-numbers _ _ _ _ (fits 0) (fits 1) (fits 2) (fits 3) in
     eqb-true _ _
-    (below_out 4 (λ (i : ℕ). eqb (company i (joined p q)) (numberOr (company i p) (company i q)))
+    (below_out 4 (λ (i : ℕ). eqb (company i (joined p q)) (number_or (company i p) (company i q)))
     (and_both (and_both (and_both (eq-eqb _ _ four.0) (eq-eqb _ _ four.1)) (eq-eqb _ _ four.2)) (eq-eqb _ _ four.3)) k h)
 
 -- nothing is joined to p by what has no number, and nothing by the same numbers
-number_same : (a b : ℕ) → (b ≡ 0) ⊎ (b ≡ a) → numberOr a b ≡ a
+number_same : (a b : ℕ) → (b ≡ 0) ⊎ (b ≡ a) → number_or a b ≡ a
 number_same a b h =
     split (eqb a 0)
     (λ e. cond-true (eqb a 0) b a e ∙ ⊎_elim (λ (z : b ≡ 0). z ∙ sym (eqb-true a 0 e)) (λ (z : b ≡ a). z) h)
@@ -59,7 +59,7 @@ four-back n h =
 pub joined_same : (p q : ℕ) → p < 65536 → (q ≡ 0) ⊎ (p ≡ q) → p ≡ joined p q
 unfolding joined
 joined_same p q h e =
-    let same : (k : ℕ) → k < 4 → numberOr (company k p) (company k q) ≡ company k p =
+    let same : (k : ℕ) → k < 4 → number_or (company k p) (company k q) ≡ company k p =
     λ k b. number_same (company k p) (company k q)
     (⊎_elim (λ (z : q ≡ 0). inl (ap (company k) z ∙ no-company k b)) (λ (z : p ≡ q). inr (sym (ap (company k) z))) e) in
     sym (rw (same 0 (omega arith), same 1 (omega arith), same 2 (omega arith), same 3 (omega arith)) (ap (λ (i : ℕ). company 0 p * 4096 + company 1 p * 256 + company 2 p * 16 + i) (sym (last-company p)) ∙ four-back p h))
@@ -99,11 +99,11 @@ joined-adds p q C k h n =
 
 module _ (f : ℕ → Bool) (g : ℕ → ℕ) where
   -- a number of a class that is not 0 is that of one of them
-  joined-from : (n k : ℕ) → k < 4 → company k (joinedBelow n f g) ≢ 0
-      → (j : ℕ) × ((j < n) × ((f j ≡ true) × (company k (g j) ≡ company k (joinedBelow n f g))))
+  joined-from : (n k : ℕ) → k < 4 → company k (joined_below n f g) ≢ 0
+      → (j : ℕ) × ((j < n) × ((f j ≡ true) × (company k (g j) ≡ company k (joined_below n f g))))
   joined-from zero k h = λ z. absurd (z (no-company k h))
   joined-from (suc n) k h =
-      let W = joinedBelow n f g in
+      let W = joined_below n f g in
       let earlier : company k W ≢ 0 → (j : ℕ) × ((j < suc n) × ((f j ≡ true) × (company k (g j) ≡ company k W))) =
       λ z. let i = joined-from n k h z in (i.0, (omega (arith, i.1.0), i.1.1)) in
       cond-all (λ (w : ℕ). company k w ≢ 0 → (j : ℕ) × ((j < suc n) × ((f j ≡ true) × (company k (g j) ≡ company k w)))) (f n) (joined W (g n)) W
@@ -115,14 +115,14 @@ module _ (f : ℕ → Bool) (g : ℕ → ℕ) where
       (λ t z. earlier z)
 
   -- where each is compatible with those before it, joined, every number of each is in the joined numbers of all
-  pub joined-covers : (n : ℕ) → ((j : ℕ) → j < n → f j ≡ true → Compatible (joinedBelow j f g) (g j))
-      → (j : ℕ) → j < n → f j ≡ true → Confined (g j) (joinedBelow n f g)
+  pub joined-covers : (n : ℕ) → ((j : ℕ) → j < n → f j ≡ true → Compatible (joined_below j f g) (g j))
+      → (j : ℕ) → j < n → f j ≡ true → Confined (g j) (joined_below n f g)
   joined-covers zero C j h t = absurd (not-suc-le-zero h)
   joined-covers (suc n) C j h t =
-      let W = joinedBelow n f g in
+      let W = joined_below n f g in
       ⊎_elim
       (λ (e : j ≡ n).
-      subst (λ (i : ℕ). Confined (g i) (joinedBelow (suc n) f g)) (sym e)
+      subst (λ (i : ℕ). Confined (g i) (joined_below (suc n) f g)) (sym e)
       (cond-all (Confined (g n)) (f n) (joined W (g n)) W (λ u. joined-adds W (g n) (C n (omega arith) u)) (λ u. apart (sym (ap f e) ∙ t) u)))
       (λ (w : j < n).
       let old = joined-covers n (λ i v. C i (omega arith)) j w t in
@@ -130,16 +130,16 @@ module _ (f : ℕ → Bool) (g : ℕ → ℕ) where
       (eq-or-lt_of_le (le_of_suc-le-suc h))
 
   -- what each of them is to q, their joined numbers are to q
-  pub joined-compatible : (n q : ℕ) → ((j : ℕ) → j < n → f j ≡ true → Compatible (g j) q) → Compatible (joinedBelow n f g) q
+  pub joined-compatible : (n q : ℕ) → ((j : ℕ) → j < n → f j ≡ true → Compatible (g j) q) → Compatible (joined_below n f g) q
   joined-compatible n q C k h =
       ⊎_elim (λ z. inl z)
-      (λ (z : company k (joinedBelow n f g) ≢ 0).
+      (λ (z : company k (joined_below n f g) ≢ 0).
       let i = joined-from n k h z in
       let e = i.1.1.1 in
       ⊎_elim (λ v. absurd (z (sym e ∙ v))) (λ v. inr (⊎_elim (λ u. inl u) (λ u. inr (sym e ∙ u)) v)) (C i.0 i.1.0 i.1.1.0 k h))
-      (none_or_some (company k (joinedBelow n f g)))
+      (none_or_some (company k (joined_below n f g)))
 
-  pub joined-confined : (n q : ℕ) → ((j : ℕ) → j < n → f j ≡ true → Confined (g j) q) → Confined (joinedBelow n f g) q
+  pub joined-confined : (n q : ℕ) → ((j : ℕ) → j < n → f j ≡ true → Confined (g j) q) → Confined (joined_below n f g) q
   joined-confined n q C k h z =
       let i = joined-from n k h z in
       let e = i.1.1.1 in

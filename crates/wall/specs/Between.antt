@@ -2,8 +2,8 @@
 -- Assumes nothing.
 use Rattle.std.specs.Prelude.{ℕ, Bool, List}
 use Rattle.model.specs.declared.Object.{Object}
-use Rattle.model.specs.Rules.{wallFor}
+use Rattle.model.specs.Rules.{wall_for}
 use Rattle.star.specs.Between.{between}
 
-abbrev pub wallBetween : ℕ → ℕ → List Object → Bool
-wallBetween low high l = between low high (λ (s : ℕ). wallFor s l)
+abbrev pub wall_between : ℕ → ℕ → List Object → Bool
+wall_between low high l = between low high (λ (s : ℕ). wall_for s l)

@@ -1,14 +1,17 @@
 // The wall between competing companies (change request §10): over all objects for some of the subjects, and for two accesses.
+
+#![tactic(auto)]
+
 mod lists;
 mod numbers;
 
 ghost use Rattle.std.specs.Prelude.{◌≡◌, not, ◌<◌, ◌≤◌, length};
-ghost use Rattle.model.specs.Companies.{wallKept};
-ghost use Rattle.model.specs.Rules.{wallFor};
-ghost use Rattle.model.specs.State.{subjectCount};
-ghost use Rattle.unit.specs.Rows.{rowCount, objectsIn};
-ghost use Rattle.wall.specs.Between.{wallBetween};
-ghost use Rattle.wall.specs.Lists.{noCompanies};
+ghost use Rattle.model.specs.Companies.{wall_kept};
+ghost use Rattle.model.specs.Rules.{wall_for};
+ghost use Rattle.model.specs.State.{subject_count};
+ghost use Rattle.unit.specs.Rows.{row_count, objects_in};
+ghost use Rattle.wall.specs.Between.{wall_between};
+ghost use Rattle.wall.specs.Lists.{no_companies};
 
 use crate::lists::{altered_confined, join_numbers, list_accessed};
 use crate::numbers::{compatible, confined};
@@ -19,7 +22,7 @@ use unit::companies_of;
 
 // Whether two accesses keep the wall: x to an object with the company numbers p, y to one with q.
 pub fn companies_keep(x: Mode, p: u16, y: Mode, q: u16) -> bool
-    ensures { result ≡ wallKept x y p q }
+    ensures { result ≡ wall_kept x y p q }
 {
     let first = implies(observes(x) & alters(y), confined(p, q));
     let second = implies(observes(y) & alters(x), confined(q, p));
@@ -28,8 +31,8 @@ pub fn companies_keep(x: Mode, p: u16, y: Mode, q: u16) -> bool
 
 // No object has a company number: left at the first that has one.
 fn no_companies(unit: &[[u8; 16]]) -> bool
-    requires { length unit.now ≡ rowCount }
-    ensures { result ≡ noCompanies (objectsIn unit.now) }
+    requires { length unit.now ≡ row_count }
+    ensures { result ≡ no_companies (objects_in unit.now) }
 {
     let mut o = 0usize;
     while o < Monitor::OBJECTS {
@@ -43,9 +46,9 @@ fn no_companies(unit: &[[u8; 16]]) -> bool
 
 // Whether subject s breaks the wall: the objects that it has an access to are listed, and gone over once for each of the two rules.
 fn subject_breaks_wall(unit: &[[u8; 16]], s: u8) -> bool
-    requires unit_len { length unit.now ≡ rowCount }
-    requires s_lt_subject_count { s < subjectCount }
-    ensures { result ≡ not (wallFor s (objectsIn unit.now)) }
+    requires unit_len { length unit.now ≡ row_count }
+    requires s_lt_subject_count { s < subject_count }
+    ensures { result ≡ not (wall_for s (objects_in unit.now)) }
 {
     let mut accessed = [0u8; Monitor::OBJECTS];
     let count = list_accessed(unit, s, &mut accessed);
@@ -56,9 +59,9 @@ fn subject_breaks_wall(unit: &[[u8; 16]], s: u8) -> bool
 
 // Whether a subject from low to below high breaks the wall. Where no object has a company number, nobody does.
 pub fn breaks_wall(unit: &[[u8; 16]], low: usize, high: usize) -> bool
-    requires unit_len { length unit.now ≡ rowCount }
-    requires high_le_subject_count { high ≤ subjectCount }
-    ensures { result ≡ not (wallBetween low high (objectsIn unit.now)) }
+    requires unit_len { length unit.now ≡ row_count }
+    requires high_le_subject_count { high ≤ subject_count }
+    ensures { result ≡ not (wall_between low high (objects_in unit.now)) }
 {
     if no_companies(unit) {
         return false;

@@ -1,10 +1,10 @@
 // The objects that a subject has an access to, listed in an array that the caller lends, and their company numbers.
 ghost use Rattle.std.specs.Prelude.{◌≡◌, ◌<◌, length};
-ghost use Rattle.model.specs.State.{subjectCount, objectCount, objectAt};
-ghost use Rattle.unit.specs.Rows.{rowCount, objectsIn};
+ghost use Rattle.model.specs.State.{subject_count, object_count, object_at};
+ghost use Rattle.unit.specs.Rows.{row_count, objects_in};
 ghost use Rattle.star.specs.Lists.{Listed, itself, Numbers};
-ghost use Rattle.wall.specs.Joined.{joinedBelow, joins, confinedTo};
-ghost use Rattle.wall.specs.Lists.{accessedBy, numbersAt, readAt, alteredAt};
+ghost use Rattle.wall.specs.Joined.{joined_below, joins, confined_to};
+ghost use Rattle.wall.specs.Lists.{accessed_by, numbers_at, read_at, altered_at};
 
 use crate::numbers::{compatible, confined, joined, joined_if};
 use labels::implies;
@@ -15,10 +15,10 @@ use unit::{companies_of, held_by};
 
 // The objects at which subject s holds a mode, e too. Each number is stored, and counted where it passes.
 pub fn list_accessed(unit: &[[u8; 16]], s: u8, accessed: &mut [u8]) -> usize
-    requires unit_len { length unit.now ≡ rowCount }
-    requires* do_value { do ⌜ (← ⟦accessed.len()⟧) ≡ objectCount ⌝ }
-    requires s_lt_subject_count { s < subjectCount }
-    ensures { Listed (accessedBy s (objectAt (objectsIn unit.now))) itself accessed.new result objectCount }
+    requires unit_len { length unit.now ≡ row_count }
+    requires accessed_len { length accessed.old ≡ object_count }
+    requires s_lt_subject_count { s < subject_count }
+    ensures { Listed (accessed_by s (object_at (objects_in unit.now))) itself accessed.new result object_count }
 {
     let mut count = 0usize;
     let mut o = 0usize;
@@ -40,11 +40,11 @@ pub struct Joint {
 
 // Each object is compared with all before it at once, by their joined numbers: where these are compatible, each class has one number that is not 0 at most.
 pub fn join_numbers(unit: &[[u8; 16]], s: u8, list: &[u8], count: usize) -> Joint
-    requires unit_len { length unit.now ≡ rowCount }
-    requires list_len { length list.now ≡ objectCount }
-    requires s_lt_subject_count { (s < subjectCount) × Numbers list.now count }
-    ensures first { result.compatible ≡ joins count (numbersAt (objectAt (objectsIn unit.now)) list.now) }
-    ensures second { result.read ≡ joinedBelow count (readAt s (objectAt (objectsIn unit.now)) list.now) (numbersAt (objectAt (objectsIn unit.now)) list.now) }
+    requires unit_len { length unit.now ≡ row_count }
+    requires list_len { length list.now ≡ object_count }
+    requires s_lt_subject_count { (s < subject_count) × Numbers list.now count }
+    ensures first { result.compatible ≡ joins count (numbers_at (object_at (objects_in unit.now)) list.now) }
+    ensures second { result.read ≡ joined_below count (read_at s (object_at (objects_in unit.now)) list.now) (numbers_at (object_at (objects_in unit.now)) list.now) }
 {
     let mut fit = true;
     let mut seen = 0u16;
@@ -66,10 +66,10 @@ pub fn join_numbers(unit: &[[u8; 16]], s: u8, list: &[u8], count: usize) -> Join
 
 // Whether each listed object that the subject alters has every number of those that it reads.
 pub fn altered_confined(unit: &[[u8; 16]], s: u8, list: &[u8], count: usize, read: u16) -> bool
-    requires unit_len { length unit.now ≡ rowCount }
-    requires list_len { length list.now ≡ objectCount }
-    requires s_lt_subject_count { (s < subjectCount) × Numbers list.now count }
-    ensures { result ≡ confinedTo count (alteredAt s (objectAt (objectsIn unit.now)) list.now) read (numbersAt (objectAt (objectsIn unit.now)) list.now) }
+    requires unit_len { length unit.now ≡ row_count }
+    requires list_len { length list.now ≡ object_count }
+    requires s_lt_subject_count { (s < subject_count) × Numbers list.now count }
+    ensures { result ≡ confined_to count (altered_at s (object_at (objects_in unit.now)) list.now) read (numbers_at (object_at (objects_in unit.now)) list.now) }
 {
     let mut kept = true;
     let mut i = 0usize;

@@ -1,7 +1,7 @@
 // Company numbers: four in one number, one for each conflict class, the first class highest. The four classes are written out.
 ghost use Rattle.std.specs.Prelude.{◌≡◌, ◌||◌, cond, eqb};
 ghost use Rattle.model.specs.Companies.{compatible, confined};
-ghost use Rattle.wall.specs.Joined.{numberOr, joined};
+ghost use Rattle.wall.specs.Joined.{number_or, joined};
 
 // Two numbers of one class do not compete: one is 0, or they are equal.
 fn no_conflict(a: u16, b: u16) -> bool
@@ -61,7 +61,7 @@ pub fn confined(p: u16, q: u16) -> bool
 
 // The first number, and where that is 0 the second.
 fn number_or(a: u16, b: u16) -> u16
-    ensures { result ≡ numberOr a b }
+    ensures { result ≡ number_or a b }
 {
     if a == 0 { b } else { a }
 }

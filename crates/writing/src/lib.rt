@@ -1,10 +1,13 @@
 // The image writer: records one behind the other across byte borders.
 // The bits of a byte that is not full yet wait in a register, which each function is given and hands back.
+
+#![tactic(auto)]
+
 ghost use Rattle.std.specs.Prelude.{◌≡◌, ◌+◌, ◌*◌, ◌≤◌, ◌<◌, length};
 ghost use Rattle.bits.specs.Stream.{Appends};
-ghost use Rattle.model.specs.Layout.{objectWidth, tableWidth, imageSize, objectBits, tableBits, objectsBits};
+ghost use Rattle.model.specs.Layout.{object_width, table_width, image_size, object_bits, table_bits, objects_bits};
 ghost use Rattle.model.specs.Writing.{writing, written};
-ghost use Rattle.unit.specs.Rows.{rowCount, subjectsIn, objectsIn, stateIn};
+ghost use Rattle.unit.specs.Rows.{row_count, subjects_in, objects_in, state_in};
 
 use empty_slots::{is_none, write_zeros};
 use model::{Decision, Monitor, Object};
@@ -13,8 +16,8 @@ use unit::{clearance_of, object_in};
 
 // An object's record: live, owner, the label, the company numbers, the sets, the parent.
 fn write_object(out: &mut [u8], at: usize, acc: u32, object: Object) -> u32
-    requires { (at + objectWidth ≤ 8 * imageSize) × (imageSize ≤ length out.old) }
-    ensures { Appends out.old at acc (objectBits object) out.new (at + objectWidth) result }
+    requires { (at + object_width ≤ 8 * image_size) × (image_size ≤ length out.old) }
+    ensures { Appends out.old at acc (object_bits object) out.new (at + object_width) result }
 {
     if is_none(object) {
         return write_zeros(out, at, acc, Monitor::OBJECT_BITS);
@@ -35,9 +38,9 @@ fn write_object(out: &mut [u8], at: usize, acc: u32, object: Object) -> u32
 
 // The table at the start of the image.
 fn write_subjects(out: &mut [u8], unit: &[[u8; 16]]) -> u32
-    requires image_size_in_bounds { imageSize ≤ length out.old }
-    requires unit_len { length unit.now ≡ rowCount }
-    ensures { Appends out.old 0 0 (tableBits (subjectsIn unit.now)) out.new tableWidth result }
+    requires image_size_in_bounds { image_size ≤ length out.old }
+    requires unit_len { length unit.now ≡ row_count }
+    ensures { Appends out.old 0 0 (table_bits (subjects_in unit.now)) out.new table_width result }
 {
     let mut waiting: u32 = 0;
     let mut s: usize = 0;
@@ -51,9 +54,9 @@ fn write_subjects(out: &mut [u8], unit: &[[u8; 16]]) -> u32
 
 // The object records, behind the bits of the table.
 fn write_objects(out: &mut [u8], acc: u32, unit: &[[u8; 16]]) -> u32
-    requires image_size_in_bounds { (imageSize ≤ length out.old) × (acc < 256) }
-    requires unit_len { length unit.now ≡ rowCount }
-    ensures { Appends out.old tableWidth acc (objectsBits (objectsIn unit.now)) out.new (8 * imageSize) result }
+    requires image_size_in_bounds { (image_size ≤ length out.old) × (acc < 256) }
+    requires unit_len { length unit.now ≡ row_count }
+    ensures { Appends out.old table_width acc (objects_bits (objects_in unit.now)) out.new (8 * image_size) result }
 {
     let mut waiting = acc;
     let mut o: usize = 0;
@@ -68,8 +71,8 @@ fn write_objects(out: &mut [u8], acc: u32, unit: &[[u8; 16]]) -> u32
 
 // The image of a unit's state into the first bytes of out; a shorter buffer is left as it is.
 pub fn save(unit: &[[u8; 16]], out: &mut [u8]) -> Decision
-    requires { length unit.now ≡ rowCount }
-    ensures { (result ≡ writing out.old) × (out.new ≡ written (stateIn unit.now) out.old) }
+    requires { length unit.now ≡ row_count }
+    ensures { (result ≡ writing out.old) × (out.new ≡ written (state_in unit.now) out.old) }
 {
     if out.len() < Monitor::IMAGE_BYTES {
         return Decision::ShortBuffer;

@@ -8,7 +8,7 @@ use Rattle.model.specs.Tests.{implies, unless}
 use Rattle.model.proofs.Tests.{apart, implies-in, not_on, not-off, not-not, pass, stop}
 use Rattle.star.proofs.Between.{between-one}
 use Rattle.wall.proofs.Between.{wall-one}
-use Rattle.kinds.specs.Stages.{afterGet}
+use Rattle.kinds.specs.Stages.{after_get}
 use borrow.Author.Rules.{rules}
 use Rattle.accesses.proofs.access_fits.Statement.{statement}
 use Rattle.accesses.proofs.access_fits.Tie as tie
@@ -23,7 +23,7 @@ breaks-star-requires : tie.Need-breaks-star-requires
 breaks-star-requires c κs = search rules
 
 returns : tie.Need-returns
-unfolding afterGet implies
+unfolding after_get implies
 returns c =
     sym (stop _ StarBroken _
     (ap₂ implies (sym c.before.before.before.needs-label.ensures ∙ c.before.before.if1.true) (sym (between-one _ _ c.before.before.before.before.requires.1) ∙ not_on _ (sym c.before.breaks-star.ensures ∙ c.if2.true))))
@@ -38,7 +38,7 @@ check-requires : tie.Need-check-requires
 check-requires c κs = search rules
 
 returns-2 : tie.Need-returns-2
-unfolding afterGet
+unfolding after_get
 returns-2 c =
     c.check.ensures ∙ ap (λ b. unless b WallBroken Granted) (ap not c.before.breaks-wall.ensures ∙ not-not _ ∙ wall-one _ _ c.before.before.before.before.requires.1)
     ∙ sym (pass _ StarBroken _ (implies-in _ _ (λ w.

@@ -4,7 +4,7 @@ use mathlib.Core.Path.{◌≡◌, refl, sym, ap, ap₂, ◌∙◌}
 use Rattle.model.specs.declared.Request.TheVariants.{Get}
 use Rattle.model.specs.Modes.{has, add}
 use Rattle.model.specs.Rules.{already}
-use Rattle.unit.specs.Stored.{setHeld}
+use Rattle.unit.specs.Stored.{set_held}
 use Rattle.kinds.specs.Carried.{stores}
 use Rattle.kinds.proofs.Answers.{does-refused, does-granted, get_refused, get-last}
 use Rattle.kinds.proofs.Effects.{held_back}
@@ -17,7 +17,7 @@ stored : (c : tie.After-set-held) → c.set-held.new.0 ≡ stores (Get c.before.
 unfolding stores
 stored c =
     let start = c.before.before.before.before.before.before.before.before.before in
-    c.set-held.ensures ∙ ap (setHeld start.args.unit.now start.args.o start.args.s) (c.before.before.add.ensures ∙ ap (add start.args.x) c.before.before.before.held_by.ensures)
+    c.set-held.ensures ∙ ap (set_held start.args.unit.now start.args.o start.args.s) (c.before.before.add.ensures ∙ ap (add start.args.x) c.before.before.before.held_by.ensures)
 
 may-get-requires : tie.Need-may-get-requires
 may-get-requires c κs = search rules
@@ -70,7 +70,7 @@ returns-2 c =
     (get-last start.args.unit.now start.requires.0 start.args.s start.args.o start.args.x start.requires.1 _ c.before.before.before.before.before.before.before.before.before.before.before.before.before.before.before.before.may-get.ensures passed _ (stored held) _ c.before.before.before.before.before.before.access-fits.ensures) _
     (sym c.before.before.before.before.before.refuses2.ensures ∙ c.before.before.before.before.if2.true) c.number2.ensures
     (c.before.before.set-held2.ensures
-    ∙ ap₂ (λ w k. setHeld w start.args.o start.args.s k) held.set-held.ensures c.before.before.before.before.before.before.before.before.before.before.before.before.held_by.ensures
+    ∙ ap₂ (λ w k. set_held w start.args.o start.args.s k) held.set-held.ensures c.before.before.before.before.before.before.before.before.before.before.before.before.held_by.ensures
     ∙ held_back start.args.unit.now start.requires.0 start.args.o start.requires.1.1 start.args.s _)
 
 has-requires : tie.Need-has-requires

@@ -1,6 +1,6 @@
 -- `accesses::may_get` meets its contract.
 -- Assumes nothing.
-use Rattle.kinds.specs.Stages.{beforeStar}
+use Rattle.kinds.specs.Stages.{before_star}
 use borrow.Author.Rules.{rules}
 use Rattle.accesses.proofs.may_get.Statement.{statement}
 use Rattle.accesses.proofs.may_get.Tie as tie
@@ -57,7 +57,7 @@ check-requires-5 : tie.Need-check-requires-5
 check-requires-5 c κs = search rules
 
 returns : tie.Need-returns
-unfolding beforeStar
+unfolding before_star
 returns c = rw (c.check5.ensures, c.before.is-present2.ensures, c.before.before.check4.ensures, c.before.before.before.is_live.ensures, c.before.before.before.before.check3.ensures, c.before.before.before.before.before.check2.ensures, c.before.before.before.before.before.before.check.ensures, c.before.before.before.before.before.before.before.implies2.ensures, c.before.before.before.before.before.before.before.before.dominates.ensures, c.before.before.before.before.before.before.before.before.before.observes.ensures, c.before.before.before.before.before.before.before.before.before.before.implies.ensures, c.before.before.before.before.before.before.before.before.before.before.before.is-present.ensures, c.before.before.before.before.before.before.before.before.before.before.before.before.needs-label.ensures, c.before.before.before.before.before.before.before.before.before.before.before.before.before.has.ensures, c.before.before.before.before.before.before.before.before.before.before.before.before.before.before.rights-of.ensures, c.before.before.before.before.before.before.before.before.before.before.before.before.before.before.before.label_of.ensures, c.before.before.before.before.before.before.before.before.before.before.before.before.before.before.before.before.clearance-of.ensures)
 
 pub may-get-spec : {M : Type 1} → statement M

@@ -5,15 +5,15 @@ use Rattle.model.specs.declared.Request.TheVariants.{Release}
 use mathlib.Core.Bool.{not}
 use Rattle.model.specs.Modes.{has, remove}
 use Rattle.model.specs.Rules.{already, checks}
-use Rattle.unit.specs.Rows.{stateIn}
-use Rattle.unit.specs.Stored.{setHeld}
+use Rattle.unit.specs.Rows.{state_in}
+use Rattle.unit.specs.Stored.{set_held}
 use Rattle.kinds.specs.Carried.{stores}
 use Rattle.kinds.proofs.Answers.{does-refused, does-granted}
 use borrow.Author.Rules.{rules}
 use Rattle.accesses.proofs.release.Statement.{statement}
 use Rattle.accesses.proofs.release.Tie as tie
 
-checked : (c : tie.After-check2) → c.check2.result ≡ checks (Release c.before.before.before.before.before.before.args.s c.before.before.before.before.before.before.args.o c.before.before.before.before.before.before.args.x) (stateIn c.before.before.before.before.before.before.args.unit.now)
+checked : (c : tie.After-check2) → c.check2.result ≡ checks (Release c.before.before.before.before.before.before.args.s c.before.before.before.before.before.before.args.o c.before.before.before.before.before.before.args.x) (state_in c.before.before.before.before.before.before.args.unit.now)
 unfolding checks
 checked c = rw (c.check2.ensures, c.before.is-enrolled.ensures, c.before.before.before.check.ensures, c.before.before.before.before.is_live.ensures)
 
@@ -68,7 +68,7 @@ returns-2 c = let start = c.before.before.before.before.before.before.before.bef
     does-granted (Release start.args.s start.args.o start.args.x) start.args.unit.now _ _ (sym (checked c.before.before.before.before.before.before.before.before.before.before)) _
     (sym c.before.before.before.before.before.before.before.before.before.refuses.ensures ∙ c.before.before.before.before.before.before.before.before.if1.false)
     (not c.before.has.result) (ap not (c.before.has.ensures ∙ ap (has start.args.x) c.before.before.before.before.before.before.held_by.ensures)) c.flag.ensures
-    (c.before.before.before.set-held.ensures ∙ ap (setHeld start.args.unit.now start.args.o start.args.s) (c.before.before.before.before.before.remove.ensures ∙ ap (remove start.args.x) c.before.before.before.before.before.before.held_by.ensures))
+    (c.before.before.before.set-held.ensures ∙ ap (set_held start.args.unit.now start.args.o start.args.s) (c.before.before.before.before.before.remove.ensures ∙ ap (remove start.args.x) c.before.before.before.before.before.before.held_by.ensures))
 
 pub release_spec : {M : Type 1} → statement M
 release_spec =

@@ -6,7 +6,7 @@ use lib.ListN.{length}
 use Rattle.model.specs.declared.Decision.{Decision}
 use Rattle.model.specs.declared.Decision.TheVariants.{Granted, WrongLength, StrayBits}
 use Rattle.model.specs.Tests.{unless}
-use Rattle.model.specs.Layout.{tableSize}
+use Rattle.model.specs.Layout.{table_size}
 use Rattle.image_records.specs.declared.TableRead.{TableRead}
 use Rattle.beginning.proofs.Begun.{checks-answer}
 use borrow.Author.Rules.{rules}
@@ -26,7 +26,7 @@ returns : tie.Need-returns
 returns c =
     let table = c.before.before.before.before.args.table.now in
     let formed = c.before.check.ensures ∙ ap (λ (r : TableRead). unless r.formed StrayBits Granted) c.before.before.read-subjects.ensures in
-    c.check2.ensures ∙ ap (λ (d : Decision). unless (eqb (length table) tableSize) WrongLength d) formed ∙ checks-answer table
+    c.check2.ensures ∙ ap (λ (d : Decision). unless (eqb (length table) table_size) WrongLength d) formed ∙ checks-answer table
 
 pub check-table-spec : {M : Type 1} → statement M
 check-table-spec =

@@ -2,7 +2,7 @@
 -- Assumes nothing.
 use mathlib.Core.Path.{ap, ◌∙◌}
 use Rattle.model.specs.declared.Profile.{Profile}
-use Rattle.images_apart.specs.Apart.{distinguishNumber, distinguishBytes}
+use Rattle.images_apart.specs.Apart.{distinguish_number, distinguish_bytes}
 use borrow.Author.Rules.{rules}
 use Rattle.capi.proofs.circmon_distinguish.Statement.{statement}
 use Rattle.capi.proofs.circmon_distinguish.Tie as tie
@@ -21,8 +21,8 @@ returns c =
     let args = c.before.before.before.before.before.before.before.before.args in
     let p = c.before.before.before.before.widest.ensures in
     let r = c.before.before.tell.ensures in (
-      r.0 ∙ ap (λ (k : Profile). distinguishNumber k args.a.now args.b.now args.requests.now) p,
-      r.1 ∙ ap (λ (k : Profile). distinguishBytes k args.a.now args.b.now args.requests.now) p,
+      r.0 ∙ ap (λ (k : Profile). distinguish_number k args.a.now args.b.now args.requests.now) p,
+      r.1 ∙ ap (λ (k : Profile). distinguish_bytes k args.a.now args.b.now args.requests.now) p,
     )
 
 pub circmon-distinguish-spec : {M : Type 1} → statement M

@@ -6,10 +6,10 @@ use mathlib.Core.Path.{◌≡◌, ap, ap₂, ◌∙◌}
 use mathlib.Core.Bool.{Bool, true}
 use Rattle.model.specs.Tests.{implies}
 use Rattle.model.specs.Levels.{present}
-use Rattle.model.specs.State.{clearanceAt, clearance, object, rightsOf, heldBy}
-use Rattle.model.specs.Rules.{simpleAll}
-use Rattle.model.specs.Reading.{onlyEnrolled, withinMatrix, heldLabelled}
-use Rattle.unit.specs.Rows.{Rows, subjectsIn, stateIn}
+use Rattle.model.specs.State.{clearance_at, clearance, object, rights_of, held_by}
+use Rattle.model.specs.Rules.{simple_all}
+use Rattle.model.specs.Reading.{only_enrolled, within_matrix, held_labelled}
+use Rattle.unit.specs.Rows.{Rows, subjects_in, state_in}
 use Rattle.checking.specs.declared.Findings.{Findings}
 use Rattle.checking.specs.Checks.{both, at}
 use Rattle.checking.proofs.Passes.{below, both-unbroken, below_more, both-assoc}
@@ -21,11 +21,11 @@ use Rattle.checking.proofs.findings_of.Tie as tie
 abbrev begins : Bool → Findings
 begins b = record { enrolled = b; matrix = true; labelled = true; simple = true }
 
-abbrev atSubject : Rows → ℕ → ℕ → Findings
-atSubject u o s = at (clearance (stateIn u) s) (object (stateIn u) o).label (rightsOf (object (stateIn u) o) s) (heldBy (object (stateIn u) o) s)
+abbrev at_subject : Rows → ℕ → ℕ → Findings
+at_subject u o s = at (clearance (state_in u) s) (object (state_in u) o).label (rights_of (object (state_in u) o) s) (held_by (object (state_in u) o) s)
 
 abbrev invariant-loop : tie.invariant-loop
-invariant-loop unit o label owned found₀ i₀ found i = (i ≤ 16) × (found ≡ both (begins owned) (below i (atSubject unit o)))
+invariant-loop unit o label owned found₀ i₀ found i = (i ≤ 16) × (found ≡ both (begins owned) (below i (at_subject unit o)))
 
 abbrev decreases-loop : tie.decreases-loop
 decreases-loop unit o label owned found₀ i₀ found i = 16 - i
@@ -76,7 +76,7 @@ loop-again : tie.Need-loop-preserved invariant-loop decreases-loop
 loop-again c =
     let loop = c.before.before.before.before.before.before.loop in
     let start = c.before.before.before.before.before.before.before.before.before.before.before.before in
-    let f = atSubject start.args.unit.now start.args.o in
+    let f = at_subject start.args.unit.now start.args.o in
     let first = begins c.before.before.before.before.before.before.before.implies.result in
     let here : c.before.findings-at.result ≡ f loop.i = rw (c.before.findings-at.ensures, c.before.before.held_by.ensures, c.before.before.before.rights-of.ensures, c.before.before.before.before.clearance-of.ensures, c.before.before.before.before.before.before.before.before.before.before.before.label_of.ensures) in
     let more : _ ≡ both first (below (loop.i + 1) f) =
@@ -84,13 +84,13 @@ loop-again c =
     (omega (arith, c.before.before.before.before.before.loop-test.true), more)
 
 returns : tie.Need-returns invariant-loop decreases-loop
-unfolding onlyEnrolled withinMatrix heldLabelled simpleAll
+unfolding only_enrolled within_matrix held_labelled simple_all
 returns c = let loop = c.before.loop in
     let start = c.before.before.before.before.before.before.before in
     let u = start.args.unit.now in
-    let f = atSubject u start.args.o in
+    let f = at_subject u start.args.o in
     let end : loop.i ≡ 16 = omega (arith, c.loop-test.false, loop.invariant.0) in
-    let owned = c.before.before.implies.ensures ∙ ap₂ implies c.before.before.before.before.before.is_live.ensures (c.before.before.before.is_Known.ensures ∙ ap (λ k. present (clearanceAt (subjectsIn u) k)) c.before.before.before.before.owner_of.ensures) in
+    let owned = c.before.before.implies.ensures ∙ ap₂ implies c.before.before.before.before.before.is_live.ensures (c.before.before.before.is_Known.ensures ∙ ap (λ k. present (clearance_at (subjects_in u) k)) c.before.before.before.before.owner_of.ensures) in
     loop.invariant.1 ∙ ap (λ (n : ℕ). both (begins c.before.before.implies.result) (below n f)) end ∙ ap (λ (b : Bool). both (begins b) (below 16 f)) owned
 
 pub findings-of-spec : {M : Type 1} → statement M

@@ -5,17 +5,17 @@ use native.Mathlib.Omega.{arith}
 use mathlib.Core.Path.{◌≡◌, refl, ap, ap₂, ◌∙◌}
 use lib.ListN.{take}
 use lib.Seq.{take_all}
-use Rattle.model.specs.State.{noObject}
-use Rattle.unit.specs.Rows.{objectIn, subjectsIn, objectsIn}
+use Rattle.model.specs.State.{no_object}
+use Rattle.unit.specs.Rows.{object_in, subjects_in, objects_in}
 use Rattle.unit.proofs.Tabulated.{tabulate-length}
-use Rattle.checking.specs.Checks.{both, ofObject, ofObjects}
+use Rattle.checking.specs.Checks.{both, of_object, of_objects}
 use Rattle.checking.proofs.Passes.{along-more}
 use borrow.Author.Rules.{rules}
 use Rattle.checking.proofs.findings_over.Statement.{statement}
 use Rattle.checking.proofs.findings_over.Tie as tie
 
 abbrev invariant-loop : tie.invariant-loop
-invariant-loop unit found₀ o₀ found o = (o ≤ 64) × (found ≡ ofObjects (subjectsIn unit) (take o (objectsIn unit)))
+invariant-loop unit found₀ o₀ found o = (o ≤ 64) × (found ≡ of_objects (subjects_in unit) (take o (objects_in unit)))
 
 abbrev decreases-loop : tie.decreases-loop
 decreases-loop unit found₀ o₀ found o = 64 - o
@@ -44,7 +44,7 @@ loop-again c =
     let u = c.before.before.before.before.args.unit.now in (
       omega (arith, c.before.before.loop-test.true),
       c.both.ensures ∙ ap₂ both loop.invariant.1 c.before.findings-of.ensures
-          ∙ along-more (ofObject (subjectsIn u)) (objectsIn u) loop.o noObject (omega (arith, c.before.before.loop-test.true, tabulate-length 64 (objectIn u))),
+          ∙ along-more (of_object (subjects_in u)) (objects_in u) loop.o no_object (omega (arith, c.before.before.loop-test.true, tabulate-length 64 (object_in u))),
     )
 
 returns : tie.Need-returns invariant-loop decreases-loop
@@ -52,7 +52,7 @@ returns c =
     let loop = c.before.loop in
     let u = c.before.before.args.unit.now in
     let end : loop.o ≡ 64 = omega (arith, c.loop-test.false, loop.invariant.0) in
-    loop.invariant.1 ∙ ap (λ (o : ℕ). ofObjects (subjectsIn u) (take o (objectsIn u))) end ∙ ap (ofObjects (subjectsIn u)) (take_all 64 (objectsIn u) (omega (arith, tabulate-length 64 (objectIn u))))
+    loop.invariant.1 ∙ ap (λ (o : ℕ). of_objects (subjects_in u) (take o (objects_in u))) end ∙ ap (of_objects (subjects_in u)) (take_all 64 (objects_in u) (omega (arith, tabulate-length 64 (object_in u))))
 
 pub findings-over-spec : {M : Type 1} → statement M
 findings-over-spec =

@@ -6,7 +6,7 @@ use Rattle.model.specs.declared.Subject.{Subject}
 use Rattle.model.specs.Levels.{present}
 use Rattle.model.specs.State.{nobody}
 use Rattle.model.proofs.Tests.{beyond}
-use Rattle.unit.specs.Rows.{subjectIn, subjectsIn}
+use Rattle.unit.specs.Rows.{subject_in, subjects_in}
 use Rattle.unit.proofs.Tabulated.{tabulate-length}
 use borrow.Author.Rules.{rules}
 use Rattle.checking.proofs.is_known.Statement.{statement}
@@ -21,7 +21,7 @@ returns c = search rules
 returns-2 : tie.Need-returns-2
 returns-2 c =
     let a = c.before.args in
-    ap (λ (x : Subject). present x.clearance) (sym (beyond (subjectsIn a.unit.now) a.s nobody (omega (arith, c.if1.false, tabulate-length 16 (subjectIn a.unit.now)))))
+    ap (λ (x : Subject). present x.clearance) (sym (beyond (subjects_in a.unit.now) a.s nobody (omega (arith, c.if1.false, tabulate-length 16 (subject_in a.unit.now)))))
 
 pub is-known-spec : {M : Type 1} → statement M
 is-known-spec = tie.close (tie.spec is-enrolled-requires returns returns-2)

@@ -5,7 +5,7 @@ use mathlib.Core.Bool.{Bool, not}
 use Rattle.model.specs.declared.Decision.{Decision}
 use Rattle.model.specs.declared.Decision.TheVariants.{NoRight, NoLabel, SimpleBroken, StarBroken, AbsentSubject, WallBroken, ParentNotLive, HierarchyBroken}
 use Rattle.model.specs.Tests.{unless}
-use Rattle.model.specs.Reading.{stateChecks}
+use Rattle.model.specs.Reading.{state_checks}
 use Rattle.model.proofs.Tests.{not-not}
 use Rattle.star.proofs.Between.{between-all}
 use Rattle.wall.proofs.Between.{wall-all}
@@ -58,13 +58,13 @@ check-requires-8 : tie.Need-check-requires-8
 check-requires-8 c κs = search rules
 
 returns : tie.Need-returns
-unfolding stateChecks
+unfolding state_checks
 returns c =
     let asked = c.before.before.before.before.before.before.before.before in
     let found = asked.before.before.before.before.findings-over.ensures in
     let wall = ap not asked.before.before.before.breaks-wall.ensures ∙ not-not _ ∙ wall-all _ in
     let star = ap not asked.before.before.breaks-star.ensures ∙ not-not _ ∙ between-all _ in
-    let twenty = answers HierarchyBroken asked.labels-rise.ensures refl c.before.before.before.before.before.before.before.check.ensures in
+    let twenty = answers HierarchyBroken asked.rising_labels.ensures refl c.before.before.before.before.before.before.before.check.ensures in
     let nineteen = answers ParentNotLive asked.before.parents-hold.ensures twenty c.before.before.before.before.before.before.check2.ensures in
     let eighteen = answers WallBroken wall nineteen c.before.before.before.before.before.check3.ensures in
     let nine = answers StarBroken star eighteen c.before.before.before.before.check4.ensures in

@@ -7,7 +7,7 @@ use lib.Dec.{eqb}
 use lib.ListN.{set as put}
 use Rattle.model.specs.declared.Request.TheVariants.{SetCompanies}
 use Rattle.model.specs.Rules.{already}
-use Rattle.unit.specs.Rows.{restRow}
+use Rattle.unit.specs.Rows.{rest_row}
 use Rattle.unit.proofs.Stores.{rest-put-back}
 use Rattle.wall.proofs.Between.{wall-all}
 use Rattle.kinds.specs.Carried.{stores}
@@ -68,7 +68,7 @@ returns-2 c =
     (companies-broken start.unit.now pre.0 start.s start.o start.companies pre.1.1 _ c.before.before.before.before.before.before.before.before.before.before.before.before.before.before.before.before.by-owner.ensures passed _ set.ensures _
     (c.before.before.before.before.before.breaks-wall.ensures ∙ ap not (wall-all _)) c.before.before.before.before.if2.true) _ refl c.number2.ensures
     (c.before.before.set_rest.ensures
-    ∙ ap₂ (λ w row. put w (restRow start.o) row) set.ensures c.before.before.before.before.before.before.before.before.before.before.rest_of.ensures
+    ∙ ap₂ (λ w row. put w (rest_row start.o) row) set.ensures c.before.before.before.before.before.before.before.before.before.before.rest_of.ensures
     ∙ rest-put-back start.unit.now pre.0 start.o pre.1.1 _)
 
 flag-requires : tie.Need-flag-requires

@@ -2,8 +2,8 @@
 -- Assumes nothing.
 use mathlib.Core.Path.{ap, ◌∙◌}
 use borrow.Author.Tests.{eq-eqb, ne_eqb}
-use Rattle.model.specs.Requests.{decodeFields, decode}
-use Rattle.decoding.specs.Word.{fieldsOfWord}
+use Rattle.model.specs.Requests.{decode_fields, decode}
+use Rattle.decoding.specs.Word.{fields_of_word}
 use Rattle.decoding.proofs.Word.{fields-word}
 use Rattle.decoding.proofs.decode.Statement.{statement}
 use Rattle.decoding.proofs.decode.Tie as tie
@@ -26,7 +26,7 @@ unfolding decode
 returns-2 c =
     rw (eq-eqb _ _ c.before.before.before.if1.false)
     (c.decode-fields.ensures
-    ∙ ap (decodeFields c.before.before.before.before.before.args.p) (c.before.fields-of.ensures ∙ ap fieldsOfWord c.before.before.read_word.ensures.0 ∙ fields-word _))
+    ∙ ap (decode_fields c.before.before.before.before.before.args.p) (c.before.fields-of.ensures ∙ ap fields_of_word c.before.before.read_word.ensures.0 ∙ fields-word _))
 
 pub decode-spec : {M : Type 1} → statement M
 decode-spec =

@@ -1,6 +1,6 @@
 -- `decoding::fields_formed` meets its contract.
 -- Assumes nothing.
-use Rattle.model.specs.Requests.{fieldsFormed}
+use Rattle.model.specs.Requests.{fields_formed}
 use Rattle.decoding.proofs.fields_formed.Statement.{statement}
 use Rattle.decoding.proofs.fields_formed.Tie as tie
 
@@ -14,7 +14,7 @@ parent-within-requires : tie.Need-parent-within-requires
 parent-within-requires c κs = tt
 
 returns : tie.Need-returns
-unfolding fieldsFormed
+unfolding fields_formed
 returns c = rw (c.before.before.before.before.before.before.before.mode-allowed.ensures, c.before.before.before.before.before.before.unused-zero.ensures, c.before.before.before.before.before.parent-within.ensures)
 
 pub fields-formed-spec : {M : Type 1} → statement M

@@ -2,7 +2,7 @@
 -- Assumes nothing.
 use mathlib.Core.Path.{refl}
 use borrow.Author.Rules.{rules}
-use Rattle.decoding.specs.Word.{fieldsOfWord}
+use Rattle.decoding.specs.Word.{fields_of_word}
 use Rattle.decoding.proofs.fields_of.Statement.{statement}
 use Rattle.decoding.proofs.fields_of.Tie as tie
 
@@ -31,7 +31,7 @@ cast-t24 : tie.Need-overflow-cast-t24
 cast-t24 c = search rules
 
 returns : tie.Need-returns
-unfolding fieldsOfWord
+unfolding fields_of_word
 returns c = refl
 
 pub fields-of-spec : {M : Type 1} → statement M

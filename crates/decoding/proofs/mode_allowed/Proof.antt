@@ -1,20 +1,20 @@
 -- `decoding::mode_allowed` meets its contract.
 -- Assumes nothing.
 use borrow.Author.Tests.{le-leb, lt-leb, eq-eqb, ne_eqb}
-use Rattle.model.specs.Requests.{modeAllowed}
+use Rattle.model.specs.Requests.{mode_allowed}
 use Rattle.decoding.proofs.mode_allowed.Statement.{statement}
 use Rattle.decoding.proofs.mode_allowed.Tie as tie
 
 returns : tie.Need-returns
-unfolding modeAllowed
+unfolding mode_allowed
 returns c = rw (le-leb c.before.args.kind 4 c.if1.true)
 
 returns-2 : tie.Need-returns-2
-unfolding modeAllowed
+unfolding mode_allowed
 returns-2 c = rw (lt-leb c.before.before.args.kind 4 c.before.if1.false, eq-eqb c.before.before.args.kind 5 c.if2.true)
 
 returns-3 : tie.Need-returns-3
-unfolding modeAllowed
+unfolding mode_allowed
 returns-3 c = rw (lt-leb c.before.before.args.kind 4 c.before.if1.false, ne_eqb c.before.before.args.kind 5 c.if2.false)
 
 pub mode-allowed-spec : {M : Type 1} → statement M

@@ -1,12 +1,12 @@
 -- `decoding::unused_zero` meets its contract.
 -- Assumes nothing.
 use mathlib.Core.Path.{refl}
-use Rattle.model.specs.Requests.{unusedZero}
+use Rattle.model.specs.Requests.{unused_zero}
 use Rattle.decoding.proofs.unused_zero.Statement.{statement}
 use Rattle.decoding.proofs.unused_zero.Tie as tie
 
 returns : tie.Need-returns
-unfolding unusedZero
+unfolding unused_zero
 returns c = refl
 
 pub unused-zero-spec : {M : Type 1} → statement M

@@ -1,6 +1,6 @@
 -- `decoding::well_formed` meets its contract.
 -- Assumes nothing.
-use Rattle.model.specs.Requests.{wellFormed}
+use Rattle.model.specs.Requests.{well_formed}
 use Rattle.decoding.proofs.well_formed.Statement.{statement}
 use Rattle.decoding.proofs.well_formed.Tie as tie
 
@@ -11,7 +11,7 @@ within-requires : tie.Need-within-requires
 within-requires c κs = tt
 
 returns : tie.Need-returns
-unfolding wellFormed
+unfolding well_formed
 returns c = rw (c.before.fields-formed.ensures, c.within.ensures)
 
 pub well-formed-spec : {M : Type 1} → statement M

@@ -1,9 +1,9 @@
 -- The first part that has a request; where neither of the first two has one, the clearances.
 -- Assumes nothing.
 use mathlib.Core.Path.{sym, ap, ◌∙◌}
-use Rattle.unit.specs.Rows.{stateIn, subjectsIn}
+use Rattle.unit.specs.Rows.{state_in, subjects_in}
 use Rattle.differences.specs.declared.sequence.Place.{Place}
-use Rattle.differences.specs.Records.{clearancesApart}
+use Rattle.differences.specs.Records.{clearances_apart}
 use Rattle.distinguish.proofs.Parts.{distinguish-parts, told-first, told-second, told-third}
 use borrow.Author.Rules.{rules}
 use Rattle.distinguish.proofs.sequence_of.Statement.{statement}
@@ -19,7 +19,7 @@ returns : tie.Need-returns
 returns c =
     let args = c.before.before.before.args in
     let first = c.before.before.standing-of in
-    told-first _ _ _ _ (distinguish-parts (stateIn args.a.now) (stateIn args.b.now)) first.result first.ensures (sym c.before.is_found.ensures ∙ c.if1.true)
+    told-first _ _ _ _ (distinguish-parts (state_in args.a.now) (state_in args.b.now)) first.result first.ensures (sym c.before.is_found.ensures ∙ c.if1.true)
 
 objects-apart-requires : tie.Need-objects-apart-requires
 objects-apart-requires c κs = search rules
@@ -33,7 +33,7 @@ returns-2 c =
     let args = start.before.args in
     let first = start.standing-of in
     let second = c.before.before.objects-apart in
-    told-second _ _ _ _ (distinguish-parts (stateIn args.a.now) (stateIn args.b.now)) first.result first.ensures second.result second.ensures
+    told-second _ _ _ _ (distinguish-parts (state_in args.a.now) (state_in args.b.now)) first.result first.ensures second.result second.ensures
     (sym c.before.before.before.before.is_found.ensures ∙ c.before.before.before.if1.false)
     (sym c.before.is-found2.ensures ∙ c.if2.true)
 
@@ -50,11 +50,11 @@ returns-3 c =
     let args = start.before.args in
     let first = start.standing-of in
     let second = here.before.before.objects-apart in
-    told-third _ _ _ _ (distinguish-parts (stateIn args.a.now) (stateIn args.b.now)) first.result first.ensures second.result second.ensures
+    told-third _ _ _ _ (distinguish-parts (state_in args.a.now) (state_in args.b.now)) first.result first.ensures second.result second.ensures
     (sym here.before.before.before.before.is_found.ensures ∙ here.before.before.before.if1.false)
     c.clearances-apart.result
     (sym here.before.is-found2.ensures ∙ here.if2.false)
-    (c.clearances-apart.ensures ∙ ap (λ (p : Place). clearancesApart p (subjectsIn args.a.now) (subjectsIn args.b.now)) c.before.free-place.ensures)
+    (c.clearances-apart.ensures ∙ ap (λ (p : Place). clearances_apart p (subjects_in args.a.now) (subjects_in args.b.now)) c.before.free-place.ensures)
 
 pub sequence-of-spec : {M : Type 1} → statement M
 sequence-of-spec =

@@ -1,7 +1,7 @@
 -- The first part that has a request; where neither of the first two has one, the parents.
 -- Assumes nothing.
 use mathlib.Core.Path.{sym, ◌∙◌}
-use Rattle.unit.specs.Rows.{stateIn}
+use Rattle.unit.specs.Rows.{state_in}
 use Rattle.distinguish.proofs.Parts.{standing-parts, told-first, told-second, told-third}
 use borrow.Author.Rules.{rules}
 use Rattle.distinguish.proofs.standing_of.Statement.{statement}
@@ -17,7 +17,7 @@ returns : tie.Need-returns
 returns c =
     let args = c.before.before.before.args in
     let first = c.before.before.enrolments-apart in
-    told-first _ _ _ _ (standing-parts (stateIn args.a.now) (stateIn args.b.now)) first.result first.ensures (sym c.before.is_found.ensures ∙ c.if1.true)
+    told-first _ _ _ _ (standing-parts (state_in args.a.now) (state_in args.b.now)) first.result first.ensures (sym c.before.is_found.ensures ∙ c.if1.true)
 
 standings-apart-requires : tie.Need-standings-apart-requires
 standings-apart-requires c κs = search rules
@@ -31,7 +31,7 @@ returns-2 c =
     let args = start.before.args in
     let first = start.enrolments-apart in
     let second = c.before.before.standings-apart in
-    told-second _ _ _ _ (standing-parts (stateIn args.a.now) (stateIn args.b.now)) first.result first.ensures second.result second.ensures
+    told-second _ _ _ _ (standing-parts (state_in args.a.now) (state_in args.b.now)) first.result first.ensures second.result second.ensures
     (sym c.before.before.before.before.is_found.ensures ∙ c.before.before.before.if1.false)
     (sym c.before.is-found2.ensures ∙ c.if2.true)
 
@@ -45,7 +45,7 @@ returns-3 c =
     let args = start.before.args in
     let first = start.enrolments-apart in
     let second = here.before.before.standings-apart in
-    told-third _ _ _ _ (standing-parts (stateIn args.a.now) (stateIn args.b.now)) first.result first.ensures second.result second.ensures
+    told-third _ _ _ _ (standing-parts (state_in args.a.now) (state_in args.b.now)) first.result first.ensures second.result second.ensures
     (sym here.before.before.before.before.is_found.ensures ∙ here.before.before.before.if1.false)
     c.parents-apart.result
     (sym here.before.is-found2.ensures ∙ here.if2.false)

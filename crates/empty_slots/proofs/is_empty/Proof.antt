@@ -9,7 +9,7 @@ use lib.Seq.{ext_get_or}
 use borrow.Author.Count.{below_more}
 use borrow.Author.Rules.{rules}
 use borrow.Author.Tests.{eqb-true}
-use Rattle.model.specs.State.{noModes}
+use Rattle.model.specs.State.{no_modes}
 use Rattle.model.proofs.Tests.{and_left, and_right, replicate-at}
 use Rattle.empty_slots.proofs.is_empty.Statement.{statement}
 use Rattle.empty_slots.proofs.is_empty.Tie as tie
@@ -43,7 +43,7 @@ loop-again c =
 returns : tie.Need-returns invariant-loop decreases-loop
 returns c e =
     let inv = c.before.loop.invariant in
-    ext_get_or 0 _ noModes (inv.1 ∙ sym (length-replicate {A = ℕ} 16 0))
+    ext_get_or 0 _ no_modes (inv.1 ∙ sym (length-replicate {A = ℕ} 16 0))
     (λ k h. inv.2 e k (omega (arith, c.loop-test.false, inv.1)) ∙ sym (replicate-at 0 16 k))
 
 pub is_empty_spec : {M : Type 1} → statement M

@@ -6,7 +6,7 @@ use lib.Dec.{eqb}
 use borrow.Author.Rules.{rules}
 use borrow.Author.Tests.{eqb-true}
 use Rattle.model.specs.declared.Label.TheVariants.{Absent}
-use Rattle.model.specs.State.{noModes, noObject}
+use Rattle.model.specs.State.{no_modes, no_object}
 use Rattle.model.proofs.Equal.{object-ext}
 use Rattle.model.proofs.Levels.{absent}
 use Rattle.model.proofs.Tests.{and_left, and_right, not_on}
@@ -36,9 +36,9 @@ returns c e =
     absent ob.label (sym c.before.before.before.before.is-present.ensures ∙ not_on _ (and_left (not c.before.before.before.before.is-present.result) _ no_label)) in
     let companies : ob.companies ≡ 0 = eqb-true ob.companies 0 (and_left (eqb ob.companies 0) _ no-company) in
     let parent : ob.parent ≡ 0 = eqb-true ob.parent 0 (and_left (eqb ob.parent 0) _ no-parent) in
-    let rights : ob.rights ≡ noModes = c.before.before.before.before.before.before.is-empty.ensures (and_left c.before.before.before.before.before.before.is-empty.result _ no-sets) in
-    let held : ob.held ≡ noModes = c.before.before.before.before.before.is-empty2.ensures (and_right c.before.before.before.before.before.before.is-empty.result _ no-sets) in
-    object-ext ob noObject live owner label companies rights held parent
+    let rights : ob.rights ≡ no_modes = c.before.before.before.before.before.before.is-empty.ensures (and_left c.before.before.before.before.before.before.is-empty.result _ no-sets) in
+    let held : ob.held ≡ no_modes = c.before.before.before.before.before.is-empty2.ensures (and_right c.before.before.before.before.before.before.is-empty.result _ no-sets) in
+    object-ext ob no_object live owner label companies rights held parent
 
 pub is-none-spec : {M : Type 1} → statement M
 is-none-spec =

@@ -2,8 +2,8 @@
 -- Assumes nothing.
 use mathlib.Core.Path.{sym, ap, ◌∙◌}
 use Rattle.model.specs.Decisions.{refuses}
-use Rattle.model.specs.Layout.{imageSize}
-use Rattle.model.specs.Reading.{imageChecks, monitorFrom, readImage}
+use Rattle.model.specs.Layout.{image_size}
+use Rattle.model.specs.Reading.{image_checks, monitor_from, read_image}
 use Rattle.model.proofs.Tests.{not_on, not-off}
 use Rattle.image.proofs.Answers.{refused, answered, wrong-profile, wrong-length, image-rows, image-answer}
 use borrow.Author.Rules.{rules}
@@ -20,7 +20,7 @@ same_length : tie.Need-same-length
 same_length c = search rules
 
 returns : tie.Need-returns
-unfolding readImage imageChecks monitorFrom
+unfolding read_image image_checks monitor_from
 returns c =
     let start = c.before.before.before.before.before.before in
     let r = c.before.refused.ensures in
@@ -33,12 +33,12 @@ same-length-2 : tie.Need-same-length-2
 same-length-2 c = search rules
 
 returns-2 : tie.Need-returns-2
-unfolding readImage imageChecks monitorFrom
+unfolding read_image image_checks monitor_from
 returns-2 c =
     let start = c.before.before.before.before.before.before.before in
     let fits = sym c.before.before.before.before.before.fits2.ensures ∙ not-off _ c.before.before.before.before.if1.false in
     let r = c.before.refused2.ensures in
-    refused _ _ _ _ (r.0 ∙ wrong-length start.args.profile fits start.args.image.now imageSize _ c.before.before.before.if2.true) (ap refuses r.0) r.1
+    refused _ _ _ _ (r.0 ∙ wrong-length start.args.profile fits start.args.image.now image_size _ c.before.before.before.if2.true) (ap refuses r.0) r.1
 
 sub-read-subjects : tie.Need-overflow-sub-read-subjects
 sub-read-subjects c = search rules
@@ -80,7 +80,7 @@ same-length-3 : tie.Need-same-length-3
 same-length-3 c = search rules
 
 returns-3 : tie.Need-returns-3
-unfolding readImage
+unfolding read_image
 returns-3 c =
     let start = c.before.before.before.before.before.before.before.before.before.before.before.before.before.before.before.before.before.before.before.before.before.before in
     let fits = sym c.before.before.before.before.before.before.before.before.before.before.before.before.before.before.before.before.before.before.before.before.fits2.ensures ∙ not-off _ c.before.before.before.before.before.before.before.before.before.before.before.before.before.before.before.before.before.before.before.if1.false in

@@ -2,7 +2,7 @@
 -- Assumes nothing.
 use mathlib.Core.Path.{ap, ◌∙◌}
 use Rattle.model.specs.declared.Profile.{Profile}
-use Rattle.model.specs.Reading.{readImage}
+use Rattle.model.specs.Reading.{read_image}
 use Rattle.unit.specs.Stored.{unit_of}
 use borrow.Author.Rules.{rules}
 use Rattle.image.proofs.open_widest.Statement.{statement}
@@ -22,7 +22,7 @@ returns c =
     let p = c.before.before.widest.ensures in
     let r = c.before.open.ensures in
     let s = c.before.before.before.before.before.args.image.now in
-    (r.0 ∙ ap (λ (x : Profile). (readImage x s).decision) p, r.1 ∙ ap (λ (x : Profile). unit_of (readImage x s).monitor) p)
+    (r.0 ∙ ap (λ (x : Profile). (read_image x s).decision) p, r.1 ∙ ap (λ (x : Profile). unit_of (read_image x s).monitor) p)
 
 pub open-widest-spec : {M : Type 1} → statement M
 open-widest-spec = tie.close (tie.spec widest-requires open-requires same_length returns)

@@ -2,7 +2,7 @@
 -- Assumes nothing.
 use mathlib.Core.Path.{refl, ap, ◌∙◌}
 use Rattle.model.specs.declared.Profile.{Profile}
-use Rattle.model.specs.State.{subjectCount, nobody, fresh}
+use Rattle.model.specs.State.{subject_count, nobody, fresh}
 use lib.ListN.{replicate}
 use Rattle.unit.specs.Stored.{unit_of}
 use borrow.Author.Rules.{rules}
@@ -19,7 +19,7 @@ same_length : tie.Need-same-length
 same_length c = search rules
 
 returns : tie.Need-returns
-returns c = (refl, c.before.begin.ensures ∙ ap (λ (p : Profile). unit_of (fresh p (replicate subjectCount nobody))) c.before.before.widest.ensures)
+returns c = (refl, c.before.begin.ensures ∙ ap (λ (p : Profile). unit_of (fresh p (replicate subject_count nobody))) c.before.before.widest.ensures)
 
 pub refused-spec : {M : Type 1} → statement M
 refused-spec = tie.close (tie.spec widest-requires begin-requires same_length returns)

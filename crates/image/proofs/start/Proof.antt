@@ -2,8 +2,8 @@
 -- Assumes nothing.
 use mathlib.Core.Path.{sym, ap, ◌∙◌}
 use Rattle.model.specs.Decisions.{refuses}
-use Rattle.model.specs.Layout.{tableSize}
-use Rattle.model.specs.Reading.{tableChecks, readTable}
+use Rattle.model.specs.Layout.{table_size}
+use Rattle.model.specs.Reading.{table_checks, read_table}
 use Rattle.model.proofs.Tests.{not_on, not-off}
 use Rattle.image.proofs.Answers.{refused, answered, wrong-profile, wrong-length, table-rows, table-answer}
 use borrow.Author.Rules.{rules}
@@ -20,7 +20,7 @@ same_length : tie.Need-same-length
 same_length c = search rules
 
 returns : tie.Need-returns
-unfolding readTable tableChecks
+unfolding read_table table_checks
 returns c =
     let start = c.before.before.before.before.before.before in
     let r = c.before.refused.ensures in
@@ -33,12 +33,12 @@ same-length-2 : tie.Need-same-length-2
 same-length-2 c = search rules
 
 returns-2 : tie.Need-returns-2
-unfolding readTable tableChecks
+unfolding read_table table_checks
 returns-2 c =
     let start = c.before.before.before.before.before.before.before in
     let fits = sym c.before.before.before.before.before.fits2.ensures ∙ not-off _ c.before.before.before.before.if1.false in
     let r = c.before.refused2.ensures in
-    refused _ _ _ _ (r.0 ∙ wrong-length start.args.profile fits start.args.table.now tableSize _ c.before.before.before.if2.true) (ap refuses r.0) r.1
+    refused _ _ _ _ (r.0 ∙ wrong-length start.args.profile fits start.args.table.now table_size _ c.before.before.before.if2.true) (ap refuses r.0) r.1
 
 read-subjects-requires : tie.Need-read-subjects-requires
 read-subjects-requires c κs = search rules
@@ -56,7 +56,7 @@ same-length-3 : tie.Need-same-length-3
 same-length-3 c = search rules
 
 returns-3 : tie.Need-returns-3
-unfolding readTable
+unfolding read_table
 returns-3 c =
     let start = c.before.before.before.before.before.before.before.before.before.before.before.before.before.before in
     let fits = sym c.before.before.before.before.before.before.before.before.before.before.before.before.fits2.ensures ∙ not-off _ c.before.before.before.before.before.before.before.before.before.before.before.if1.false in

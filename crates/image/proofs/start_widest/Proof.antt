@@ -2,7 +2,7 @@
 -- Assumes nothing.
 use mathlib.Core.Path.{ap, ◌∙◌}
 use Rattle.model.specs.declared.Profile.{Profile}
-use Rattle.model.specs.Reading.{readTable}
+use Rattle.model.specs.Reading.{read_table}
 use Rattle.unit.specs.Stored.{unit_of}
 use borrow.Author.Rules.{rules}
 use Rattle.image.proofs.start_widest.Statement.{statement}
@@ -22,7 +22,7 @@ returns c =
     let p = c.before.before.widest.ensures in
     let r = c.before.start.ensures in
     let s = c.before.before.before.before.before.args.table.now in
-    (r.0 ∙ ap (λ (x : Profile). (readTable x s).decision) p, r.1 ∙ ap (λ (x : Profile). unit_of (readTable x s).monitor) p)
+    (r.0 ∙ ap (λ (x : Profile). (read_table x s).decision) p, r.1 ∙ ap (λ (x : Profile). unit_of (read_table x s).monitor) p)
 
 pub start-widest-spec : {M : Type 1} → statement M
 start-widest-spec = tie.close (tie.spec widest-requires start-requires same_length returns)

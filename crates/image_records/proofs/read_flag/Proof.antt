@@ -5,7 +5,7 @@
 use mathlib.Core.Path.{◌∙◌}
 use native.Mathlib.Omega.{arith}
 use Rattle.bits.specs.Fields.{field-within}
-use Rattle.image_records.specs.Records.{flagWidth, bits_at}
+use Rattle.image_records.specs.Records.{flag_width, bits_at}
 use Rattle.image_records.proofs.Places.{length_at}
 use Rattle.bits.proofs.Machine.{low-four-lt}
 use Rattle.image_records.proofs.Contents.{flag-from}
@@ -23,8 +23,8 @@ returns : tie.Need-returns
 returns c =
     let a = c.before.before.args in
     let s = a.bytes.now in
-    flag-from (bits_at s a.at flagWidth) c.read-field.result (length_at s a.at flagWidth (omega arith))
-    (c.read-field.ensures.0 ∙ field-within s a.at flagWidth (omega arith))
+    flag-from (bits_at s a.at flag_width) c.read-field.result (length_at s a.at flag_width (omega arith))
+    (c.read-field.ensures.0 ∙ field-within s a.at flag_width (omega arith))
 
 pub read-flag-spec : {M : Type 1} → statement M
 read-flag-spec = tie.close (tie.spec read-field-requires cast-t6 returns)

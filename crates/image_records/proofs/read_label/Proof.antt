@@ -5,9 +5,9 @@
 use mathlib.Core.Path.{refl, ap, ◌∙◌}
 use Prim.Native.Nat.{◌+◌}
 use native.Mathlib.Omega.{arith}
-use Rattle.model.specs.State.{needsWidth}
-use Rattle.model.specs.Layout.{labelWidth}
-use Rattle.image_records.specs.Records.{flagWidth, bits_at, flagOf}
+use Rattle.model.specs.State.{needs_width}
+use Rattle.model.specs.Layout.{label_width}
+use Rattle.image_records.specs.Records.{flag_width, bits_at, flag_of}
 use Rattle.image_records.proofs.Places.{length_at, part_at, field_at}
 use Rattle.image_records.proofs.Contents.{label-present, label-absent}
 use borrow.Author.Rules.{rules}
@@ -33,8 +33,8 @@ returns c =
     let a = c.before.before.before.before.before.args in
     let s = a.bytes.now in
     let p = a.at in
-    label-present (bits_at s p labelWidth) (length_at s p labelWidth (omega arith)) head.result (head.ensures ∙ ap flagOf (part_at s p labelWidth 0 flagWidth p (omega arith) (omega arith)))
-    rules.result (rules.ensures.0 ∙ field_at s p labelWidth flagWidth needsWidth (p + flagWidth) refl (omega arith) (omega arith)) c.if1.true
+    label-present (bits_at s p label_width) (length_at s p label_width (omega arith)) head.result (head.ensures ∙ ap flag_of (part_at s p label_width 0 flag_width p (omega arith) (omega arith)))
+    rules.result (rules.ensures.0 ∙ field_at s p label_width flag_width needs_width (p + flag_width) refl (omega arith) (omega arith)) c.if1.true
 
 returns-2 : tie.Need-returns-2
 returns-2 c =
@@ -43,8 +43,8 @@ returns-2 c =
     let a = c.before.before.before.before.before.args in
     let s = a.bytes.now in
     let p = a.at in
-    label-absent (bits_at s p labelWidth) (length_at s p labelWidth (omega arith)) head.result (head.ensures ∙ ap flagOf (part_at s p labelWidth 0 flagWidth p (omega arith) (omega arith)))
-    rules.result (rules.ensures.0 ∙ field_at s p labelWidth flagWidth needsWidth (p + flagWidth) refl (omega arith) (omega arith)) c.if1.false
+    label-absent (bits_at s p label_width) (length_at s p label_width (omega arith)) head.result (head.ensures ∙ ap flag_of (part_at s p label_width 0 flag_width p (omega arith) (omega arith)))
+    rules.result (rules.ensures.0 ∙ field_at s p label_width flag_width needs_width (p + flag_width) refl (omega arith) (omega arith)) c.if1.false
 
 pub read-label-spec : {M : Type 1} → statement M
 read-label-spec =

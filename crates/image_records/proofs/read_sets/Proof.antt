@@ -10,12 +10,12 @@ use native.Mathlib.Omega.{arith}
 use borrow.Author.Rules.{rules}
 use lib.Bits.{bit_and}
 use lib.ListN.{length, take, drop, length-set}
-use Rattle.bits.specs.Bits.{fromBits, bytesToBits, cut, allZero}
+use Rattle.bits.specs.Bits.{from_bits, bytes_to_bits, cut, all_zero}
 use Rattle.bits.specs.Fields.{field-within}
 use Rattle.bits.specs.Records.{cut-take}
-use Rattle.model.specs.State.{subjectCount}
-use Rattle.model.specs.Layout.{pairWidth}
-use Rattle.model.specs.Reading.{rightsFrom, heldFrom}
+use Rattle.model.specs.State.{subject_count}
+use Rattle.model.specs.Layout.{pair_width}
+use Rattle.model.specs.Reading.{rights_from, held_from}
 use Rattle.image_records.proofs.Places.{length_at, byte_at}
 use Rattle.bits.proofs.Machine.{low-four, low-four-lt}
 use Rattle.image_records.proofs.Contents.{zero_more, halves}
@@ -25,25 +25,25 @@ use Rattle.image_records.proofs.read_sets.Tie as tie
 
 -- the bits from bit at on
 abbrev from : List ℕ → ℕ → List Bool
-from s at = drop at (bytesToBits s)
+from s at = drop at (bytes_to_bits s)
 
 abbrev invariant-loop : tie.invariant-loop
 invariant-loop bytes at rights₀ held₀ blank₀ s₀ rights held blank s =
-    (s ≤ subjectCount)
-    × (length rights ≡ subjectCount)
-    × (length held ≡ subjectCount)
-    × (take s rights ≡ map rightsFrom (cut s pairWidth (from bytes at)))
-    × (take s held ≡ map heldFrom (cut s pairWidth (from bytes at)))
-    × (blank ≡ allZero (take (8 * s) (from bytes at)))
+    (s ≤ subject_count)
+    × (length rights ≡ subject_count)
+    × (length held ≡ subject_count)
+    × (take s rights ≡ map rights_from (cut s pair_width (from bytes at)))
+    × (take s held ≡ map held_from (cut s pair_width (from bytes at)))
+    × (blank ≡ all_zero (take (8 * s) (from bytes at)))
 
 abbrev decreases-loop : tie.decreases-loop
-decreases-loop bytes at rights₀ held₀ blank₀ s₀ rights held blank s = subjectCount - s
+decreases-loop bytes at rights₀ held₀ blank₀ s₀ rights held blank s = subject_count - s
 
 loop-holds : tie.Need-loop-init invariant-loop decreases-loop
-unfolding allZero
+unfolding all_zero
 loop-holds c =
     let x = from c.before.args.bytes.now c.before.args.at in
-    (omega arith, refl, refl, none-gathered rightsFrom pairWidth x, none-gathered heldFrom pairWidth x, refl)
+    (omega arith, refl, refl, none-gathered rights_from pair_width x, none-gathered held_from pair_width x, refl)
 
 mul-read-byte : tie.Need-overflow-mul-read-byte invariant-loop decreases-loop
 mul-read-byte c = search rules
@@ -82,15 +82,15 @@ loop-again c =
     let v = c.read_byte.result in
     let b = take 8 (drop (8 * i) x) in
     let here = byte_at s a.at i in
-    let e : v ≡ fromBits b = c.read_byte.ensures.0 ∙ field-within s (a.at + 8 * i) 8 (omega arith) ∙ ap fromBits here in
+    let e : v ≡ from_bits b = c.read_byte.ensures.0 ∙ field-within s (a.at + 8 * i) 8 (omega arith) ∙ ap from_bits here in
     let two = halves b (ap length (sym here) ∙ length_at s (a.at + 8 * i) 8 (omega arith)) in
     let hr : i < length loop.rights = omega (arith, loop.invariant.1) in
     let hh : i < length loop.held = omega (arith, loop.invariant.2) in (
       omega arith,
       length-set loop.rights i (v / 16) ∙ loop.invariant.1,
       length-set loop.held i (bit_and v 15) ∙ loop.invariant.2,
-      gather-more rightsFrom pairWidth x loop.rights i (v / 16) hr loop.invariant.3 (ap (λ (n : ℕ). n / 16) e ∙ two.0),
-      gather-more heldFrom pairWidth x loop.held i (bit_and v 15) hh loop.invariant.4 (low-four v ∙ ap (λ (n : ℕ). n % 16) e ∙ two.1),
+      gather-more rights_from pair_width x loop.rights i (v / 16) hr loop.invariant.3 (ap (λ (n : ℕ). n / 16) e ∙ two.0),
+      gather-more held_from pair_width x loop.held i (bit_and v 15) hh loop.invariant.4 (low-four v ∙ ap (λ (n : ℕ). n % 16) e ∙ two.1),
       zero_more x i v loop.blank loop.invariant.5 e,
     )
 
@@ -99,10 +99,10 @@ returns c =
     let loop = c.before.loop in
     let a = c.before.before.before.args in
     let x = from a.bytes.now a.at in
-    let end : loop.s ≡ subjectCount = omega arith in
-    let rights-eq = gathered rightsFrom subjectCount pairWidth x loop.rights loop.s loop.invariant.1 end loop.invariant.3 ∙ ap (map rightsFrom) (sym (cut-take subjectCount pairWidth x)) in
-    let held-eq = gathered heldFrom subjectCount pairWidth x loop.held loop.s loop.invariant.2 end loop.invariant.4 ∙ ap (map heldFrom) (sym (cut-take subjectCount pairWidth x)) in
-    let blank-eq = loop.invariant.5 ∙ ap (λ (n : ℕ). allZero (take (8 * n) x)) end in
+    let end : loop.s ≡ subject_count = omega arith in
+    let rights-eq = gathered rights_from subject_count pair_width x loop.rights loop.s loop.invariant.1 end loop.invariant.3 ∙ ap (map rights_from) (sym (cut-take subject_count pair_width x)) in
+    let held-eq = gathered held_from subject_count pair_width x loop.held loop.s loop.invariant.2 end loop.invariant.4 ∙ ap (map held_from) (sym (cut-take subject_count pair_width x)) in
+    let blank-eq = loop.invariant.5 ∙ ap (λ (n : ℕ). all_zero (take (8 * n) x)) end in
     λ i. record { rights = rights-eq i; held = held-eq i; blank = blank-eq i }
 
 pub read-sets-spec : {M : Type 1} → statement M

@@ -3,7 +3,7 @@
 use Prim.Native.Nat.{◌-◌}
 use native.Mathlib.Omega.{arith}
 use mathlib.Core.Path.{sym, ◌∙◌}
-use Rattle.journal.specs.Ring.{journalRows}
+use Rattle.journal.specs.Ring.{journal_rows}
 use Rattle.journal.proofs.Rings.{Cleared, cleared-none, cleared_more, cleared-all}
 use borrow.Author.Rules.{rules}
 use Rattle.journal.proofs.clear.Statement.{statement}
@@ -13,7 +13,7 @@ abbrev invariant-loop : tie.invariant-loop
 invariant-loop journal₀ i₀ journal i = Cleared journal i
 
 abbrev decreases-loop : tie.decreases-loop
-decreases-loop journal₀ i₀ journal i = journalRows - i
+decreases-loop journal₀ i₀ journal i = journal_rows - i
 
 loop-holds : tie.Need-loop-init invariant-loop decreases-loop
 loop-holds c = cleared-none _ c.requires

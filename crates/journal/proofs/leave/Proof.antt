@@ -2,7 +2,7 @@
 -- Assumes nothing.
 use Prim.Native.Nat.{◌-◌}
 use mathlib.Core.Path.{ap, ap₂, ◌∙◌}
-use Rattle.journal.specs.Stored.{setRing, leftRows}
+use Rattle.journal.specs.Stored.{set_ring, left_rows}
 use borrow.Author.Rules.{rules}
 use Rattle.journal.proofs.leave.Statement.{statement}
 use Rattle.journal.proofs.leave.Tie as tie
@@ -29,12 +29,12 @@ same_length : tie.Need-same-length
 same_length c = search rules
 
 returns : tie.Need-returns
-unfolding leftRows
+unfolding left_rows
 returns c =
     let start = c.before.before.before.before.before.before.before in
     let count = c.before.before.before in
     c.before.set-ring.ensures
-    ∙ ap₂ (setRing start.args.journal.now) count.before.before.latest-slot.ensures (ap (λ n. n - 1) count.entry-count.ensures)
+    ∙ ap₂ (set_ring start.args.journal.now) count.before.before.latest-slot.ensures (ap (λ n. n - 1) count.entry-count.ensures)
 
 pub leave_spec : {M : Type 1} → statement M
 leave_spec =

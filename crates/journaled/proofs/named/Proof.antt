@@ -4,7 +4,7 @@ use mathlib.Core.Path.{ap, ◌∙◌}
 use Prim.Native.Nat.{◌%◌}
 use borrow.Author.Tests.{eq-eqb, ne_eqb}
 use Rattle.model.specs.declared.Fields.{Fields}
-use Rattle.decoding.specs.Word.{fieldsOfWord}
+use Rattle.decoding.specs.Word.{fields_of_word}
 use Rattle.decoding.proofs.Word.{fields-word}
 use Rattle.journaled.specs.Units.{named}
 use borrow.Author.Rules.{rules}
@@ -25,7 +25,7 @@ returns-2 : tie.Need-returns-2
 unfolding named
 returns-2 c =
     rw (eq-eqb _ _ c.before.before.before.if1.false)
-    (ap (λ (f : Fields). f.object % 64) (c.before.fields-of.ensures ∙ ap fieldsOfWord c.before.before.read_word.ensures.0 ∙ fields-word _))
+    (ap (λ (f : Fields). f.object % 64) (c.before.fields-of.ensures ∙ ap fields_of_word c.before.before.read_word.ensures.0 ∙ fields-word _))
 
 pub named-spec : {M : Type 1} → statement M
 named-spec = tie.close (tie.spec returns read-word-requires fields-of-requires returns-2)

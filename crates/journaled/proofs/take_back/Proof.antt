@@ -4,8 +4,8 @@ use native.Mathlib.Omega.{arith}
 use mathlib.Core.Path.{sym, ap, ◌∙◌}
 use borrow.Author.Tests.{eq-eqb, ne_eqb}
 use Rattle.model.proofs.Tests.{cond-true, cond-false}
-use Rattle.journal.specs.Ring.{entryCount}
-use Rattle.journaled.specs.Units.{saidBy, takenUnit}
+use Rattle.journal.specs.Ring.{entry_count}
+use Rattle.journaled.specs.Units.{said_by, taken_unit}
 use Rattle.journaled.proofs.Parts.{part-behind}
 use Rattle.journaled.proofs.Said.{taken_none, taken-some}
 use borrow.Author.Rules.{rules}
@@ -28,25 +28,25 @@ same_length : tie.Need-same-length
 same_length c = search rules
 
 returns : tie.Need-returns
-unfolding saidBy takenUnit
+unfolding said_by taken_unit
 returns c =
     let start = c.before.before.before.before in
-    let none = sym (c.before.entry-count.ensures ∙ ap entryCount (part-behind start.args.unit.now start.requires)) ∙ c.if1.true in
+    let none = sym (c.before.entry-count.ensures ∙ ap entry_count (part-behind start.args.unit.now start.requires)) ∙ c.if1.true in
     (sym (taken_none start.args.unit.now none), sym (cond-true _ _ _ (eq-eqb _ 0 none)))
 
 restore-requires : tie.Need-restore-requires
 restore-requires c κs =
     let start = c.before.before.before.before.before in
-    (start.requires, omega (arith, c.before.before.entry-count.ensures ∙ ap entryCount (part-behind start.args.unit.now start.requires), c.before.if1.false))
+    (start.requires, omega (arith, c.before.before.entry-count.ensures ∙ ap entry_count (part-behind start.args.unit.now start.requires), c.before.if1.false))
 
 same-length-2 : tie.Need-same-length-2
 same-length-2 c = search rules
 
 returns-2 : tie.Need-returns-2
-unfolding saidBy takenUnit
+unfolding said_by taken_unit
 returns-2 c =
     let start = c.before.before.before.before.before.before.before in
-    let same = c.before.before.before.before.entry-count.ensures ∙ ap entryCount (part-behind start.args.unit.now start.requires) in
+    let same = c.before.before.before.before.entry-count.ensures ∙ ap entry_count (part-behind start.args.unit.now start.requires) in
     (sym (taken-some start.args.unit.now (λ e. c.before.before.before.if1.false (same ∙ e))), c.before.restore.ensures ∙ sym (cond-false _ _ _ (ne_eqb _ 0 (λ e. c.before.before.before.if1.false (same ∙ e)))))
 
 pub take-back-spec : {M : Type 1} → statement M

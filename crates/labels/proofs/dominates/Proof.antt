@@ -2,7 +2,7 @@
 -- Assumes nothing.
 use borrow.Author.Rules.{rules}
 use mathlib.Core.Path.{◌∙◌, ap}
-use Rattle.model.specs.Levels.{equalOrAbove, levelDominates, dominates}
+use Rattle.model.specs.Levels.{equal_or_above, level_dominates, dominates}
 use Rattle.labels.proofs.dominates.Statement.{statement}
 use Rattle.labels.proofs.dominates.Tie as tie
 
@@ -33,10 +33,10 @@ unfolding dominates
 returns-2 c = rw (c.before.before.before.a.given.1, c.enum-told2.given.1)
 
 returns-3 : tie.Need-returns-3
-unfolding dominates levelDominates
+unfolding dominates level_dominates
 returns-3 c =
     rw (c.before.before.before.before.before.before.a.given.1, c.before.before.before.b.given.1)
-    (c.equal-or-above.ensures ∙ ap equalOrAbove c.before.compare.ensures)
+    (c.equal-or-above.ensures ∙ ap equal_or_above c.before.compare.ensures)
 
 pub dominates-spec : {M : Type 1} → statement M
 dominates-spec =

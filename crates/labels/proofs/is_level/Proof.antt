@@ -1,7 +1,7 @@
 -- `labels::is_level` meets its contract.
 -- Assumes nothing.
 use borrow.Author.Rules.{rules}
-use Rattle.model.specs.Levels.{sameLabel}
+use Rattle.model.specs.Levels.{same_label}
 use Rattle.labels.proofs.is_level.Statement.{statement}
 use Rattle.labels.proofs.is_level.Tie as tie
 
@@ -12,11 +12,11 @@ enum-known-l : tie.Need-enum-known-l
 enum-known-l c = search rules
 
 returns : tie.Need-returns
-unfolding sameLabel
+unfolding same_label
 returns c = rw c.enum_told.given.1
 
 returns-2 : tie.Need-returns-2
-unfolding sameLabel
+unfolding same_label
 returns-2 c = rw c.before.before.before.before.before.l.given.1
 
 pub is-level-spec : {M : Type 1} → statement M

@@ -2,7 +2,7 @@
 -- Assumes nothing.
 use mathlib.Core.Path.{ap₂, ◌∙◌}
 use Rattle.model.specs.Tests.{implies}
-use Rattle.model.specs.Rules.{notLowered}
+use Rattle.model.specs.Rules.{not_lowered}
 use borrow.Author.Rules.{rules}
 use Rattle.labels.proofs.not_lowered.Statement.{statement}
 use Rattle.labels.proofs.not_lowered.Tie as tie
@@ -17,7 +17,7 @@ implies-requires : tie.Need-implies-requires
 implies-requires c κs = search rules
 
 returns : tie.Need-returns
-unfolding notLowered
+unfolding not_lowered
 returns c = c.implies.ensures ∙ ap₂ implies c.before.before.is-present.ensures c.before.dominates.ensures
 
 pub not-lowered-spec : {M : Type 1} → statement M

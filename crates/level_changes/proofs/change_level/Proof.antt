@@ -5,10 +5,10 @@ use lib.ListN.{set}
 use Rattle.model.specs.declared.Label.{Label}
 use Rattle.model.specs.declared.Label.TheVariants.{Present}
 use Rattle.model.specs.declared.Request.TheVariants.{ChangeLevel}
-use Rattle.model.specs.Levels.{sameLabel}
-use Rattle.model.specs.Rules.{notLowered, already}
+use Rattle.model.specs.Levels.{same_label}
+use Rattle.model.specs.Rules.{not_lowered, already}
 use Rattle.model.proofs.Tests.{not_on, not-off}
-use Rattle.unit.specs.Rows.{restRow}
+use Rattle.unit.specs.Rows.{rest_row}
 use Rattle.unit.proofs.Stores.{rest-put-back}
 use Rattle.kinds.specs.Carried.{stores}
 use Rattle.kinds.proofs.Answers.{does-refused, does-granted, level-refused, level-lowered, level-last}
@@ -54,7 +54,7 @@ returns-2 c =
     let start = tested.before.before.before.before.before.before.before.args in
     let pre = tested.before.before.before.before.before.before.before.requires in
     let passed = sym tested.before.before.before.before.refuses.ensures ∙ tested.before.before.before.if1.false in
-    let raised_is = tested.not-lowered.ensures ∙ ap (λ (k : Label). notLowered k (Present start.level)) tested.before.label_of.ensures in
+    let raised_is = tested.not-lowered.ensures ∙ ap (λ (k : Label). not_lowered k (Present start.level)) tested.before.label_of.ensures in
     does-refused (ChangeLevel start.s start.o start.level) start.unit.now _ _ (level-lowered start.unit.now pre.0 start.s start.o start.level pre.1.1 _ tested.before.before.before.before.before.by-owner.ensures passed _ raised_is (not_on _ c.before.if2.true)) _ refl c.number2.ensures refl
 
 rest-of-requires : tie.Need-rest-of-requires
@@ -85,12 +85,12 @@ returns-3 c =
     let start = tested.before.before.before.before.before.before.before.args in
     let pre = tested.before.before.before.before.before.before.before.requires in
     let passed = sym tested.before.before.before.before.refuses.ensures ∙ tested.before.before.before.if1.false in
-    let raised_is = tested.not-lowered.ensures ∙ ap (λ (k : Label). notLowered k (Present start.level)) tested.before.label_of.ensures in
+    let raised_is = tested.not-lowered.ensures ∙ ap (λ (k : Label). not_lowered k (Present start.level)) tested.before.label_of.ensures in
     does-refused (ChangeLevel start.s start.o start.level) start.unit.now _ _
-    (level-last start.unit.now pre.0 start.s start.o start.level pre.1.1 _ tested.before.before.before.before.before.by-owner.ensures passed _ raised_is (not-off _ c.before.before.before.before.before.before.before.before.before.before.before.before.before.if2.false) _ c.before.before.before.before.before.before.before.before.before.set-label.ensures _ c.before.before.before.before.before.before.label-fits.ensures) _
+    (level-last start.unit.now pre.0 start.s start.o start.level pre.1.1 _ tested.before.before.before.before.before.by-owner.ensures passed _ raised_is (not-off _ c.before.before.before.before.before.before.before.before.before.before.before.before.before.if2.false) _ c.before.before.before.before.before.before.before.before.before.set-label.ensures _ c.before.before.before.before.before.before.label_fits.ensures) _
     (sym c.before.before.before.before.before.refuses2.ensures ∙ c.before.before.before.before.if3.true) c.number3.ensures
     (c.before.before.set_rest.ensures
-    ∙ ap₂ (λ w row. set w (restRow start.o) row) c.before.before.before.before.before.before.before.before.before.set-label.ensures c.before.before.before.before.before.before.before.before.before.before.before.rest_of.ensures
+    ∙ ap₂ (λ w row. set w (rest_row start.o) row) c.before.before.before.before.before.before.before.before.before.set-label.ensures c.before.before.before.before.before.before.before.before.before.before.before.rest_of.ensures
     ∙ rest-put-back start.unit.now pre.0 start.o pre.1.1 _)
 
 is-level-requires : tie.Need-is-level-requires
@@ -109,11 +109,11 @@ returns-4 c =
     let start = tested.before.before.before.before.before.before.before.args in
     let pre = tested.before.before.before.before.before.before.before.requires in
     let passed = sym tested.before.before.before.before.refuses.ensures ∙ tested.before.before.before.if1.false in
-    let raised_is = tested.not-lowered.ensures ∙ ap (λ (k : Label). notLowered k (Present start.level)) tested.before.label_of.ensures in
+    let raised_is = tested.not-lowered.ensures ∙ ap (λ (k : Label). not_lowered k (Present start.level)) tested.before.label_of.ensures in
     does-granted (ChangeLevel start.s start.o start.level) start.unit.now _ _
-    (level-last start.unit.now pre.0 start.s start.o start.level pre.1.1 _ tested.before.before.before.before.before.by-owner.ensures passed _ raised_is (not-off _ c.before.before.before.before.before.before.before.before.before.before.before.if2.false) _ c.before.before.before.before.before.before.before.set-label.ensures _ c.before.before.before.before.label-fits.ensures) _
+    (level-last start.unit.now pre.0 start.s start.o start.level pre.1.1 _ tested.before.before.before.before.before.by-owner.ensures passed _ raised_is (not-off _ c.before.before.before.before.before.before.before.before.before.before.before.if2.false) _ c.before.before.before.before.before.before.before.set-label.ensures _ c.before.before.before.before.label_fits.ensures) _
     (sym c.before.before.before.refuses2.ensures ∙ c.before.before.if3.false) c.before.is-level.result
-    (c.before.is-level.ensures ∙ ap (λ (k : Label). sameLabel k (Present start.level)) tested.before.label_of.ensures)
+    (c.before.is-level.ensures ∙ ap (λ (k : Label). same_label k (Present start.level)) tested.before.label_of.ensures)
     c.flag.ensures c.before.before.before.before.before.before.before.set-label.ensures
 
 pub change-level-spec : {M : Type 1} → statement M

@@ -1,7 +1,7 @@
 -- `numbers::order_number` meets its contract.
 -- Assumes nothing.
 use mathlib.Core.Path.{sym, ap}
-use Rattle.numbers.specs.Orders.{orderNumber}
+use Rattle.numbers.specs.Orders.{order_number}
 use borrow.Author.Rules.{rules}
 use Rattle.numbers.proofs.order_number.Statement.{statement}
 use Rattle.numbers.proofs.order_number.Tie as tie
@@ -46,20 +46,20 @@ enum-told-2 : tie.Need-enum-told-2
 enum-told-2 c = search rules
 
 returns : tie.Need-returns
-unfolding orderNumber
-returns c = sym (ap orderNumber c.enum_told.given.1)
+unfolding order_number
+returns c = sym (ap order_number c.enum_told.given.1)
 
 returns-2 : tie.Need-returns-2
-unfolding orderNumber
-returns-2 c = sym (ap orderNumber c.before.found.given.1)
+unfolding order_number
+returns-2 c = sym (ap order_number c.before.found.given.1)
 
 returns-3 : tie.Need-returns-3
-unfolding orderNumber
-returns-3 c = sym (ap orderNumber c.before.found2.given.1)
+unfolding order_number
+returns-3 c = sym (ap order_number c.before.found2.given.1)
 
 returns-4 : tie.Need-returns-4
-unfolding orderNumber
-returns-4 c = sym (ap orderNumber c.enum-told2.given.1)
+unfolding order_number
+returns-4 c = sym (ap order_number c.enum-told2.given.1)
 
 pub order-number-spec : {M : Type 1} → statement M
 order-number-spec =

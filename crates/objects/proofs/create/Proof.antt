@@ -3,15 +3,15 @@
 use mathlib.Core.Path.{◌≡◌, refl, sym, ◌∙◌}
 use Rattle.model.specs.declared.Request.TheVariants.{Create}
 use Rattle.model.specs.Rules.{already, checks}
-use Rattle.unit.specs.Rows.{stateIn}
-use Rattle.unit.specs.Stored.{setObject}
+use Rattle.unit.specs.Rows.{state_in}
+use Rattle.unit.specs.Stored.{set_object}
 use Rattle.kinds.specs.Carried.{stores}
 use Rattle.kinds.proofs.Answers.{does-refused, does-granted}
 use borrow.Author.Rules.{rules}
 use Rattle.objects.proofs.create.Statement.{statement}
 use Rattle.objects.proofs.create.Tie as tie
 
-checked : (c : tie.After-check3) → c.check3.result ≡ checks (Create c.before.before.before.before.before.before.before.before.before.args.s c.before.before.before.before.before.before.before.before.before.args.o c.before.before.before.before.before.before.before.before.before.args.how) (stateIn c.before.before.before.before.before.before.before.before.before.args.unit.now)
+checked : (c : tie.After-check3) → c.check3.result ≡ checks (Create c.before.before.before.before.before.before.before.before.before.args.s c.before.before.before.before.before.before.before.before.before.args.o c.before.before.before.before.before.before.before.before.before.args.how) (state_in c.before.before.before.before.before.before.before.before.before.args.unit.now)
 unfolding checks
 checked c =
     rw (c.check3.ensures, c.before.is-enrolled.ensures, c.before.before.before.check2.ensures, c.before.before.before.before.is_live.ensures, c.before.before.before.before.before.before.check.ensures, c.before.before.before.before.before.before.before.parent_live.ensures)
@@ -68,7 +68,7 @@ same-length-2 : tie.Need-same-length-2
 same-length-2 c = search rules
 
 returns-2 : tie.Need-returns-2
-unfolding already stores setObject
+unfolding already stores set_object
 returns-2 c =
     let start = c.before.before.before.before.before.before.before.before.before.before.before.before.before.before.before.before.before in
     does-granted (Create start.args.s start.args.o start.args.how) start.args.unit.now _ _ (sym (checked c.before.before.before.before.before.before.before.before)) _

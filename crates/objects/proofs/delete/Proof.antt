@@ -12,7 +12,7 @@ use Rattle.model.specs.State.{enrolled, object}
 use Rattle.model.specs.Decisions.{refuses}
 use Rattle.model.specs.Rules.{already, checks}
 use Rattle.model.proofs.Tests.{split, apart, stop}
-use Rattle.unit.specs.Rows.{stateIn}
+use Rattle.unit.specs.Rows.{state_in}
 use Rattle.kinds.specs.Carried.{stores}
 use Rattle.kinds.proofs.Answers.{does-refused, does-granted}
 use borrow.Author.Rules.{rules}
@@ -53,7 +53,7 @@ remove-requires : tie.Need-remove-requires
 remove-requires c κs =
     let start = c.before.before.before.before.before in
     let passed = sym (ap refuses c.before.before.before.by-owner.ensures) ∙ sym c.before.before.refuses.ensures ∙ c.before.if1.false in
-    (start.requires.0, (start.requires.1.1, deleted-live start.args.s start.args.o (stateIn start.args.unit.now) passed))
+    (start.requires.0, (start.requires.1.1, deleted-live start.args.s start.args.o (state_in start.args.unit.now) passed))
 
 same-length-2 : tie.Need-same-length-2
 same-length-2 c = search rules

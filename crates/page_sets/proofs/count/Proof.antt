@@ -3,7 +3,7 @@
 use native.Mathlib.Omega.{arith}
 use Rattle.bits.specs.Bits.{bit}
 use Rattle.model.specs.Modes.{has}
-use Rattle.page_sets.specs.Sets.{modeCount}
+use Rattle.page_sets.specs.Sets.{mode_count}
 use Rattle.page_sets.proofs.Counts.{count_small, over-modes}
 use borrow.Author.Rules.{rules}
 use Rattle.page_sets.proofs.count.Statement.{statement}
@@ -22,7 +22,7 @@ bit-of-requires-4 : tie.Need-bit-of-requires-4
 bit-of-requires-4 c κs = search rules
 
 returns : tie.Need-returns
-unfolding modeCount
+unfolding mode_count
 returns c =
     let set = c.before.before.before.before.args.set in
     omega (arith, over-modes (λ x. bit (has x set)), c.before.before.before.bit-of.ensures, c.before.before.bit-of2.ensures, c.before.bit-of3.ensures, c.bit-of4.ensures)

@@ -1,7 +1,7 @@
 -- `profiles::keeps` meets its contract.
 -- Assumes nothing.
 use mathlib.Core.Bool.{◌&&◌}
-use Rattle.model.specs.Profiles.{absentBeyond, levelsInside}
+use Rattle.model.specs.Profiles.{absent_beyond, levels_inside}
 use borrow.Author.Rules.{rules}
 use Rattle.profiles.proofs.keeps.Statement.{statement}
 use Rattle.profiles.proofs.keeps.Tie as tie
@@ -13,7 +13,7 @@ objects-kept-requires : tie.Need-objects-kept-requires
 objects-kept-requires c κs = search rules
 
 returns : tie.Need-returns
-unfolding absentBeyond levelsInside
+unfolding absent_beyond levels_inside
 returns c =
     let s = c.before.before.before.before.before.subjects-kept.ensures in
     let o = c.before.before.before.before.objects-kept.ensures in

@@ -8,8 +8,8 @@ use lib.Dec.{ltb}
 use Rattle.model.specs.declared.Profile.{Profile}
 use Rattle.model.specs.Tests.{all_below}
 use Rattle.model.specs.Levels.{present}
-use Rattle.model.specs.Profiles.{labelInside, subjectInside, clearanceInside}
-use Rattle.unit.specs.Rows.{stateIn}
+use Rattle.model.specs.Profiles.{label_inside, subject_inside, clearance_inside}
+use Rattle.unit.specs.Rows.{state_in}
 use Rattle.profiles.proofs.Below.{below_next}
 use borrow.Author.Rules.{rules}
 use Rattle.profiles.proofs.subjects_kept.Statement.{statement}
@@ -17,7 +17,7 @@ use Rattle.profiles.proofs.subjects_kept.Tie as tie
 
 abbrev invariant-loop : tie.invariant-loop
 invariant-loop unit p absent₀ inside₀ i₀ absent inside i =
-    (i ≤ 16) × (absent ≡ all_below i (subjectInside (stateIn unit))) × (inside ≡ all_below i (clearanceInside (stateIn unit)))
+    (i ≤ 16) × (absent ≡ all_below i (subject_inside (state_in unit))) × (inside ≡ all_below i (clearance_inside (state_in unit)))
 
 abbrev decreases-loop : tie.decreases-loop
 decreases-loop unit p absent₀ inside₀ i₀ absent inside i = 16 - i
@@ -49,20 +49,20 @@ loop-less c = search rules
 loop-again : tie.Need-loop-preserved invariant-loop decreases-loop
 loop-again c =
     let loop = c.before.before.before.before.before.loop in
-    let m = stateIn c.before.before.before.before.before.before.before.args.unit.now in
+    let m = state_in c.before.before.before.before.before.before.before.args.unit.now in
     let p = c.before.before.before.before.before.before.profile-of.ensures in
     let clearance = c.before.before.before.clearance-of.ensures in
     let absent = ap₂ (λ (k : Profile) (b : Bool). ltb loop.i k.subjects || not b) p (c.before.is-present.ensures ∙ ap present clearance) in
-    let inside = c.label_inside.ensures ∙ ap₂ labelInside p clearance in
-    (omega (arith, c.before.before.before.before.loop-test.true), below_next loop.i (subjectInside m) _ _ loop.invariant.1 absent, below_next loop.i (clearanceInside m) _ _ loop.invariant.2 inside)
+    let inside = c.label_inside.ensures ∙ ap₂ label_inside p clearance in
+    (omega (arith, c.before.before.before.before.loop-test.true), below_next loop.i (subject_inside m) _ _ loop.invariant.1 absent, below_next loop.i (clearance_inside m) _ _ loop.invariant.2 inside)
 
 returns : tie.Need-returns invariant-loop decreases-loop
 returns c =
     let loop = c.before.loop in
     let end : loop.i ≡ 16 = omega (arith, c.loop-test.false, loop.invariant.0) in
-    let m = stateIn c.before.before.before.args.unit.now in
-    let absent = loop.invariant.1 ∙ ap (λ (k : ℕ). all_below k (subjectInside m)) end in
-    let inside = loop.invariant.2 ∙ ap (λ (k : ℕ). all_below k (clearanceInside m)) end in
+    let m = state_in c.before.before.before.args.unit.now in
+    let absent = loop.invariant.1 ∙ ap (λ (k : ℕ). all_below k (subject_inside m)) end in
+    let inside = loop.invariant.2 ∙ ap (λ (k : ℕ). all_below k (clearance_inside m)) end in
     λ i. record { absent = absent i; inside = inside i }
 
 pub subjects-kept-spec : {M : Type 1} → statement M

@@ -5,7 +5,7 @@ use Prim.Native.Nat.{◌+◌, ◌/◌}
 use native.Mathlib.Omega.{arith}
 use lib.Dec.{lit≤}
 use Rattle.bits.specs.Stream.{next, ends}
-use Rattle.bits.specs.Laws.{toBits-split}
+use Rattle.bits.specs.Laws.{to_bits-split}
 use Rattle.record_fields.proofs.Streams.{appended}
 use borrow.Author.Rules.{rules}
 use Rattle.record_fields.proofs.write_companies.Statement.{statement}
@@ -31,7 +31,7 @@ returns c =
     let w = a.companies in
     let A = appended a.out.now first.append.new.0 a.at a.acc 8 (w / 256) first.append.result (lit≤ tt) (omega arith) first.append.ensures in
     let B = appended first.append.new.0 second.append2.new.0 (a.at + 8) first.append.result 8 w second.append2.result (lit≤ tt) (omega (arith, A.size)) second.append2.ensures in
-    ends _ _ (sym (toBits-split 8 8 w)) (omega arith) (next _ _ (omega arith) A B)
+    ends _ _ (sym (to_bits-split 8 8 w)) (omega arith) (next _ _ (omega arith) A B)
 
 pub write-companies-spec : {M : Type 1} → statement M
 write-companies-spec =

@@ -13,8 +13,8 @@ use lib.ListN.{length, take, get_or}
 use lib.Seq.{take_all}
 use Rattle.bits.specs.Bits.{to_bits}
 use Rattle.bits.specs.Stream.{Appends, stay, next, ends}
-use Rattle.model.specs.State.{subjectCount}
-use Rattle.model.specs.Layout.{pairWidth, setsBits}
+use Rattle.model.specs.State.{subject_count}
+use Rattle.model.specs.Layout.{pair_width, sets_bits}
 use Rattle.record_fields.proofs.Words.{pair-bits}
 use Rattle.record_fields.proofs.Streams.{appended, sets_more, no-sets}
 use Rattle.record_fields.proofs.write_sets.Statement.{statement}
@@ -22,15 +22,15 @@ use Rattle.record_fields.proofs.write_sets.Tie as tie
 
 abbrev invariant-loop : tie.invariant-loop
 invariant-loop out₀ at acc rights held waiting₀ s₀ out waiting s =
-    (s ≤ subjectCount) × (length rights ≡ subjectCount) × (length held ≡ subjectCount) × Appends out₀ at acc (setsBits (take s rights) (take s held)) out (at + pairWidth * s) waiting
+    (s ≤ subject_count) × (length rights ≡ subject_count) × (length held ≡ subject_count) × Appends out₀ at acc (sets_bits (take s rights) (take s held)) out (at + pair_width * s) waiting
 
 abbrev decreases-loop : tie.decreases-loop
-decreases-loop out₀ at acc rights held waiting₀ s₀ out waiting s = subjectCount - s
+decreases-loop out₀ at acc rights held waiting₀ s₀ out waiting s = subject_count - s
 
 loop-holds : tie.Need-loop-init invariant-loop decreases-loop
 loop-holds c =
     let a = c.before.args in
-    (omega arith, omega arith, omega arith, ends [] (setsBits [] []) no-sets (omega arith) (stay a.out.now a.at a.acc (omega arith)))
+    (omega arith, omega arith, omega arith, ends [] (sets_bits [] []) no-sets (omega arith) (stay a.out.now a.at a.acc (omega arith)))
 
 array-read-side-by-side : tie.Need-array-read-side-by-side invariant-loop decreases-loop
 array-read-side-by-side c = search rules
@@ -64,8 +64,8 @@ loop-again c =
     let a = pair.before.before.before.before.args in
     let s = loop.s in
     let A = appended loop.out put.append.new.0 (a.at + 8 * s) loop.waiting 8 pair.side_by_side.result put.append.result (lit≤ tt) (omega (arith, loop.invariant.3.size)) put.append.ensures in
-    let more : setsBits (take s a.t4) (take s a.t5) ++ to_bits 8 pair.side_by_side.result ≡ setsBits (take (s + 1) a.t4) (take (s + 1) a.t5) =
-    ap (λ (l : List Bool). setsBits (take s a.t4) (take s a.t5) ++ l) (ap (to_bits 8) pair.side_by_side.ensures ∙ pair-bits 4 (get_or a.t4 s 0) (get_or a.t5 s 0) (omega arith))
+    let more : sets_bits (take s a.t4) (take s a.t5) ++ to_bits 8 pair.side_by_side.result ≡ sets_bits (take (s + 1) a.t4) (take (s + 1) a.t5) =
+    ap (λ (l : List Bool). sets_bits (take s a.t4) (take s a.t5) ++ l) (ap (to_bits 8) pair.side_by_side.ensures ∙ pair-bits 4 (get_or a.t4 s 0) (get_or a.t5 s 0) (omega arith))
     ∙ sets_more s a.t4 a.t5 (omega (arith, loop.invariant.1)) (omega (arith, loop.invariant.2)) in
     (omega arith, loop.invariant.1, loop.invariant.2, ends _ _ more (omega arith) (next _ _ refl loop.invariant.3 A))
 
@@ -75,10 +75,10 @@ same_length c = search rules
 returns : tie.Need-returns invariant-loop decreases-loop
 returns c =
     let a = c.before.before.before.args in
-    let end : c.before.loop.s ≡ subjectCount = omega arith in
-    let all : setsBits (take c.before.loop.s a.t4) (take c.before.loop.s a.t5) ≡ setsBits a.t4 a.t5 =
-    ap (λ (s : ℕ). setsBits (take s a.t4) (take s a.t5)) end
-    ∙ ap₂ setsBits (take_all subjectCount a.t4 (omega (arith, c.before.loop.invariant.1))) (take_all subjectCount a.t5 (omega (arith, c.before.loop.invariant.2))) in
+    let end : c.before.loop.s ≡ subject_count = omega arith in
+    let all : sets_bits (take c.before.loop.s a.t4) (take c.before.loop.s a.t5) ≡ sets_bits a.t4 a.t5 =
+    ap (λ (s : ℕ). sets_bits (take s a.t4) (take s a.t5)) end
+    ∙ ap₂ sets_bits (take_all subject_count a.t4 (omega (arith, c.before.loop.invariant.1))) (take_all subject_count a.t5 (omega (arith, c.before.loop.invariant.2))) in
     ends _ _ all (omega arith) c.before.loop.invariant.3
 
 pub write-sets-spec : {M : Type 1} → statement M

@@ -4,7 +4,7 @@ use mathlib.Core.Path.{refl, sym, ap, ◌∙◌}
 use Rattle.model.specs.declared.Request.TheVariants.{Give}
 use Rattle.model.specs.Modes.{has, add}
 use Rattle.model.specs.Rules.{already}
-use Rattle.unit.specs.Stored.{setRights}
+use Rattle.unit.specs.Stored.{set_rights}
 use Rattle.kinds.specs.Carried.{stores}
 use Rattle.kinds.proofs.Answers.{does-refused, does-granted}
 use borrow.Author.Rules.{rules}
@@ -51,7 +51,7 @@ unfolding already stores
 returns-2 c = let start = c.before.before.before.before.before.before.before.before.before.before.before.before in
     does-granted (Give start.args.s start.args.t start.args.o start.args.x) start.args.unit.now _ _ (sym c.before.before.before.before.before.before.before.before.before.before.may-give.ensures) _ (sym c.before.before.before.before.before.before.before.before.before.refuses.ensures ∙ c.before.before.before.before.before.before.before.before.if1.false)
     c.before.has.result (c.before.has.ensures ∙ ap (has start.args.x) c.before.before.before.before.before.before.rights-of.ensures) c.flag.ensures
-    (c.before.before.before.set-rights.ensures ∙ ap (setRights start.args.unit.now start.args.o start.args.t) (c.before.before.before.before.before.add.ensures ∙ ap (add start.args.x) c.before.before.before.before.before.before.rights-of.ensures))
+    (c.before.before.before.set-rights.ensures ∙ ap (set_rights start.args.unit.now start.args.o start.args.t) (c.before.before.before.before.before.add.ensures ∙ ap (add start.args.x) c.before.before.before.before.before.before.rights-of.ensures))
 
 pub give_spec : {M : Type 1} → statement M
 give_spec =

@@ -5,7 +5,7 @@ use Rattle.model.specs.declared.Request.TheVariants.{Rescind}
 use mathlib.Core.Bool.{not, ◌&&◌}
 use Rattle.model.specs.Modes.{has, remove}
 use Rattle.model.specs.Rules.{already, checks}
-use Rattle.unit.specs.Stored.{setRights, setHeld}
+use Rattle.unit.specs.Stored.{set_rights, set_held}
 use Rattle.kinds.specs.Carried.{stores}
 use Rattle.kinds.proofs.Answers.{does-refused, does-granted}
 use borrow.Author.Rules.{rules}
@@ -67,8 +67,8 @@ returns-2 c = let start = c.before.before.before.before.before.before.before.bef
     (not c.before.before.has.result && not c.before.has2.result)
     (ap₂ (λ a b. not a && not b) (c.before.before.has.ensures ∙ ap (has x) c.before.before.before.before.before.before.before.before.before.before.before.before.before.rights-of.ensures) (c.before.has2.ensures ∙ ap (has x) c.before.before.before.before.before.before.before.before.before.before.before.held_by.ensures)) c.flag.ensures
     (c.before.before.before.before.set-held.ensures
-    ∙ ap₂ (λ w k. setHeld w start.args.o start.args.t k)
-    (c.before.before.before.before.before.before.before.set-rights.ensures ∙ ap (setRights start.args.unit.now start.args.o start.args.t) (c.before.before.before.before.before.before.before.before.before.before.remove.ensures ∙ ap (remove x) c.before.before.before.before.before.before.before.before.before.before.before.before.before.rights-of.ensures))
+    ∙ ap₂ (λ w k. set_held w start.args.o start.args.t k)
+    (c.before.before.before.before.before.before.before.set-rights.ensures ∙ ap (set_rights start.args.unit.now start.args.o start.args.t) (c.before.before.before.before.before.before.before.before.before.before.remove.ensures ∙ ap (remove x) c.before.before.before.before.before.before.before.before.before.before.before.before.before.rights-of.ensures))
     (c.before.before.before.before.before.before.before.before.before.remove2.ensures ∙ ap (remove x) c.before.before.before.before.before.before.before.before.before.before.before.held_by.ensures))
 
 pub rescind-spec : {M : Type 1} → statement M

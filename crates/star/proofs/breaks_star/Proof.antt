@@ -5,9 +5,9 @@ use native.Mathlib.Omega.{arith}
 use mathlib.Core.Path.{◌≡◌, refl, sym, ap, ◌∙◌}
 use mathlib.Core.Bool.{true, not}
 use borrow.Author.Count.{below_more}
-use Rattle.model.specs.Rules.{starFor}
+use Rattle.model.specs.Rules.{star_for}
 use Rattle.model.proofs.Tests.{not_on, not-off}
-use Rattle.unit.specs.Rows.{objectsIn}
+use Rattle.unit.specs.Rows.{objects_in}
 use Rattle.star.proofs.Listed.{busy-covers}
 use Rattle.star.proofs.Between.{between_in, between-out}
 use borrow.Author.Rules.{rules}
@@ -15,7 +15,7 @@ use Rattle.star.proofs.breaks_star.Statement.{statement}
 use Rattle.star.proofs.breaks_star.Tie as tie
 
 abbrev invariant-loop : tie.invariant-loop
-invariant-loop unit low high busy count s₀ s = (low ≤ s) × ((k : ℕ) → k < s → low ≤ k → starFor k (objectsIn unit) ≡ true)
+invariant-loop unit low high busy count s₀ s = (low ≤ s) × ((k : ℕ) → k < s → low ≤ k → star_for k (objects_in unit) ≡ true)
 
 abbrev decreases-loop : tie.decreases-loop
 decreases-loop unit low high busy count s₀ s = high - s

@@ -7,10 +7,10 @@ use lib.Dec.{eqb}
 use borrow.Author.Rules.{rules}
 use borrow.Author.Tests.{eq-eqb, ne_eqb}
 use Rattle.model.proofs.Tests.{cond-true, cond-false}
-use Rattle.model.specs.Modes.{anyNeedsLabel}
+use Rattle.model.specs.Modes.{any_needs_label}
 use Rattle.model.specs.State.{object}
-use Rattle.unit.specs.Rows.{stateIn}
-use Rattle.star.specs.Idle.{free, nothingHeld, idle}
+use Rattle.unit.specs.Rows.{state_in}
+use Rattle.star.specs.Idle.{free, nothing_held, idle}
 use Rattle.star.proofs.idle.Statement.{statement}
 use Rattle.star.proofs.idle.Tie as tie
 
@@ -39,9 +39,9 @@ returns : tie.Need-returns
 unfolding idle
 returns c =
     let a = c.before.before.before.before.args in
-    let row = (object (stateIn a.unit.now) a.o).held in
+    let row = (object (state_in a.unit.now) a.o).held in
     let first = c.before.before.before.smaller.ensures in
-    ap not (c.table-asks.ensures ∙ ap anyNeedsLabel c.before.held_by.ensures) ∙ ap (free row) first
+    ap not (c.table-asks.ensures ∙ ap any_needs_label c.before.held_by.ensures) ∙ ap (free row) first
     ∙ sym (cond-true (eqb (min a.low 15 + 1) a.end) _ _ (eq-eqb _ _ (ap (λ k. k + 1) (sym first) ∙ c.before.before.if1.true)))
 
 returns-2 : tie.Need-returns-2
@@ -49,7 +49,7 @@ unfolding idle
 returns-2 c =
     let a = c.before.before.before.before.args in
     let first = c.before.before.before.smaller.ensures in
-    c.nothing-held.ensures ∙ ap nothingHeld c.before.held-row.ensures
+    c.nothing-held.ensures ∙ ap nothing_held c.before.held-row.ensures
     ∙ sym (cond-false (eqb (min a.low 15 + 1) a.end) _ _ (ne_eqb _ _ (λ e. c.before.before.if1.false (ap (λ k. k + 1) first ∙ e))))
 
 pub idle_spec : {M : Type 1} → statement M

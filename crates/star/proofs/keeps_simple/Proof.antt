@@ -2,16 +2,16 @@
 -- Assumes nothing.
 use mathlib.Core.List.{List}
 use Rattle.model.specs.Tests.{all_below, implies}
-use Rattle.model.specs.Modes.{anyObserves}
-use Rattle.model.specs.Rules.{simpleAll}
+use Rattle.model.specs.Modes.{any_observes}
+use Rattle.model.specs.Rules.{simple_all}
 use Rattle.model.specs.State.{object, clearance}
-use Rattle.unit.specs.Rows.{stateIn}
+use Rattle.unit.specs.Rows.{state_in}
 use Rattle.model.proofs.Tests.{split, apart}
 use Prim.Native.Nat.{ℕ, ◌-◌, ◌<◌, ◌≤◌}
 use native.Mathlib.Omega.{arith}
 use mathlib.Core.Path.{◌≡◌, sym, ap, ap₂, ◌∙◌}
 use mathlib.Core.Bool.{Bool, true}
-use Rattle.model.specs.State.{heldBy}
+use Rattle.model.specs.State.{held_by}
 use borrow.Author.Count.{below_more}
 use Rattle.model.specs.Levels.{dominates}
 use Rattle.model.proofs.Tests.{not_on, not-off, below_in, below_out}
@@ -21,7 +21,7 @@ use Rattle.star.proofs.keeps_simple.Tie as tie
 
 -- the test at one subject
 abbrev passes : List (List ℕ) → ℕ → ℕ → Bool
-passes u o s = implies (anyObserves (heldBy (object (stateIn u) o) s)) (dominates (clearance (stateIn u) s) (object (stateIn u) o).label)
+passes u o s = implies (any_observes (held_by (object (state_in u) o) s)) (dominates (clearance (state_in u) s) (object (state_in u) o).label)
 
 abbrev invariant-loop : tie.invariant-loop
 invariant-loop unit o label i₀ i = (i ≤ 16) × ((k : ℕ) → k < i → passes unit o k ≡ true)
@@ -32,7 +32,7 @@ decreases-loop unit o label i₀ i = 16 - i
 tested : (c : tie.After-implies invariant-loop decreases-loop) → c.implies.result ≡ passes c.before.before.before.before.before.before.before.before.args.unit.now c.before.before.before.before.before.before.before.before.args.o c.before.before.before.before.before.before.loop.i
 tested c =
     c.implies.ensures
-    ∙ ap₂ implies (c.before.before.before.any-observes.ensures ∙ ap anyObserves c.before.before.before.before.held_by.ensures) (c.before.dominates.ensures ∙ ap₂ dominates c.before.before.clearance-of.ensures c.before.before.before.before.before.before.before.label_of.ensures)
+    ∙ ap₂ implies (c.before.before.before.any-observes.ensures ∙ ap any_observes c.before.before.before.before.held_by.ensures) (c.before.dominates.ensures ∙ ap₂ dominates c.before.before.clearance-of.ensures c.before.before.before.before.before.before.before.label_of.ensures)
 
 label-of-requires : tie.Need-label-of-requires invariant-loop decreases-loop
 label-of-requires c κs = search rules
@@ -59,7 +59,7 @@ implies-requires : tie.Need-implies-requires invariant-loop decreases-loop
 implies-requires c κs = tt
 
 returns : tie.Need-returns invariant-loop decreases-loop
-unfolding simpleAll
+unfolding simple_all
 returns c = let start = c.before.before.before.before.before.before.before.before.before in
     let test = passes start.args.unit.now start.args.o in
     sym (split (all_below 16 test)
@@ -78,7 +78,7 @@ loop-again c =
     (omega (arith, c.before.before.before.before.before.before.loop-test.true), below_more _ _ inv.1 (sym (tested c.before) ∙ not-off _ c.if1.false))
 
 returns-2 : tie.Need-returns-2 invariant-loop decreases-loop
-unfolding simpleAll
+unfolding simple_all
 returns-2 c = let inv = c.before.loop.invariant in
     let start = c.before.before.before in
     sym (below_in 16 (passes start.args.unit.now start.args.o) (λ k h. inv.1 k (omega (arith, c.loop-test.false, inv.0))))

@@ -7,7 +7,7 @@ use mathlib.Core.Path.{◌≡◌, refl, sym, ap, ap₂, ◌∙◌}
 use mathlib.Core.Bool.{not, ◌&&◌}
 use borrow.Author.Rules.{rules}
 use Rattle.model.specs.Tests.{all_below}
-use Rattle.star.specs.Idle.{free, nothingHeld}
+use Rattle.star.specs.Idle.{free, nothing_held}
 use Rattle.star.proofs.nothing_held.Statement.{statement}
 use Rattle.star.proofs.nothing_held.Tie as tie
 
@@ -41,7 +41,7 @@ loop-again c =
     )
 
 returns : tie.Need-returns invariant-loop decreases-loop
-unfolding nothingHeld
+unfolding nothing_held
 returns c =
     let inv = c.before.loop.invariant in
     let e : c.before.loop.s ≡ 16 = omega (arith, c.loop-test.false, inv.0) in

@@ -2,8 +2,8 @@
 -- Assumes nothing.
 use mathlib.Core.Path.{refl, sym, ap, ◌∙◌}
 use mathlib.Core.Bool.{not}
-use Rattle.model.specs.State.{noObject, objectAt}
-use Rattle.unit.specs.Rows.{objectIn, objectsIn}
+use Rattle.model.specs.State.{no_object, object_at}
+use Rattle.unit.specs.Rows.{object_in, objects_in}
 use Rattle.unit.proofs.Tabulated.{tabulate-length}
 use Rattle.star.proofs.Listed.{listed-all, listed-numbers, star-pairs}
 use borrow.Author.Rules.{rules}
@@ -35,11 +35,11 @@ pair-offends-requires c κs =
 returns : tie.Need-returns
 returns c =
     let start = c.before.before.before.before.before.before.before.before.before in
-    let l = objectsIn start.args.unit.now in
+    let l = objects_in start.args.unit.now in
     let C = start.requires.1.1.1 in
     let L = c.before.before.before.before.before.List-held.ensures in
     c.pair-offends.ensures
-    ∙ sym (ap not (star-pairs start.args.s l (tabulate-length 64 (objectIn start.args.unit.now)) noObject (objectAt l) (λ k w. refl) _ _ _ _
+    ∙ sym (ap not (star-pairs start.args.s l (tabulate-length 64 (object_in start.args.unit.now)) no_object (object_at l) (λ k w. refl) _ _ _ _
     (listed-all _ _ _ _ _ C.numbers C.reads L.0) (listed-all _ _ _ _ _ C.numbers C.alters L.1)))
 
 pub subject-breaks-star-spec : {M : Type 1} → statement M

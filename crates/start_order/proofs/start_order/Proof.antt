@@ -3,8 +3,8 @@
 use mathlib.Core.Path.{ap, ◌∙◌, subst}
 use Rattle.model.specs.declared.Profile.{Profile}
 use Rattle.model.specs.Program.{pieces}
-use Rattle.unit.specs.Rows.{Rows, stateIn}
-use Rattle.start_order.specs.Answers.{firstOther}
+use Rattle.unit.specs.Rows.{Rows, state_in}
+use Rattle.start_order.specs.Answers.{first_other}
 use Rattle.start_order.specs.Tried.{Tried}
 use Rattle.start_order.proofs.Searching.{counted, answer-many, answer-other, answer-gets}
 use borrow.Author.Rules.{rules}
@@ -17,7 +17,7 @@ piece-count-requires c κs = search rules
 returns : tie.Need-returns
 returns c =
     let start = c.before.before.before in
-    answer-many (stateIn start.args.unit.now) (pieces start.args.requests.now) _ (counted start.args.requests.now _ c.before.piece-count.ensures) c.if1.true
+    answer-many (state_in start.args.unit.now) (pieces start.args.requests.now) _ (counted start.args.requests.now _ c.before.piece-count.ensures) c.if1.true
 
 profile-of-requires : tie.Need-profile-of-requires
 profile-of-requires c κs = search rules
@@ -29,9 +29,9 @@ returns-2 : tie.Need-returns-2
 returns-2 c =
     let start = c.before.before.before.before.before.before in
     let bs = pieces start.args.requests.now in
-    answer-other (stateIn start.args.unit.now) bs _
+    answer-other (state_in start.args.unit.now) bs _
     (counted start.args.requests.now _ c.before.before.before.before.piece-count.ensures) c.before.before.before.if1.false _
-    (c.before.first-other.ensures ∙ ap (λ (p : Profile). firstOther p bs) c.before.before.profile-of.ensures) c.if2.true
+    (c.before.first-other.ensures ∙ ap (λ (p : Profile). first_other p bs) c.before.before.profile-of.ensures) c.if2.true
 
 slice-aggregate-copy-rows : tie.Need-slice-aggregate-copy-rows
 slice-aggregate-copy-rows c = search rules
@@ -56,7 +56,7 @@ first-clash-requires c κs =
     let start = c.before.before.before.before.before.before.before.before.before.before.before.before.before.before.before in
     let list = c.before.before.before.list-alone in (
       start.requires,
-      subst (λ (u : Rows). Tried (stateIn u) (pieces start.args.requests.now) c.before.before.before.before.before.before.before.before.before.before.before.before.before.piece-count.result list.new.1.1.1.0)
+      subst (λ (u : Rows). Tried (state_in u) (pieces start.args.requests.now) c.before.before.before.before.before.before.before.before.before.before.before.before.before.piece-count.result list.new.1.1.1.0)
           c.before.before.before.before.before.before.before.copy-rows.ensures list.ensures.0,
     )
 
@@ -65,8 +65,8 @@ returns-3 c =
     let start = c.before.before.before.before.before.before.before.before.before.before.before.before.before.before.before.before in
     let bs = pieces start.args.requests.now in
     c.first-clash.ensures
-    ∙ answer-gets (stateIn start.args.unit.now) bs _ (counted start.args.requests.now _ c.before.before.before.before.before.before.before.before.before.before.before.before.before.before.piece-count.ensures)
-    c.before.before.before.before.before.before.before.before.before.before.before.before.before.if1.false _ (c.before.before.before.before.before.before.before.before.before.before.before.first-other.ensures ∙ ap (λ (p : Profile). firstOther p bs) c.before.before.before.before.before.before.before.before.before.before.before.before.profile-of.ensures) c.before.before.before.before.before.before.before.before.before.before.if2.false
+    ∙ answer-gets (state_in start.args.unit.now) bs _ (counted start.args.requests.now _ c.before.before.before.before.before.before.before.before.before.before.before.before.before.before.piece-count.ensures)
+    c.before.before.before.before.before.before.before.before.before.before.before.before.before.if1.false _ (c.before.before.before.before.before.before.before.before.before.before.before.first-other.ensures ∙ ap (λ (p : Profile). first_other p bs) c.before.before.before.before.before.before.before.before.before.before.before.before.profile-of.ensures) c.before.before.before.before.before.before.before.before.before.before.if2.false
 
 pub start-order-spec : {M : Type 1} → statement M
 start-order-spec =

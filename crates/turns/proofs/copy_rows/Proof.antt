@@ -3,7 +3,7 @@
 use Prim.Native.Nat.{◌-◌}
 use native.Mathlib.Omega.{arith}
 use mathlib.Core.Path.{sym, ◌∙◌}
-use Rattle.unit.specs.Rows.{rowCount}
+use Rattle.unit.specs.Rows.{row_count}
 use Rattle.turns.proofs.Copying.{Copied, copied_more, copied_all}
 use borrow.Author.Rules.{rules}
 use Rattle.turns.proofs.copy_rows.Statement.{statement}
@@ -13,7 +13,7 @@ abbrev invariant-loop : tie.invariant-loop
 invariant-loop unit copy₀ i₀ copy i = Copied unit copy i
 
 abbrev decreases-loop : tie.decreases-loop
-decreases-loop unit copy₀ i₀ copy i = rowCount - i
+decreases-loop unit copy₀ i₀ copy i = row_count - i
 
 loop-holds : tie.Need-loop-init invariant-loop decreases-loop
 loop-holds c = record { bound = omega arith; size = c.requires.1; so_far = λ k h. absurd (omega arith) }

@@ -28,7 +28,7 @@ loop-holds c =
       bound = omega arith;
       counted = c.smaller.ensures ∙ ap (λ k. min k (length c.before.before.before.before.args.out.now)) c.before.piece-count.ensures;
       so_far = start _ _ _;
-      out-length = refl;
+      out_length = refl;
       rows = c.before.before.before.before.requires;
     }
 
@@ -54,7 +54,7 @@ ask-requires : tie.Need-ask-requires invariant-loop decreases-loop
 ask-requires c κs = c.before.before.before.before.loop.invariant.rows
 
 slice-write-out : tie.Need-slice-write-out invariant-loop decreases-loop
-slice-write-out c = omega (arith, c.before.before.before.before.before.loop-test.true, c.before.before.before.before.before.before.loop.invariant.counted, c.before.before.before.before.before.before.loop.invariant.out-length)
+slice-write-out c = omega (arith, c.before.before.before.before.before.loop-test.true, c.before.before.before.before.before.before.loop.invariant.counted, c.before.before.before.before.before.before.loop.invariant.out_length)
 
 add-i : tie.Need-overflow-add-i invariant-loop decreases-loop
 add-i c = omega (arith, c.before.before.before.before.before.loop-test.true, c.before.before.before.before.before.before.loop.invariant.counted, c.before.before.before.before.before.before.before.smaller.ensures)
@@ -74,7 +74,7 @@ loop-again c =
       bound = omega (arith, h);
       counted = L.counted;
       so_far = further _ _ _ _ _ loop.i _ _ _ c.before.before.before.before.before.before.before.before.before.before.before.requires L.so_far (omega (arith, h, L.counted, length-pieces requests)) (omega (arith, h, L.counted)) same r.1 r.0;
-      out-length = length-set loop.out loop.i c.before.ask.result ∙ L.out-length;
+      out_length = length-set loop.out loop.i c.before.ask.result ∙ L.out_length;
       rows = ap length r.1 ∙ asked-length _ loop.unit ∙ L.rows;
     }
 
@@ -82,7 +82,7 @@ same_length : tie.Need-same-length invariant-loop decreases-loop
 same_length c = c.before.loop.invariant.rows ∙ sym c.before.before.before.before.before.before.requires
 
 same-length-2 : tie.Need-same-length-2 invariant-loop decreases-loop
-same-length-2 c = c.before.loop.invariant.out-length
+same-length-2 c = c.before.loop.invariant.out_length
 
 returns : tie.Need-returns invariant-loop decreases-loop
 returns c = ended _ _ _ _ _ _ _ c.before.loop.invariant c.loop-test.false

@@ -5,9 +5,9 @@ use native.Mathlib.Omega.{arith}
 use mathlib.Core.Path.{◌≡◌, sym, ap, ◌∙◌}
 use mathlib.Core.Bool.{true, not}
 use borrow.Author.Count.{below_more}
-use Rattle.model.specs.Rules.{wallFor}
+use Rattle.model.specs.Rules.{wall_for}
 use Rattle.model.proofs.Tests.{not_on, not-off}
-use Rattle.unit.specs.Rows.{objectIn, objectsIn}
+use Rattle.unit.specs.Rows.{object_in, objects_in}
 use Rattle.unit.proofs.Tabulated.{tabulate-length}
 use Rattle.star.proofs.Between.{between_in, between-out}
 use Rattle.wall.proofs.Wall.{wall-unmarked}
@@ -15,7 +15,7 @@ use Rattle.wall.proofs.breaks_wall.Statement.{statement}
 use Rattle.wall.proofs.breaks_wall.Tie as tie
 
 abbrev invariant-loop : tie.invariant-loop
-invariant-loop unit low high s₀ s = (low ≤ s) × ((k : ℕ) → k < s → low ≤ k → wallFor k (objectsIn unit) ≡ true)
+invariant-loop unit low high s₀ s = (low ≤ s) × ((k : ℕ) → k < s → low ≤ k → wall_for k (objects_in unit) ≡ true)
 
 abbrev decreases-loop : tie.decreases-loop
 decreases-loop unit low high s₀ s = high - s
@@ -27,7 +27,7 @@ returns : tie.Need-returns invariant-loop decreases-loop
 returns c =
     let a = c.before.before.args in
     let none = sym c.before.no-companies.ensures ∙ c.if1.true in
-    sym (ap not (between_in a.low a.high _ (λ k g h. wall-unmarked k (objectsIn a.unit.now) (tabulate-length 64 (objectIn a.unit.now)) none)))
+    sym (ap not (between_in a.low a.high _ (λ k g h. wall-unmarked k (objects_in a.unit.now) (tabulate-length 64 (object_in a.unit.now)) none)))
 
 loop-holds : tie.Need-loop-init invariant-loop decreases-loop
 loop-holds c = (omega arith, λ k h g. absurd (omega arith))

@@ -4,7 +4,7 @@ use borrow.Author.Rules.{rules}
 use mathlib.Core.Path.{ap₂, ◌∙◌}
 use mathlib.Core.Bool.{◌&&◌}
 use Rattle.model.specs.Tests.{implies}
-use Rattle.model.specs.Companies.{wallKept}
+use Rattle.model.specs.Companies.{wall_kept}
 use Rattle.wall.proofs.companies_keep.Statement.{statement}
 use Rattle.wall.proofs.companies_keep.Tie as tie
 
@@ -36,7 +36,7 @@ compatible-requires : tie.Need-compatible-requires
 compatible-requires c κs = search rules
 
 returns : tie.Need-returns
-unfolding wallKept
+unfolding wall_kept
 returns c =
     let first = c.before.before.before.before.before.implies.ensures ∙ ap₂ implies (ap₂ ◌&&◌ c.before.before.before.before.before.before.before.before.observes.ensures c.before.before.before.before.before.before.before.alters.ensures) c.before.before.before.before.before.before.confined.ensures in
     let second = c.before.implies2.ensures ∙ ap₂ implies (ap₂ ◌&&◌ c.before.before.before.before.observes2.ensures c.before.before.before.alters2.ensures) c.before.before.confined2.ensures in

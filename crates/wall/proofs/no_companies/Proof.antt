@@ -8,13 +8,13 @@ use lib.Dec.{eqb}
 use borrow.Author.Tests.{eq-eqb, ne_eqb}
 use borrow.Author.Count.{below_more}
 use Rattle.model.proofs.Tests.{split, apart, below_in, below_out}
-use Rattle.unit.specs.Rows.{objectsIn}
-use Rattle.wall.specs.Lists.{unmarked, noCompanies}
+use Rattle.unit.specs.Rows.{objects_in}
+use Rattle.wall.specs.Lists.{unmarked, no_companies}
 use Rattle.wall.proofs.no_companies.Statement.{statement}
 use Rattle.wall.proofs.no_companies.Tie as tie
 
 abbrev invariant-loop : tie.invariant-loop
-invariant-loop unit o₀ o = (o ≤ 64) × ((k : ℕ) → k < o → unmarked (objectsIn unit) k ≡ true)
+invariant-loop unit o₀ o = (o ≤ 64) × ((k : ℕ) → k < o → unmarked (objects_in unit) k ≡ true)
 
 abbrev decreases-loop : tie.decreases-loop
 decreases-loop unit o₀ o = 64 - o
@@ -29,10 +29,10 @@ companies-of-requires : tie.Need-companies-of-requires invariant-loop decreases-
 companies-of-requires c κs = (c.before.before.requires, c.loop-test.true)
 
 returns : tie.Need-returns invariant-loop decreases-loop
-unfolding noCompanies
+unfolding no_companies
 returns c =
-    let l = objectsIn c.before.before.before.before.args.unit.now in
-    split (noCompanies l)
+    let l = objects_in c.before.before.before.before.args.unit.now in
+    split (no_companies l)
     (λ t. apart (below_out 64 (unmarked l) t c.before.before.before.loop.o c.before.before.loop-test.true)
     (ap (λ (n : ℕ). eqb n 0) (sym c.before.companies-of.ensures) ∙ ne_eqb _ 0 c.if1.true))
     (λ f. sym f)
@@ -51,10 +51,10 @@ loop-again c =
     )
 
 returns-2 : tie.Need-returns-2 invariant-loop decreases-loop
-unfolding noCompanies
+unfolding no_companies
 returns-2 c =
     let inv = c.before.loop.invariant in
-    sym (below_in 64 (unmarked (objectsIn c.before.before.args.unit.now)) (λ k h. inv.1 k (omega (arith, c.loop-test.false, inv.0, h))))
+    sym (below_in 64 (unmarked (objects_in c.before.before.args.unit.now)) (λ k h. inv.1 k (omega (arith, c.loop-test.false, inv.0, h))))
 
 pub no-companies-spec : {M : Type 1} → statement M
 no-companies-spec =

@@ -4,7 +4,7 @@ use borrow.Author.Rules.{rules}
 use native.Mathlib.Omega.{arith}
 use mathlib.Core.Path.{ap}
 use mathlib.Core.Bool.{not}
-use Rattle.unit.specs.Rows.{objectIn, objectsIn}
+use Rattle.unit.specs.Rows.{object_in, objects_in}
 use Rattle.unit.proofs.Tabulated.{tabulate-length}
 use Rattle.star.proofs.Listed.{listed-numbers}
 use Rattle.wall.proofs.Wall.{wall-listed}
@@ -40,7 +40,7 @@ returns c =
     let a = c.before.before.before.before.before.before.before.before.args in
     let J = c.before.before.before.join-numbers.ensures in
     ap not
-    (wall-listed a.s (objectsIn a.unit.now) (tabulate-length 64 (objectIn a.unit.now)) _ _ c.before.before.before.before.before.before.list-accessed.ensures _ _ _ J.0 J.1 c.before.altered-confined.ensures)
+    (wall-listed a.s (objects_in a.unit.now) (tabulate-length 64 (object_in a.unit.now)) _ _ c.before.before.before.before.before.before.list-accessed.ensures _ _ _ J.0 J.1 c.before.altered-confined.ensures)
 
 pub subject-breaks-wall-spec : {M : Type 1} → statement M
 subject-breaks-wall-spec =

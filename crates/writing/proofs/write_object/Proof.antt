@@ -9,7 +9,7 @@ use native.Mathlib.Omega.{arith}
 use lib.Dec.{lit≤}
 use Rattle.bits.specs.Bits.{to_bits}
 use Rattle.bits.specs.Stream.{next, ends}
-use Rattle.model.specs.Layout.{labelBits, setsBits, objectBits}
+use Rattle.model.specs.Layout.{label_bits, sets_bits, object_bits}
 use Rattle.record_fields.proofs.Words.{flag-bits}
 use Rattle.record_fields.proofs.Streams.{appended}
 use Rattle.model.proofs.Records.{none-bits}
@@ -29,7 +29,7 @@ same_length c = search rules
 returns : tie.Need-returns
 returns c =
     let none = c.before.before.before.before.before.is_none.ensures c.before.before.before.before.if1.true in
-    ends _ _ (none-bits ∙ ap objectBits (sym none)) refl c.before.before.write-zeros.ensures
+    ends _ _ (none-bits ∙ ap object_bits (sym none)) refl c.before.before.write-zeros.ensures
 
 cast-side-by-side : tie.Need-overflow-cast-side-by-side
 cast-side-by-side c = search rules
@@ -68,7 +68,7 @@ same-length-2 : tie.Need-same-length-2
 same-length-2 c = search rules
 
 returns-2 : tie.Need-returns-2
-unfolding objectBits
+unfolding object_bits
 returns-2 c =
     let fifth = c.before.before in
     let fourth = fifth.before.before.before.before in
@@ -81,13 +81,13 @@ returns-2 c =
     let head = word.side_by_side in
     let A = appended a.out.now first.append.new.0 a.at a.acc 5 head.result first.append.result (lit≤ tt) (omega (arith, word.before.before.before.before.before.before.before.requires)) first.append.ensures in
     let numbers = to_bits 16 ob.companies in
-    let sets = setsBits ob.rights ob.held in
+    let sets = sets_bits ob.rights ob.held in
     let parent = to_bits 7 ob.parent in
     let record-bits =
-    ap (λ (l : List Bool). (((l ++ labelBits ob.label) ++ numbers) ++ sets) ++ parent) (ap (to_bits 5) head.ensures ∙ flag-bits ob.live ob.owner)
-    ∙ append_assoc (((ob.live ∷ to_bits 4 ob.owner) ++ labelBits ob.label) ++ numbers) sets parent
-    ∙ append_assoc ((ob.live ∷ to_bits 4 ob.owner) ++ labelBits ob.label) numbers (sets ++ parent)
-    ∙ append_assoc (ob.live ∷ to_bits 4 ob.owner) (labelBits ob.label) (numbers ++ (sets ++ parent)) in
+    ap (λ (l : List Bool). (((l ++ label_bits ob.label) ++ numbers) ++ sets) ++ parent) (ap (to_bits 5) head.ensures ∙ flag-bits ob.live ob.owner)
+    ∙ append_assoc (((ob.live ∷ to_bits 4 ob.owner) ++ label_bits ob.label) ++ numbers) sets parent
+    ∙ append_assoc ((ob.live ∷ to_bits 4 ob.owner) ++ label_bits ob.label) numbers (sets ++ parent)
+    ∙ append_assoc (ob.live ∷ to_bits 4 ob.owner) (label_bits ob.label) (numbers ++ (sets ++ parent)) in
     ends _ _ record-bits (omega arith)
     (next _ _ (omega arith) (next _ _ (omega arith) (next _ _ (omega arith) (next _ _ (omega arith) A second.write-label.ensures) third.write-companies.ensures) fourth.write-sets.ensures) fifth.write-parent.ensures)
 

@@ -9,21 +9,21 @@ use Rattle.bits.specs.Stream.{Appends, stay, next, ends}
 use Rattle.unit.proofs.Tabulated.{tabulate-length}
 use Rattle.writing.proofs.Streams.{join_more, join-all, no-records}
 use Rattle.model.specs.declared.Label.{Label}
-use Rattle.model.specs.State.{subjectCount, nobody}
-use Rattle.model.specs.Layout.{labelWidth, labelBits, subjectBits, tableBits}
-use Rattle.unit.specs.Rows.{subjectIn, subjectsIn}
+use Rattle.model.specs.State.{subject_count, nobody}
+use Rattle.model.specs.Layout.{label_width, label_bits, subject_bits, table_bits}
+use Rattle.unit.specs.Rows.{subject_in, subjects_in}
 use borrow.Author.Rules.{rules}
 use Rattle.writing.proofs.write_subjects.Statement.{statement}
 use Rattle.writing.proofs.write_subjects.Tie as tie
 
 abbrev invariant-loop : tie.invariant-loop
-invariant-loop out₀ unit waiting₀ s₀ out waiting s = (s ≤ subjectCount) × Appends out₀ 0 0 (tableBits (take s (subjectsIn unit))) out (labelWidth * s) waiting
+invariant-loop out₀ unit waiting₀ s₀ out waiting s = (s ≤ subject_count) × Appends out₀ 0 0 (table_bits (take s (subjects_in unit))) out (label_width * s) waiting
 
 abbrev decreases-loop : tie.decreases-loop
-decreases-loop out₀ unit waiting₀ s₀ out waiting s = subjectCount - s
+decreases-loop out₀ unit waiting₀ s₀ out waiting s = subject_count - s
 
 loop-holds : tie.Need-loop-init invariant-loop decreases-loop
-loop-holds c = (omega arith, ends [] (tableBits []) no-records refl (stay c.before.args.out.now 0 0 (omega arith)))
+loop-holds c = (omega arith, ends [] (table_bits []) no-records refl (stay c.before.args.out.now 0 0 (omega arith)))
 
 cast-clearance-of : tie.Need-overflow-cast-clearance-of invariant-loop decreases-loop
 cast-clearance-of c = search rules
@@ -47,9 +47,9 @@ loop-again : tie.Need-loop-preserved invariant-loop decreases-loop
 loop-again c =
     let loop = c.before.before.before.before.before.before.loop in
     let u = c.before.before.before.before.before.before.before.before.args.unit.now in
-    let l = subjectsIn u in
-    let one = ap (λ (k : Label). tableBits (take loop.s l) ++ labelBits k) c.before.before.before.before.clearance-of.ensures in
-    (omega arith, ends _ _ (one ∙ join_more subjectBits loop.s l nobody (omega (arith, c.before.before.before.before.before.loop-test.true, tabulate-length subjectCount (subjectIn u)))) (omega arith) (next _ _ refl loop.invariant.1 c.before.before.write-label.ensures))
+    let l = subjects_in u in
+    let one = ap (λ (k : Label). table_bits (take loop.s l) ++ label_bits k) c.before.before.before.before.clearance-of.ensures in
+    (omega arith, ends _ _ (one ∙ join_more subject_bits loop.s l nobody (omega (arith, c.before.before.before.before.before.loop-test.true, tabulate-length subject_count (subject_in u)))) (omega arith) (next _ _ refl loop.invariant.1 c.before.before.write-label.ensures))
 
 same_length : tie.Need-same-length invariant-loop decreases-loop
 same_length c = search rules
@@ -58,7 +58,7 @@ returns : tie.Need-returns invariant-loop decreases-loop
 returns c =
     let u = c.before.before.before.args.unit.now in
     let loop = c.before.loop in
-    ends _ _ (join-all subjectBits loop.s subjectCount (subjectsIn u) (omega arith) (tabulate-length subjectCount (subjectIn u))) (omega arith) loop.invariant.1
+    ends _ _ (join-all subject_bits loop.s subject_count (subjects_in u) (omega arith) (tabulate-length subject_count (subject_in u))) (omega arith) loop.invariant.1
 
 pub write-subjects-spec : {M : Type 1} → statement M
 write-subjects-spec =

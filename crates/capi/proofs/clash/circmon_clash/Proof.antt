@@ -3,8 +3,8 @@
 use mathlib.Core.Path.{ap, ◌∙◌}
 use Rattle.model.specs.Program.{pieces}
 use Rattle.journaled.proofs.Parts.{monitor-says}
-use Rattle.start_order.specs.Answers.{startOrder}
-use Rattle.numbers.specs.Orders.{orderNumber}
+use Rattle.start_order.specs.Answers.{start_order}
+use Rattle.numbers.specs.Orders.{order_number}
 use borrow.Author.Rules.{rules}
 use Rattle.capi.proofs.clash.circmon_clash.Statement.{statement}
 use Rattle.capi.proofs.clash.circmon_clash.Tie as tie
@@ -27,7 +27,7 @@ order-number-requires c κs = search rules
 returns : tie.Need-returns
 returns c =
     let args = c.before.before.before.before.before.args in
-    c.order-number.ensures ∙ ap orderNumber (c.before.start-order.ensures ∙ ap (startOrder (pieces args.requests.now)) (monitor-says args.unit.now))
+    c.order-number.ensures ∙ ap order_number (c.before.start-order.ensures ∙ ap (start_order (pieces args.requests.now)) (monitor-says args.unit.now))
 
 pub circmon-clash-spec : {M : Type 1} → statement M
 circmon-clash-spec =

@@ -1,7 +1,7 @@
 -- `capi::circmon_compare` meets its contract.
 -- Assumes nothing.
 use mathlib.Core.Path.{◌∙◌, ap}
-use Rattle.numbers.specs.Comparing.{comparisonNumber}
+use Rattle.numbers.specs.Comparing.{comparison_number}
 use Rattle.capi.specs.Comparing.{compared}
 use Rattle.capi.proofs.levels.circmon_compare.Statement.{statement}
 use Rattle.capi.proofs.levels.circmon_compare.Tie as tie
@@ -14,7 +14,7 @@ comparison-number-requires c κs = tt
 
 returns : tie.Need-returns
 unfolding compared
-returns c = c.comparison-number.ensures ∙ ap comparisonNumber c.before.compare.ensures
+returns c = c.comparison-number.ensures ∙ ap comparison_number c.before.compare.ensures
 
 pub circmon-compare-spec : {M : Type 1} → statement M
 circmon-compare-spec = tie.close (tie.spec compare-requires comparison-number-requires returns)

@@ -3,7 +3,7 @@
 use mathlib.Core.Path.{ap, ap₂, ◌∙◌}
 use Rattle.model.specs.Decisions.{number}
 use borrow.Author.Rules.{rules}
-use Rattle.numbers.specs.Counts.{withCount}
+use Rattle.numbers.specs.Counts.{with_count}
 use Rattle.capi.proofs.loads.circmon_load.Statement.{statement}
 use Rattle.capi.proofs.loads.circmon_load.Tie as tie
 
@@ -22,7 +22,7 @@ same_length c = search rules
 returns : tie.Need-returns
 returns c =
     let load = c.before.before.before.before.fill.ensures in (
-      c.with-count.ensures ∙ ap₂ withCount (c.before.number.ensures ∙ ap number load.0) load.1,
+      c.with-count.ensures ∙ ap₂ with_count (c.before.number.ensures ∙ ap number load.0) load.1,
       load.2,
     )
 

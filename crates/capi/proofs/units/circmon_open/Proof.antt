@@ -3,8 +3,8 @@
 use mathlib.Core.Path.{ap, ◌∙◌}
 use Rattle.model.specs.declared.Profile.{Profile}
 use Rattle.model.specs.Decisions.{number}
-use Rattle.model.specs.Reading.{readImage}
-use Rattle.journaled.specs.Units.{begunRows}
+use Rattle.model.specs.Reading.{read_image}
+use Rattle.journaled.specs.Units.{begun_rows}
 use borrow.Author.Rules.{rules}
 use Rattle.capi.proofs.units.circmon_open.Statement.{statement}
 use Rattle.capi.proofs.units.circmon_open.Tie as tie
@@ -23,8 +23,8 @@ returns c =
     let s = c.before.before.before.before.before.args.image.now in
     let p = c.before.before.widest.ensures in
     let r = c.before.«open».ensures in (
-      c.number.ensures ∙ ap number (r.0 ∙ ap (λ (k : Profile). (readImage k s).decision) p),
-      r.1 ∙ ap (λ (k : Profile). begunRows (readImage k s).monitor) p,
+      c.number.ensures ∙ ap number (r.0 ∙ ap (λ (k : Profile). (read_image k s).decision) p),
+      r.1 ∙ ap (λ (k : Profile). begun_rows (read_image k s).monitor) p,
     )
 
 pub circmon-open-spec : {M : Type 1} → statement M

@@ -3,8 +3,8 @@
 use mathlib.Core.Path.{ap, ◌∙◌}
 use Rattle.model.specs.declared.Profile.{Profile}
 use Rattle.model.specs.Decisions.{number}
-use Rattle.model.specs.Reading.{readTable}
-use Rattle.journaled.specs.Units.{begunRows}
+use Rattle.model.specs.Reading.{read_table}
+use Rattle.journaled.specs.Units.{begun_rows}
 use borrow.Author.Rules.{rules}
 use Rattle.capi.proofs.units.circmon_start.Statement.{statement}
 use Rattle.capi.proofs.units.circmon_start.Tie as tie
@@ -23,8 +23,8 @@ returns c =
     let s = c.before.before.before.before.before.args.table.now in
     let p = c.before.before.widest.ensures in
     let r = c.before.start.ensures in (
-      c.number.ensures ∙ ap number (r.0 ∙ ap (λ (k : Profile). (readTable k s).decision) p),
-      r.1 ∙ ap (λ (k : Profile). begunRows (readTable k s).monitor) p,
+      c.number.ensures ∙ ap number (r.0 ∙ ap (λ (k : Profile). (read_table k s).decision) p),
+      r.1 ∙ ap (λ (k : Profile). begun_rows (read_table k s).monitor) p,
     )
 
 pub circmon-start-spec : {M : Type 1} → statement M

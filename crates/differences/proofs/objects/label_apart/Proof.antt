@@ -4,17 +4,17 @@ use mathlib.Core.Path.{◌≡◌, sym, ap, ◌∙◌}
 use mathlib.Core.Bool.{Bool, not}
 use Rattle.model.specs.declared.Label.{Label}
 use Rattle.model.specs.declared.Request.TheVariants.{ChangeLevel}
-use Rattle.model.specs.Levels.{sameLabel}
+use Rattle.model.specs.Levels.{same_label}
 use Rattle.model.proofs.Tests.{bool-ext}
 use Rattle.model.proofs.Levels.{same-label, label_same}
-use Rattle.telling.specs.Distinguish.{when, toLabel}
+use Rattle.telling.specs.Distinguish.{when, to_label}
 use borrow.Author.Rules.{rules}
 use Rattle.differences.proofs.objects.label_apart.Statement.{statement}
 use Rattle.differences.proofs.objects.label_apart.Tie as tie
 
-same-either-way : (a b : Label) → sameLabel a b ≡ sameLabel b a
+same-either-way : (a b : Label) → same_label a b ≡ same_label b a
 same-either-way a b =
-    bool-ext (sameLabel a b) (sameLabel b a) (λ t. label_same b a (sym (same-label a b t))) (λ t. label_same a b (sym (same-label b a t)))
+    bool-ext (same_label a b) (same_label b a) (λ t. label_same b a (sym (same-label a b t))) (λ t. label_same a b (sym (same-label b a t)))
 
 enum_told : tie.Need-enum-told
 enum_told c = search rules
@@ -35,15 +35,15 @@ when-requires : tie.Need-when-requires
 when-requires c κs = search rules
 
 returns : tie.Need-returns
-unfolding toLabel
+unfolding to_label
 returns c = rw (c.before.before.enum_told.given.1, c.enum-told2.given.1)
 
 returns-2 : tie.Need-returns-2
-unfolding toLabel
+unfolding to_label
 returns-2 c = rw (c.before.before.before.enum_told.given.1, c.before.b.given.1)
 
 returns-3 : tie.Need-returns-3
-unfolding toLabel
+unfolding to_label
 returns-3 c =
     let a = c.before.before.before.a.given in
     let args = c.before.before.before.before.before.args in

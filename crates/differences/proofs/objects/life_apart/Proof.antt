@@ -3,7 +3,7 @@
 use mathlib.Core.Path.{◌≡◌, ◌∙◌}
 use mathlib.Core.Logic.{⊎_elim}
 use mathlib.Core.Bool.{cond}
-use Rattle.differences.specs.Records.{lifeApart}
+use Rattle.differences.specs.Records.{life_apart}
 use borrow.Author.Rules.{rules}
 use Rattle.differences.proofs.objects.life_apart.Statement.{statement}
 use Rattle.differences.proofs.objects.life_apart.Tie as tie
@@ -15,7 +15,7 @@ when-requires : tie.Need-when-requires
 when-requires c κs = search rules
 
 returns : tie.Need-returns
-unfolding lifeApart
+unfolding life_apart
 returns c =
     let a = c.before.before.before.args.a in
     let b = c.before.before.before.args.b in

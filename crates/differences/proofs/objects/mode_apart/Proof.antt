@@ -1,6 +1,6 @@
 -- One mode in two sets.
 -- Assumes nothing.
-use Rattle.differences.specs.Records.{modeApart}
+use Rattle.differences.specs.Records.{mode_apart}
 use borrow.Author.Rules.{rules}
 use Rattle.differences.proofs.objects.mode_apart.Statement.{statement}
 use Rattle.differences.proofs.objects.mode_apart.Tie as tie
@@ -21,7 +21,7 @@ when-requires : tie.Need-when-requires
 when-requires c κs = search rules
 
 returns : tie.Need-returns
-unfolding modeApart
+unfolding mode_apart
 returns c = rw (c.when.ensures, c.before.ask-of.ensures, c.before.before.differ.ensures, c.before.before.before.has2.ensures, c.before.before.before.before.has.ensures)
 
 pub mode-apart-spec : {M : Type 1} → statement M

@@ -2,7 +2,7 @@
 -- Assumes nothing.
 use mathlib.Core.Path.{ap₂, ◌∙◌}
 use Rattle.telling.specs.Distinguish.{or_else}
-use Rattle.differences.specs.Records.{objectApart}
+use Rattle.differences.specs.Records.{object_apart}
 use borrow.Author.Rules.{rules}
 use Rattle.differences.proofs.objects.object_apart.Statement.{statement}
 use Rattle.differences.proofs.objects.object_apart.Tie as tie
@@ -29,7 +29,7 @@ or-else-requires-3 : tie.Need-or-else-requires-3
 or-else-requires-3 c κs = search rules
 
 returns : tie.Need-returns
-unfolding objectApart
+unfolding object_apart
 returns c =
     let parts = c.before.before.before in
     let sets = c.before.before.or_else.ensures ∙ ap₂ or_else parts.before.Row-Apart.ensures parts.row-apart2.ensures in

@@ -5,25 +5,25 @@ use native.Mathlib.Omega.{arith}
 use mathlib.Core.Path.{◌≡◌, refl, sym, ap₂, ◌∙◌}
 use mathlib.Core.List.{[]}
 use Rattle.telling.specs.Distinguish.{search}
-use Rattle.model.specs.State.{objectAt}
-use Rattle.unit.specs.Rows.{objectsIn}
-use Rattle.differences.specs.Sequences.{requestsOf}
-use Rattle.differences.specs.Records.{objectApart, objectsApart}
+use Rattle.model.specs.State.{object_at}
+use Rattle.unit.specs.Rows.{objects_in}
+use Rattle.differences.specs.Sequences.{requests_of}
+use Rattle.differences.specs.Records.{object_apart, objects_apart}
 use Rattle.differences.proofs.Searching.{search-more, search-first, search-end}
 use Rattle.differences.proofs.objects.objects_apart.Statement.{statement}
 use Rattle.differences.proofs.objects.objects_apart.Tie as tie
 
 abbrev invariant-loop : tie.invariant-loop
-invariant-loop a b o₀ o = (o ≤ 64) × (search o (λ k. objectApart k (objectAt (objectsIn a) k) (objectAt (objectsIn b) k)) ≡ [])
+invariant-loop a b o₀ o = (o ≤ 64) × (search o (λ k. object_apart k (object_at (objects_in a) k) (object_at (objects_in b) k)) ≡ [])
 
 abbrev decreases-loop : tie.decreases-loop
 decreases-loop a b o₀ o = 64 - o
 
 -- the two that are read are those of the two units
 at-object : (c : tie.After-object-apart invariant-loop decreases-loop)
-    → requestsOf c.object-apart.result
-    ≡ objectApart c.before.before.before.before.loop.o (objectAt (objectsIn c.before.before.before.before.before.args.a.now) c.before.before.before.before.loop.o) (objectAt (objectsIn c.before.before.before.before.before.args.b.now) c.before.before.before.before.loop.o)
-at-object c = c.object-apart.ensures ∙ ap₂ (objectApart c.before.before.before.before.loop.o) c.before.before.object-in.ensures c.before.object-in2.ensures
+    → requests_of c.object-apart.result
+    ≡ object_apart c.before.before.before.before.loop.o (object_at (objects_in c.before.before.before.before.before.args.a.now) c.before.before.before.before.loop.o) (object_at (objects_in c.before.before.before.before.before.args.b.now) c.before.before.before.before.loop.o)
+at-object c = c.object-apart.ensures ∙ ap₂ (object_apart c.before.before.before.before.loop.o) c.before.before.object-in.ensures c.before.object-in2.ensures
 
 loop-holds : tie.Need-loop-init invariant-loop decreases-loop
 unfolding search
@@ -51,7 +51,7 @@ is-found-requires : tie.Need-is-found-requires invariant-loop decreases-loop
 is-found-requires c κs = tt
 
 returns : tie.Need-returns invariant-loop decreases-loop
-unfolding objectsApart
+unfolding objects_apart
 returns c =
     let loop = c.before.before.before.before.before.before.loop in
     search-first 64 loop.o _ c.before.before.object-apart.result loop.invariant.1 (at-object c.before.before) (sym c.before.is_found.ensures ∙ c.if1.true) (omega arith)
@@ -68,7 +68,7 @@ loop-again c =
     (omega arith, search-more loop.o _ c.before.before.object-apart.result loop.invariant.1 (at-object c.before.before) (sym c.before.is_found.ensures ∙ c.if1.false))
 
 returns-2 : tie.Need-returns-2 invariant-loop decreases-loop
-unfolding objectsApart
+unfolding objects_apart
 returns-2 c = search-end 64 c.before.loop.o _ c.before.loop.invariant.1 (omega arith)
 
 pub objects-apart-spec : {M : Type 1} → statement M

@@ -1,6 +1,6 @@
 -- A delete by the first owner.
 -- Assumes nothing.
-use Rattle.differences.specs.Records.{ownerApart}
+use Rattle.differences.specs.Records.{owner_apart}
 use borrow.Author.Rules.{rules}
 use Rattle.differences.proofs.objects.owner_apart.Statement.{statement}
 use Rattle.differences.proofs.objects.owner_apart.Tie as tie
@@ -9,7 +9,7 @@ when-requires : tie.Need-when-requires
 when-requires c κs = search rules
 
 returns : tie.Need-returns
-unfolding ownerApart
+unfolding owner_apart
 returns c = c.when.ensures
 
 pub owner-apart-spec : {M : Type 1} → statement M

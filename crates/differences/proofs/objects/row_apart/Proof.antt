@@ -6,13 +6,13 @@ use mathlib.Core.Path.{◌≡◌, refl, sym, ◌∙◌}
 use mathlib.Core.List.{[]}
 use Rattle.telling.specs.Distinguish.{search}
 use lib.ListN.{get_or}
-use Rattle.differences.specs.Records.{setApart, row_apart}
+use Rattle.differences.specs.Records.{set_apart, row_apart}
 use Rattle.differences.proofs.Searching.{search-more, search-first, search-end}
 use Rattle.differences.proofs.objects.row_apart.Statement.{statement}
 use Rattle.differences.proofs.objects.row_apart.Tie as tie
 
 abbrev invariant-loop : tie.invariant-loop
-invariant-loop held o a b s₀ s = (s ≤ 16) × (search s (λ k. setApart held o k (get_or a k 0) (get_or b k 0)) ≡ [])
+invariant-loop held o a b s₀ s = (s ≤ 16) × (search s (λ k. set_apart held o k (get_or a k 0) (get_or b k 0)) ≡ [])
 
 abbrev decreases-loop : tie.decreases-loop
 decreases-loop held o a b s₀ s = 16 - s

@@ -2,7 +2,7 @@
 -- Assumes nothing.
 use mathlib.Core.Path.{ap₂, ◌∙◌}
 use Rattle.telling.specs.Distinguish.{or_else}
-use Rattle.differences.specs.Records.{setApart}
+use Rattle.differences.specs.Records.{set_apart}
 use borrow.Author.Rules.{rules}
 use Rattle.differences.proofs.objects.set_apart.Statement.{statement}
 use Rattle.differences.proofs.objects.set_apart.Tie as tie
@@ -29,7 +29,7 @@ or-else-requires-3 : tie.Need-or-else-requires-3
 or-else-requires-3 c κs = search rules
 
 returns : tie.Need-returns
-unfolding setApart
+unfolding set_apart
 returns c =
     let modes = c.before.before.before in
     let append = c.before.before.or_else.ensures ∙ ap₂ or_else modes.before.mode-apart3.ensures modes.mode-apart4.ensures in

@@ -2,7 +2,7 @@
 -- Assumes nothing.
 use mathlib.Core.Path.{ap₂, ◌∙◌}
 use Rattle.telling.specs.Distinguish.{or_else}
-use Rattle.differences.specs.Records.{standingApart}
+use Rattle.differences.specs.Records.{standing_apart}
 use borrow.Author.Rules.{rules}
 use Rattle.differences.proofs.objects.standing_apart.Statement.{statement}
 use Rattle.differences.proofs.objects.standing_apart.Tie as tie
@@ -17,7 +17,7 @@ or-else-requires : tie.Need-or-else-requires
 or-else-requires c κs = search rules
 
 returns : tie.Need-returns
-unfolding standingApart
+unfolding standing_apart
 returns c = c.or_else.ensures ∙ ap₂ or_else c.before.before.life-apart.ensures c.before.owner-apart.ensures
 
 pub standing-apart-spec : {M : Type 1} → statement M

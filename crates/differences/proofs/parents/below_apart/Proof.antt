@@ -4,11 +4,11 @@ use Prim.Native.Nat.{ℕ}
 use native.Mathlib.Omega.{arith}
 use mathlib.Core.Path.{sym, ap, ap₂, ◌∙◌}
 use mathlib.Core.Bool.{◌&&◌}
-use Rattle.unit.specs.Rows.{objectIn, stateIn}
+use Rattle.unit.specs.Rows.{object_in, state_in}
 use Rattle.unit.proofs.Tabulated.{tabulate-length}
 use Rattle.telling.specs.Distinguish.{differ}
 use Rattle.differences.specs.declared.sequence.Sequence.TheVariants.{Remaking}
-use Rattle.differences.specs.Sequences.{requestsOf}
+use Rattle.differences.specs.Sequences.{requests_of}
 use Rattle.differences.proofs.TwoParents.{below-told, below_none, below-beyond}
 use borrow.Author.Rules.{rules}
 use Rattle.differences.proofs.parents.below_apart.Statement.{statement}
@@ -34,20 +34,20 @@ returns c =
     let args = c.before.before.before.before.before.before.before.args in
     let live = c.before.before.is_live.ensures in
     let test = c.before.before.before.differ.ensures ∙ ap₂ differ c.before.before.before.before.before.is_below.ensures c.before.before.before.before.is-below2.ensures in
-    ap (λ (w : ℕ). requestsOf (Remaking w args.x args.y)) c.owner_of.ensures
-    ∙ below-told (stateIn args.a.now) (stateIn args.b.now) args.x args.y (sym (ap₂ ◌&&◌ live test) ∙ c.before.if2.true)
+    ap (λ (w : ℕ). requests_of (Remaking w args.x args.y)) c.owner_of.ensures
+    ∙ below-told (state_in args.a.now) (state_in args.b.now) args.x args.y (sym (ap₂ ◌&&◌ live test) ∙ c.before.if2.true)
 
 returns-2 : tie.Need-returns-2
 returns-2 c =
     let args = c.before.before.before.before.before.before.args in
     let live = c.before.is_live.ensures in
     let test = c.before.before.differ.ensures ∙ ap₂ differ c.before.before.before.before.is_below.ensures c.before.before.before.is-below2.ensures in
-    below_none (stateIn args.a.now) (stateIn args.b.now) args.x args.y (sym (ap₂ ◌&&◌ live test) ∙ c.if2.false)
+    below_none (state_in args.a.now) (state_in args.b.now) args.x args.y (sym (ap₂ ◌&&◌ live test) ∙ c.if2.false)
 
 returns-3 : tie.Need-returns-3
 returns-3 c =
     let args = c.before.args in
-    below-beyond (stateIn args.a.now) (stateIn args.b.now) args.x args.y (omega (arith, c.if1.false, tabulate-length 64 (objectIn args.a.now)))
+    below-beyond (state_in args.a.now) (state_in args.b.now) args.x args.y (omega (arith, c.if1.false, tabulate-length 64 (object_in args.a.now)))
 
 pub below-apart-spec : {M : Type 1} → statement M
 below-apart-spec =

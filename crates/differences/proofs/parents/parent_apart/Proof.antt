@@ -1,7 +1,7 @@
 -- The cases of two parents.
 -- Assumes nothing.
 use mathlib.Core.Path.{sym, ◌∙◌}
-use Rattle.unit.specs.Rows.{stateIn}
+use Rattle.unit.specs.Rows.{state_in}
 use Rattle.differences.proofs.TwoParents.{parents-same, parent-second, parent-first, by_first, by-second, by-third}
 use borrow.Author.Rules.{rules}
 use Rattle.differences.proofs.parents.parent_apart.Statement.{statement}
@@ -10,7 +10,7 @@ use Rattle.differences.proofs.parents.parent_apart.Tie as tie
 returns : tie.Need-returns
 returns c =
     let args = c.before.args in
-    parents-same (stateIn args.a.now) (stateIn args.b.now) args.o args.p args.q c.if1.true
+    parents-same (state_in args.a.now) (state_in args.b.now) args.o args.p args.q c.if1.true
 
 sub-below-apart : tie.Need-overflow-sub-below-apart
 sub-below-apart c = search rules
@@ -21,7 +21,7 @@ below-apart-requires c κs = search rules
 returns-2 : tie.Need-returns-2
 returns-2 c =
     let args = c.before.before.before.args in
-    c.below_Apart.ensures ∙ parent-second (stateIn args.a.now) (stateIn args.b.now) args.o args.p args.q c.before.before.if1.false c.before.if2.true
+    c.below_Apart.ensures ∙ parent-second (state_in args.a.now) (state_in args.b.now) args.o args.p args.q c.before.before.if1.false c.before.if2.true
 
 sub-below-apart-2 : tie.Need-overflow-sub-below-apart-2
 sub-below-apart-2 c = search rules
@@ -32,7 +32,7 @@ below-apart-requires-2 c κs = search rules
 returns-3 : tie.Need-returns-3
 returns-3 c =
     let args = c.before.before.before.before.args in
-    c.below-apart2.ensures ∙ parent-first (stateIn args.a.now) (stateIn args.b.now) args.o args.p args.q c.before.before.if2.false c.before.if3.true
+    c.below-apart2.ensures ∙ parent-first (state_in args.a.now) (state_in args.b.now) args.o args.p args.q c.before.before.if2.false c.before.if3.true
 
 sub-below-apart-3 : tie.Need-overflow-sub-below-apart-3
 sub-below-apart-3 c = search rules
@@ -47,7 +47,7 @@ returns-4 : tie.Need-returns-4
 returns-4 c =
     let args = c.before.before.before.before.before.before.args in
     let first = c.before.before.below-apart3 in
-    by_first (stateIn args.a.now) (stateIn args.b.now) args.o args.p args.q c.before.before.before.before.before.if1.false c.before.before.before.before.if2.false c.before.before.before.if3.false
+    by_first (state_in args.a.now) (state_in args.b.now) args.o args.p args.q c.before.before.before.before.before.if1.false c.before.before.before.before.if2.false c.before.before.before.if3.false
     first.result first.ensures (sym c.before.is_found.ensures ∙ c.if4.true)
 
 sub-below-apart-4 : tie.Need-overflow-sub-below-apart-4
@@ -64,7 +64,7 @@ returns-5 c =
     let args = c.before.before.before.before.before.before.before.before.before.args in
     let first = c.before.before.before.before.before.below-apart3 in
     let second = c.before.before.below-apart4 in
-    by-second (stateIn args.a.now) (stateIn args.b.now) args.o args.p args.q c.before.before.before.before.before.before.before.before.if1.false c.before.before.before.before.before.before.before.if2.false c.before.before.before.before.before.before.if3.false
+    by-second (state_in args.a.now) (state_in args.b.now) args.o args.p args.q c.before.before.before.before.before.before.before.before.if1.false c.before.before.before.before.before.before.before.if2.false c.before.before.before.before.before.before.if3.false
     first.result first.ensures (sym c.before.before.before.before.is_found.ensures ∙ c.before.before.before.if4.false)
     second.result second.ensures (sym c.before.is-found2.ensures ∙ c.if5.true)
 
@@ -82,7 +82,7 @@ returns-6 c =
     let args = c.before.before.before.before.before.before.before.before.before.before.args in
     let first = c.before.before.before.before.before.before.below-apart3 in
     let second = c.before.before.before.below-apart4 in
-    by-third (stateIn args.a.now) (stateIn args.b.now) args.o args.p args.q c.before.before.before.before.before.before.before.before.before.if1.false c.before.before.before.before.before.before.before.before.if2.false c.before.before.before.before.before.before.before.if3.false
+    by-third (state_in args.a.now) (state_in args.b.now) args.o args.p args.q c.before.before.before.before.before.before.before.before.before.if1.false c.before.before.before.before.before.before.before.before.if2.false c.before.before.before.before.before.before.before.if3.false
     first.result first.ensures (sym c.before.before.before.before.before.is_found.ensures ∙ c.before.before.before.before.if4.false)
     second.result second.ensures (sym c.before.before.is-found2.ensures ∙ c.before.if5.false)
     c.below-apart5.result c.below-apart5.ensures

@@ -4,28 +4,28 @@ use Prim.Native.Nat.{◌-◌, ◌≤◌}
 use native.Mathlib.Omega.{arith}
 use mathlib.Core.Path.{◌≡◌, refl, sym, ap₂, ◌∙◌}
 use mathlib.Core.List.{[]}
-use Rattle.telling.specs.Distinguish.{search, toParent, byParent}
-use Rattle.unit.specs.Rows.{stateIn}
-use Rattle.differences.specs.Sequences.{requestsOf}
-use Rattle.differences.specs.Records.{parentsApart}
+use Rattle.telling.specs.Distinguish.{search, to_parent, by_parent}
+use Rattle.unit.specs.Rows.{state_in}
+use Rattle.differences.specs.Sequences.{requests_of}
+use Rattle.differences.specs.Records.{parents_apart}
 use Rattle.differences.proofs.Searching.{search-more, search-first, search-end}
 use Rattle.differences.proofs.parents.parents_apart.Statement.{statement}
 use Rattle.differences.proofs.parents.parents_apart.Tie as tie
 
 abbrev invariant-loop : tie.invariant-loop
-invariant-loop a b o₀ o = (o ≤ 64) × (search o (byParent (stateIn a) (stateIn b)) ≡ [])
+invariant-loop a b o₀ o = (o ≤ 64) × (search o (by_parent (state_in a) (state_in b)) ≡ [])
 
 abbrev decreases-loop : tie.decreases-loop
 decreases-loop a b o₀ o = 64 - o
 
 -- the two that are read are those of the two units
 at-object : (c : tie.After-parent-apart invariant-loop decreases-loop)
-    → requestsOf c.parent-apart.result
-    ≡ byParent (stateIn c.before.before.before.before.before.args.a.now) (stateIn c.before.before.before.before.before.args.b.now) c.before.before.before.before.loop.o
-unfolding byParent
+    → requests_of c.parent-apart.result
+    ≡ by_parent (state_in c.before.before.before.before.before.args.a.now) (state_in c.before.before.before.before.before.args.b.now) c.before.before.before.before.loop.o
+unfolding by_parent
 at-object c =
     let args = c.before.before.before.before.before.args in
-    c.parent-apart.ensures ∙ ap₂ (toParent (stateIn args.a.now) (stateIn args.b.now) c.before.before.before.before.loop.o) c.before.before.parent_of.ensures c.before.parent-of2.ensures
+    c.parent-apart.ensures ∙ ap₂ (to_parent (state_in args.a.now) (state_in args.b.now) c.before.before.before.before.loop.o) c.before.before.parent_of.ensures c.before.parent-of2.ensures
 
 loop-holds : tie.Need-loop-init invariant-loop decreases-loop
 unfolding search
@@ -53,7 +53,7 @@ is-found-requires : tie.Need-is-found-requires invariant-loop decreases-loop
 is-found-requires c κs = tt
 
 returns : tie.Need-returns invariant-loop decreases-loop
-unfolding parentsApart
+unfolding parents_apart
 returns c =
     let loop = c.before.before.before.before.before.before.loop in
     search-first 64 loop.o _ c.before.before.parent-apart.result loop.invariant.1 (at-object c.before.before) (sym c.before.is_found.ensures ∙ c.if1.true) (omega arith)
@@ -70,7 +70,7 @@ loop-again c =
     (omega arith, search-more loop.o _ c.before.before.parent-apart.result loop.invariant.1 (at-object c.before.before) (sym c.before.is_found.ensures ∙ c.if1.false))
 
 returns-2 : tie.Need-returns-2 invariant-loop decreases-loop
-unfolding parentsApart
+unfolding parents_apart
 returns-2 c = search-end 64 c.before.loop.o _ c.before.loop.invariant.1 (omega arith)
 
 pub parents-apart-spec : {M : Type 1} → statement M

@@ -1,6 +1,6 @@
 -- The cases of two clearances.
 -- Assumes nothing.
-use Rattle.differences.specs.Records.{clearanceApart}
+use Rattle.differences.specs.Records.{clearance_apart}
 use borrow.Author.Rules.{rules}
 use Rattle.differences.proofs.subjects.clearance_apart.Statement.{statement}
 use Rattle.differences.proofs.subjects.clearance_apart.Tie as tie
@@ -21,15 +21,15 @@ level-apart-requires : tie.Need-level-apart-requires
 level-apart-requires c κs = search rules
 
 returns : tie.Need-returns
-unfolding clearanceApart
+unfolding clearance_apart
 returns c = rw c.enum_told.given.1
 
 returns-2 : tie.Need-returns-2
-unfolding clearanceApart
+unfolding clearance_apart
 returns-2 c = rw (c.before.before.before.a.given.1, c.enum-told2.given.1)
 
 returns-3 : tie.Need-returns-3
-unfolding clearanceApart
+unfolding clearance_apart
 returns-3 c = rw (c.before.before.before.before.before.a.given.1, c.before.before.b.given.1) c.level-apart.ensures
 
 pub clearance-apart-spec : {M : Type 1} → statement M

@@ -1,6 +1,6 @@
 -- One subject in two tables.
 -- Assumes nothing.
-use Rattle.differences.specs.Records.{enrolmentApart}
+use Rattle.differences.specs.Records.{enrolment_apart}
 use borrow.Author.Rules.{rules}
 use Rattle.differences.proofs.subjects.enrolment_apart.Statement.{statement}
 use Rattle.differences.proofs.subjects.enrolment_apart.Tie as tie
@@ -18,7 +18,7 @@ when-requires : tie.Need-when-requires
 when-requires c κs = search rules
 
 returns : tie.Need-returns
-unfolding enrolmentApart
+unfolding enrolment_apart
 returns c = rw (c.when.ensures, c.before.differ.ensures, c.before.before.is-present2.ensures, c.before.before.before.is-present.ensures)
 
 pub enrolment-apart-spec : {M : Type 1} → statement M

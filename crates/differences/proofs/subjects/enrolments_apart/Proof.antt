@@ -5,25 +5,25 @@ use native.Mathlib.Omega.{arith}
 use mathlib.Core.Path.{◌≡◌, refl, sym, ap₂, ◌∙◌}
 use mathlib.Core.List.{[]}
 use Rattle.telling.specs.Distinguish.{search}
-use Rattle.model.specs.State.{clearanceAt}
-use Rattle.unit.specs.Rows.{subjectsIn}
-use Rattle.differences.specs.Sequences.{requestsOf}
-use Rattle.differences.specs.Records.{enrolmentApart, enrolmentsApart}
+use Rattle.model.specs.State.{clearance_at}
+use Rattle.unit.specs.Rows.{subjects_in}
+use Rattle.differences.specs.Sequences.{requests_of}
+use Rattle.differences.specs.Records.{enrolment_apart, enrolments_apart}
 use Rattle.differences.proofs.Searching.{search-more, search-first, search-end}
 use Rattle.differences.proofs.subjects.enrolments_apart.Statement.{statement}
 use Rattle.differences.proofs.subjects.enrolments_apart.Tie as tie
 
 abbrev invariant-loop : tie.invariant-loop
-invariant-loop a b s₀ s = (s ≤ 16) × (search s (λ k. enrolmentApart k (clearanceAt (subjectsIn a) k) (clearanceAt (subjectsIn b) k)) ≡ [])
+invariant-loop a b s₀ s = (s ≤ 16) × (search s (λ k. enrolment_apart k (clearance_at (subjects_in a) k) (clearance_at (subjects_in b) k)) ≡ [])
 
 abbrev decreases-loop : tie.decreases-loop
 decreases-loop a b s₀ s = 16 - s
 
 -- the two that are read are those of the two units
 at-subject : (c : tie.After-enrolment-apart invariant-loop decreases-loop)
-    → requestsOf c.enrolment-apart.result
-    ≡ enrolmentApart c.before.before.before.before.loop.s (clearanceAt (subjectsIn c.before.before.before.before.before.args.a.now) c.before.before.before.before.loop.s) (clearanceAt (subjectsIn c.before.before.before.before.before.args.b.now) c.before.before.before.before.loop.s)
-at-subject c = c.enrolment-apart.ensures ∙ ap₂ (enrolmentApart c.before.before.before.before.loop.s) c.before.before.clearance-of.ensures c.before.clearance-of2.ensures
+    → requests_of c.enrolment-apart.result
+    ≡ enrolment_apart c.before.before.before.before.loop.s (clearance_at (subjects_in c.before.before.before.before.before.args.a.now) c.before.before.before.before.loop.s) (clearance_at (subjects_in c.before.before.before.before.before.args.b.now) c.before.before.before.before.loop.s)
+at-subject c = c.enrolment-apart.ensures ∙ ap₂ (enrolment_apart c.before.before.before.before.loop.s) c.before.before.clearance-of.ensures c.before.clearance-of2.ensures
 
 loop-holds : tie.Need-loop-init invariant-loop decreases-loop
 unfolding search
@@ -51,7 +51,7 @@ is-found-requires : tie.Need-is-found-requires invariant-loop decreases-loop
 is-found-requires c κs = tt
 
 returns : tie.Need-returns invariant-loop decreases-loop
-unfolding enrolmentsApart
+unfolding enrolments_apart
 returns c =
     let loop = c.before.before.before.before.before.before.loop in
     search-first 16 loop.s _ c.before.before.enrolment-apart.result loop.invariant.1 (at-subject c.before.before) (sym c.before.is_found.ensures ∙ c.if1.true) (omega arith)
@@ -68,7 +68,7 @@ loop-again c =
     (omega arith, search-more loop.s _ c.before.before.enrolment-apart.result loop.invariant.1 (at-subject c.before.before) (sym c.before.is_found.ensures ∙ c.if1.false))
 
 returns-2 : tie.Need-returns-2 invariant-loop decreases-loop
-unfolding enrolmentsApart
+unfolding enrolments_apart
 returns-2 c = search-end 16 c.before.loop.s _ c.before.loop.invariant.1 (omega arith)
 
 pub enrolments-apart-spec : {M : Type 1} → statement M

@@ -6,18 +6,18 @@ use borrow.Author.Rules.{rules}
 use Rattle.model.specs.declared.Level.{Level}
 use Rattle.model.specs.declared.Comparison.{Comparison}
 use Rattle.model.specs.Levels.{compare}
-use Rattle.telling.specs.Distinguish.{byComparison}
+use Rattle.telling.specs.Distinguish.{by_comparison}
 use Rattle.differences.specs.declared.sequence.Place.{Place}
-use Rattle.differences.specs.Sequences.{requestsOf, readingAt}
-use Rattle.differences.specs.Records.{levelApart}
+use Rattle.differences.specs.Sequences.{requests_of, reading_at}
+use Rattle.differences.specs.Records.{level_apart}
 use Rattle.differences.proofs.subjects.level_apart.Statement.{statement}
 use Rattle.differences.proofs.subjects.level_apart.Tie as tie
 
 -- what is chosen, where the answer is known
 answer-known : (p : Place) (s : ℕ) (a b : Level) (r c : Comparison) → r ≡ compare a b → r ≡ c
-    → levelApart p s a b ≡ byComparison c (requestsOf (readingAt p s a)) (requestsOf (readingAt p s b))
-unfolding levelApart
-answer-known p s a b r c e t = ap (λ (d : Comparison). byComparison d (requestsOf (readingAt p s a)) (requestsOf (readingAt p s b))) (sym e ∙ t)
+    → level_apart p s a b ≡ by_comparison c (requests_of (reading_at p s a)) (requests_of (reading_at p s b))
+unfolding level_apart
+answer-known p s a b r c e t = ap (λ (d : Comparison). by_comparison d (requests_of (reading_at p s a)) (requests_of (reading_at p s b))) (sym e ∙ t)
 
 compare-requires : tie.Need-compare-requires
 compare-requires c κs = search rules
@@ -47,13 +47,13 @@ returns : tie.Need-returns
 returns c = sym (answer-known _ _ _ _ _ _ c.before.before.compare.ensures c.enum_told.given.1)
 
 returns-2 : tie.Need-returns-2
-returns-2 c = ap requestsOf c.reading-at.ensures ∙ sym (answer-known _ _ _ _ _ _ c.before.before.before.compare.ensures c.before.enum-told2.given.1)
+returns-2 c = ap requests_of c.reading-at.ensures ∙ sym (answer-known _ _ _ _ _ _ c.before.before.before.compare.ensures c.before.enum-told2.given.1)
 
 returns-3 : tie.Need-returns-3
-returns-3 c = ap requestsOf c.reading-at2.ensures ∙ sym (answer-known _ _ _ _ _ _ c.before.before.before.compare.ensures c.before.enum-told3.given.1)
+returns-3 c = ap requests_of c.reading-at2.ensures ∙ sym (answer-known _ _ _ _ _ _ c.before.before.before.compare.ensures c.before.enum-told3.given.1)
 
 returns-4 : tie.Need-returns-4
-returns-4 c = ap requestsOf c.reading-at3.ensures ∙ sym (answer-known _ _ _ _ _ _ c.before.before.before.compare.ensures c.before.enum-told4.given.1)
+returns-4 c = ap requests_of c.reading-at3.ensures ∙ sym (answer-known _ _ _ _ _ _ c.before.before.before.compare.ensures c.before.enum-told4.given.1)
 
 pub level-apart-spec : {M : Type 1} → statement M
 level-apart-spec =

@@ -5,23 +5,23 @@ use native.Mathlib.Omega.{arith}
 use mathlib.Core.Path.{◌≡◌, sym, ap, ap₂, ◌∙◌}
 use mathlib.Core.Bool.{true, ◌&&◌}
 use borrow.Author.Count.{below_more}
-use Rattle.model.specs.Hierarchy.{parentLive}
+use Rattle.model.specs.Hierarchy.{parent_live}
 use Rattle.model.proofs.Tests.{not_on, not-off}
-use Rattle.unit.specs.Rows.{objectsIn}
-use Rattle.hierarchy.proofs.Upward.{objects-length, holdsAt, all_hold, not-hold}
+use Rattle.unit.specs.Rows.{objects_in}
+use Rattle.hierarchy.proofs.Upward.{objects-length, holds_at, all_hold, not-hold}
 use Rattle.hierarchy.proofs.chains.parents_hold.Statement.{statement}
 use Rattle.hierarchy.proofs.chains.parents_hold.Tie as tie
 
 abbrev invariant-loop : tie.invariant-loop
-invariant-loop unit i₀ i = (i ≤ 64) × ((k : ℕ) → k < i → holdsAt (objectsIn unit) k ≡ true)
+invariant-loop unit i₀ i = (i ≤ 64) × ((k : ℕ) → k < i → holds_at (objects_in unit) k ≡ true)
 
 abbrev decreases-loop : tie.decreases-loop
 decreases-loop unit i₀ i = 64 - i
 
-tested : (c : tie.After-chain-ends invariant-loop decreases-loop) → (c.before.parent_live.result && c.chain-ends.result) ≡ holdsAt (objectsIn c.before.before.before.before.before.args.unit.now) c.before.before.before.before.loop.i
+tested : (c : tie.After-chain-ends invariant-loop decreases-loop) → (c.before.parent_live.result && c.chain-ends.result) ≡ holds_at (objects_in c.before.before.before.before.before.args.unit.now) c.before.before.before.before.loop.i
 tested c =
-    let l = objectsIn c.before.before.before.before.before.args.unit.now in
-    ap₂ ◌&&◌ (c.before.parent_live.ensures ∙ ap (parentLive l) c.before.before.parent_of.ensures) c.chain-ends.ensures
+    let l = objects_in c.before.before.before.before.before.args.unit.now in
+    ap₂ ◌&&◌ (c.before.parent_live.ensures ∙ ap (parent_live l) c.before.before.parent_of.ensures) c.chain-ends.ensures
 
 loop-holds : tie.Need-loop-init invariant-loop decreases-loop
 loop-holds c = (omega arith, λ k h. absurd (omega arith))
@@ -44,7 +44,7 @@ chain-ends-requires c κs = (c.before.before.before.before.requires, c.before.be
 returns : tie.Need-returns invariant-loop decreases-loop
 returns c =
     let u = c.before.before.before.before.before.before.args.unit.now in
-    sym (not-hold (objectsIn u) (objects-length u) c.before.before.before.before.before.loop.i c.before.before.before.before.loop-test.true (sym (tested c.before) ∙ not_on _ c.if1.true))
+    sym (not-hold (objects_in u) (objects-length u) c.before.before.before.before.before.loop.i c.before.before.before.before.loop-test.true (sym (tested c.before) ∙ not_on _ c.if1.true))
 
 add-i : tie.Need-overflow-add-i invariant-loop decreases-loop
 add-i c = omega (arith, c.before.before.before.before.loop-test.true)
@@ -61,7 +61,7 @@ returns-2 : tie.Need-returns-2 invariant-loop decreases-loop
 returns-2 c =
     let inv = c.before.loop.invariant in
     let u = c.before.before.args.unit.now in
-    sym (all_hold (objectsIn u) (objects-length u) (λ k h. inv.1 k (omega (arith, c.loop-test.false, inv.0, h))))
+    sym (all_hold (objects_in u) (objects-length u) (λ k h. inv.1 k (omega (arith, c.loop-test.false, inv.0, h))))
 
 pub parents-hold-spec : {M : Type 1} → statement M
 parents-hold-spec =

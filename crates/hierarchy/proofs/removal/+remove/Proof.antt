@@ -7,12 +7,12 @@ use mathlib.Core.Path.{◌≡◌, sym, ap, ◌∙◌, subst}
 use mathlib.Core.Logic.{⊎_elim}
 use lib.ListN.{length}
 use lib.Dec.{eqb}
-use Rattle.model.specs.State.{noObject, objectAt}
+use Rattle.model.specs.State.{no_object, object_at}
 use Rattle.model.proofs.Tests.{and_left}
-use Rattle.unit.specs.Rows.{Rows, rowCount, objectsIn}
-use Rattle.unit.specs.Stored.{setObject}
+use Rattle.unit.specs.Rows.{Rows, row_count, objects_in}
+use Rattle.unit.specs.Stored.{set_object}
 use Rattle.unit.proofs.Stores.{object-length}
-use Rattle.hierarchy.proofs.Meeting.{liveCount}
+use Rattle.hierarchy.proofs.Meeting.{live_count}
 use Rattle.hierarchy.proofs.Rowed.{rows-cleared, removed-length}
 use Rattle.hierarchy.proofs.Leaving.{Leaves, leaves-start, leaves-fewer, leaves-past, leaves-more, leaves-end}
 use borrow.Fn.Kinds.{In}
@@ -26,7 +26,7 @@ use Rattle.hierarchy.proofs.removal.+remove.{statement}
 use Rattle.hierarchy.proofs.removal.+remove.Tie.{close}
 
 abbrev μ-remove : Measures 1 remove-kinds.ps ℕ
-μ-remove κs a = liveCount (objectsIn a.0.now)
+μ-remove κs a = live_count (objects_in a.0.now)
 
 abbrev remove-at : ℕ → In 1 remove-kinds.ps
 remove-at t = and 1 remove-kinds.ps (is 1 remove-kinds.ps μ-remove t) remove.Pre
@@ -36,7 +36,7 @@ remove-below t = and 1 remove-kinds.ps (falls 1 remove-kinds.ps ◌<◌ μ-remov
 
 abbrev remove-Inv-loop : remove-lts.invariant-loop
 remove-Inv-loop unit₀ o i₀ unit i =
-    (i ≤ 64) × (length unit ≡ rowCount) × ((u : Rows) → length u ≡ rowCount → unit₀ ≡ setObject u o noObject → Leaves u o unit i)
+    (i ≤ 64) × (length unit ≡ row_count) × ((u : Rows) → length u ≡ row_count → unit₀ ≡ set_object u o no_object → Leaves u o unit i)
 
 abbrev remove-μ-loop : remove-lts.decreases-loop
 remove-μ-loop unit₀ o i₀ unit i = 64 - i
@@ -67,7 +67,7 @@ remove-loop-holds t c =
     let there = start.requires.1.1.0 in
     let stored = rows-cleared u o _ c.before.set-rows.ensures in (
       omega arith,
-      ap length stored ∙ object-length u o noObject whole there,
+      ap length stored ∙ object-length u o no_object whole there,
       λ w n e. subst (λ (v : Rows). Leaves w o v 0) (sym e) (leaves-start w o n there),
     )
 
@@ -108,7 +108,7 @@ remove-remove-requires t c κs =
     let loop = c.before.before.before.before.before.loop in
     let left = loop.invariant.2 u whole (rows-cleared u o _ c.before.before.before.before.before.before.before.set-rows.ensures) in
     let fewer = leaves-fewer u o loop.unit loop.i left there start.requires.1.1.1 in
-    let ob = objectAt (objectsIn loop.unit) loop.i in (
+    let ob = object_at (objects_in loop.unit) loop.i in (
       omega (arith, fewer, start.requires.0),
       (loop.invariant.1, (c.before.before.before.before.loop-test.true, and_left ob.live (eqb ob.parent (suc o)) (sym c.before.before.is-child.ensures ∙ c.before.if1.true))),
     )

@@ -5,15 +5,15 @@ use native.Mathlib.Omega.{arith}
 use mathlib.Core.Path.{◌≡◌, sym, ◌∙◌}
 use mathlib.Core.Bool.{false}
 use borrow.Author.Count.{below_more}
-use Rattle.model.specs.State.{objectAt}
-use Rattle.unit.specs.Rows.{objectsIn}
-use Rattle.hierarchy.specs.Removed.{childOf}
+use Rattle.model.specs.State.{object_at}
+use Rattle.unit.specs.Rows.{objects_in}
+use Rattle.hierarchy.specs.Removed.{child_of}
 use Rattle.hierarchy.proofs.Upward.{objects-length, child-found, no-child}
 use Rattle.hierarchy.proofs.removal.has_child.Statement.{statement}
 use Rattle.hierarchy.proofs.removal.has_child.Tie as tie
 
 abbrev invariant-loop : tie.invariant-loop
-invariant-loop unit o c₀ c = (c ≤ 64) × ((k : ℕ) → k < c → childOf (objectAt (objectsIn unit) k) o ≡ false)
+invariant-loop unit o c₀ c = (c ≤ 64) × ((k : ℕ) → k < c → child_of (object_at (objects_in unit) k) o ≡ false)
 
 abbrev decreases-loop : tie.decreases-loop
 decreases-loop unit o c₀ c = 64 - c
@@ -28,7 +28,7 @@ is-child-requires : tie.Need-is-child-requires invariant-loop decreases-loop
 is-child-requires c κs = (c.before.before.requires.0, (c.loop-test.true, c.before.before.requires.1))
 
 returns : tie.Need-returns invariant-loop decreases-loop
-returns c = sym (child-found (objectsIn c.before.before.before.before.args.unit.now) c.before.before.before.before.args.o c.before.before.before.loop.c (sym c.before.is-child.ensures ∙ c.if1.true))
+returns c = sym (child-found (objects_in c.before.before.before.before.args.unit.now) c.before.before.before.before.args.o c.before.before.before.loop.c (sym c.before.is-child.ensures ∙ c.if1.true))
 
 add-c : tie.Need-overflow-add-c invariant-loop decreases-loop
 add-c c = omega (arith, c.before.before.loop-test.true)
@@ -45,7 +45,7 @@ returns-2 : tie.Need-returns-2 invariant-loop decreases-loop
 returns-2 c =
     let inv = c.before.loop.invariant in
     let u = c.before.before.args.unit.now in
-    sym (no-child (objectsIn u) c.before.before.args.o (λ k h. inv.1 k (omega (arith, c.loop-test.false, inv.0, h, objects-length u))))
+    sym (no-child (objects_in u) c.before.before.args.o (λ k h. inv.1 k (omega (arith, c.loop-test.false, inv.0, h, objects-length u))))
 
 pub has-child-spec : {M : Type 1} → statement M
 has-child-spec =

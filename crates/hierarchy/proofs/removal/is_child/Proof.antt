@@ -5,8 +5,8 @@ use native.Mathlib.Numerals.{add-one}
 use mathlib.Core.Path.{◌≡◌, refl, ap₂, ◌∙◌}
 use mathlib.Core.Bool.{Bool, true, false, ◌&&◌}
 use lib.Dec.{eqb}
-use Rattle.model.specs.State.{objectAt}
-use Rattle.unit.specs.Rows.{objectsIn}
+use Rattle.model.specs.State.{object_at}
+use Rattle.unit.specs.Rows.{objects_in}
 use borrow.Author.Rules.{rules}
 use Rattle.hierarchy.proofs.removal.is_child.Statement.{statement}
 use Rattle.hierarchy.proofs.removal.is_child.Tie as tie
@@ -30,7 +30,7 @@ turned false false = refl
 returns : tie.Need-returns
 returns c =
     let args = c.before.before.args in
-    let ob = objectAt (objectsIn args.unit.now) args.c in
+    let ob = object_at (objects_in args.unit.now) args.c in
     ap₂ ◌&&◌ (ap₂ eqb c.before.parent_of.ensures (add-one args.o)) c.is_live.ensures ∙ turned (eqb ob.parent (suc args.o)) ob.live
 
 pub is-child-spec : {M : Type 1} → statement M

@@ -6,9 +6,9 @@ use mathlib.Core.Path.{◌≡◌, ap, ap₂, ◌∙◌}
 use borrow.Author.Rules.{rules}
 use Rattle.bits.specs.Bits.{bit}
 use Rattle.model.specs.Modes.{has}
-use Rattle.model.specs.State.{subjectCount, object, heldBy}
-use Rattle.unit.specs.Rows.{stateIn}
-use Rattle.orders.specs.Sums.{sumBelow}
+use Rattle.model.specs.State.{subject_count, object, held_by}
+use Rattle.unit.specs.Rows.{state_in}
+use Rattle.orders.specs.Sums.{sum_below}
 use Rattle.page_lines.specs.Lines.{holders}
 use Rattle.orders.proofs.Sums.{no-sum, sum_more}
 use Rattle.page_sets.proofs.Counts.{bit-most}
@@ -16,10 +16,10 @@ use Rattle.page_lines.proofs.last.holders.Statement.{statement}
 use Rattle.page_lines.proofs.last.holders.Tie as tie
 
 abbrev invariant-loop : tie.invariant-loop
-invariant-loop unit o x count₀ s₀ count s = (s ≤ subjectCount) × (count ≤ s) × (count ≡ sumBelow s (λ t. bit (has x (heldBy (object (stateIn unit) o) t))))
+invariant-loop unit o x count₀ s₀ count s = (s ≤ subject_count) × (count ≤ s) × (count ≡ sum_below s (λ t. bit (has x (held_by (object (state_in unit) o) t))))
 
 abbrev decreases-loop : tie.decreases-loop
-decreases-loop unit o x count₀ s₀ count s = subjectCount - s
+decreases-loop unit o x count₀ s₀ count s = subject_count - s
 
 loop-holds : tie.Need-loop-init invariant-loop decreases-loop
 loop-holds c = (omega arith, omega arith, no-sum _)
@@ -48,11 +48,11 @@ loop-again c =
     let loop = c.before.before.before.loop in
     let start = c.before.before.before.before in
     let x = start.args.x in
-    let ob = object (stateIn start.args.unit.now) start.args.o in (
+    let ob = object (state_in start.args.unit.now) start.args.o in (
       omega (arith, c.before.before.loop-test.true),
       omega (arith, loop.invariant.1, c.bit-of.ensures, bit-most (has x held.result)),
       ap₂ (λ n k. n + k) loop.invariant.2 (c.bit-of.ensures ∙ ap (λ h. bit (has x h)) held.ensures)
-          ∙ sum_more loop.s (λ t. bit (has x (heldBy ob t))),
+          ∙ sum_more loop.s (λ t. bit (has x (held_by ob t))),
     )
 
 returns : tie.Need-returns invariant-loop decreases-loop
@@ -60,8 +60,8 @@ unfolding holders
 returns c =
     let loop = c.before.loop in
     let start = c.before.before in
-    let end : loop.s ≡ subjectCount = omega (arith, loop.invariant.0, c.loop-test.false) in
-    loop.invariant.2 ∙ ap (λ n. sumBelow n (λ t. bit (has start.args.x (heldBy (object (stateIn start.args.unit.now) start.args.o) t)))) end
+    let end : loop.s ≡ subject_count = omega (arith, loop.invariant.0, c.loop-test.false) in
+    loop.invariant.2 ∙ ap (λ n. sum_below n (λ t. bit (has start.args.x (held_by (object (state_in start.args.unit.now) start.args.o) t)))) end
 
 pub holders-spec : {M : Type 1} → statement M
 holders-spec =

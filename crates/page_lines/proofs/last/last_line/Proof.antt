@@ -4,9 +4,9 @@ use native.Mathlib.Omega.{arith}
 use mathlib.Core.Path.{◌≡◌, ap, ◌∙◌}
 use Rattle.bits.specs.Bits.{join}
 use Rattle.model.specs.State.{object}
-use Rattle.model.specs.Buffers.{twoDigits}
-use Rattle.unit.specs.Rows.{stateIn}
-use Rattle.page_lines.specs.Lines.{holders, total, lastLine}
+use Rattle.model.specs.Buffers.{two_digits}
+use Rattle.unit.specs.Rows.{state_in}
+use Rattle.page_lines.specs.Lines.{holders, total, last_line}
 use Rattle.page_sets.proofs.Counts.{over-modes}
 use Rattle.page_lines.proofs.Sizes.{total-small, total-over-modes}
 use borrow.Author.Rules.{rules}
@@ -40,7 +40,7 @@ two-digits-requires-4 c κs = search rules
 add-two-digits-3 : tie.Need-overflow-add-two-digits-3
 add-two-digits-3 c =
     let start = c.before.before.before.before.before.before.before.before in
-    let ob = object (stateIn start.args.unit.now) start.args.o in
+    let ob = object (state_in start.args.unit.now) start.args.o in
     omega (arith, over-modes (holders ob), total-over-modes ob, total-small ob, c.before.before.before.before.before.before.before.holders.ensures, c.before.before.before.before.before.before.holders2.ensures, c.before.before.before.before.before.holders3.ensures, c.before.before.before.before.holders4.ensures)
 
 -- the parts of the sum are smaller
@@ -84,13 +84,13 @@ array-read-t43 : tie.Need-array-read-t43
 array-read-t43 c = search rules
 
 returns : tie.Need-returns
-unfolding lastLine join
+unfolding last_line join
 returns c =
     let start = c.before.before.before.before.before.before.before.before.before in
-    let ob = object (stateIn start.args.unit.now) start.args.o in
-    let all : c.two-digits5.result ≡ twoDigits (total ob) =
+    let ob = object (state_in start.args.unit.now) start.args.o in
+    let all : c.two-digits5.result ≡ two_digits (total ob) =
     c.two-digits5.ensures
-    ∙ ap twoDigits
+    ∙ ap two_digits
     (omega (arith, over-modes (holders ob), total-over-modes ob, c.before.before.before.before.before.before.before.before.holders.ensures, c.before.before.before.before.before.before.before.holders2.ensures, c.before.before.before.before.before.before.holders3.ensures, c.before.before.before.before.before.holders4.ensures)) in
     rw (all, c.before.before.before.before.two_digits.ensures, c.before.before.before.two-digits2.ensures, c.before.before.two-digits3.ensures, c.before.two-digits4.ensures, c.before.before.before.before.before.before.before.before.holders.ensures, c.before.before.before.before.before.before.before.holders2.ensures, c.before.before.before.before.before.before.holders3.ensures, c.before.before.before.before.before.holders4.ensures)
 

@@ -5,20 +5,20 @@ use native.Mathlib.Omega.{arith}
 use mathlib.Core.Path.{◌≡◌, ap, ap₂, ◌∙◌}
 use lib.ListN.{length}
 use borrow.Author.Rules.{rules}
-use Rattle.model.specs.State.{subjectCount, object}
+use Rattle.model.specs.State.{subject_count, object}
 use Rattle.model.specs.Buffers.{put}
 use Rattle.model.proofs.Buffers.{put-none, put-more}
-use Rattle.unit.specs.Rows.{stateIn}
+use Rattle.unit.specs.Rows.{state_in}
 use Rattle.page_lines.specs.Lines.{line, lines}
 use Rattle.page_lines.proofs.Sizes.{line-length, lines-length, lines_more, no_lines, lines-put}
 use Rattle.page_lines.proofs.lines.put_lines.Statement.{statement}
 use Rattle.page_lines.proofs.lines.put_lines.Tie as tie
 
 abbrev invariant-loop : tie.invariant-loop
-invariant-loop out₀ unit o s₀ out s = (s ≤ subjectCount) × (out ≡ put out₀ 0 (lines (object (stateIn unit) o) s))
+invariant-loop out₀ unit o s₀ out s = (s ≤ subject_count) × (out ≡ put out₀ 0 (lines (object (state_in unit) o) s))
 
 abbrev decreases-loop : tie.decreases-loop
-decreases-loop out₀ unit o s₀ out s = subjectCount - s
+decreases-loop out₀ unit o s₀ out s = subject_count - s
 
 loop-holds : tie.Need-loop-init invariant-loop decreases-loop
 loop-holds c =
@@ -46,7 +46,7 @@ put-bytes-requires : tie.Need-put-bytes-requires invariant-loop decreases-loop
 put-bytes-requires c κs =
     let loop = c.before.before.before.before.before.before.loop in
     let start = c.before.before.before.before.before.before.before.before in
-    omega (arith, c.before.before.before.before.before.loop-test.true, ap length c.before.before.line.ensures, line-length loop.s c.before.before.before.before.rights-of.result c.before.before.before.held_by.result, ap length loop.invariant.1, lines-put start.args.out.now (object (stateIn start.args.unit.now) start.args.o) loop.s loop.invariant.0 start.requires.1.1, start.requires.1.1)
+    omega (arith, c.before.before.before.before.before.loop-test.true, ap length c.before.before.line.ensures, line-length loop.s c.before.before.before.before.rights-of.result c.before.before.before.held_by.result, ap length loop.invariant.1, lines-put start.args.out.now (object (state_in start.args.unit.now) start.args.o) loop.s loop.invariant.0 start.requires.1.1, start.requires.1.1)
 
 add-s : tie.Need-overflow-add-s invariant-loop decreases-loop
 add-s c = search rules
@@ -60,7 +60,7 @@ loop-again c =
     let rights = c.before.before.before.before.before.before.before.rights-of in
     let loop = c.before.before.before.before.before.before.before.before.before.loop in
     let start = c.before.before.before.before.before.before.before.before.before.before.before in
-    let ob = object (stateIn start.args.unit.now) start.args.o in
+    let ob = object (state_in start.args.unit.now) start.args.o in
     let s = loop.s in (
       omega (arith, c.before.before.before.before.before.before.before.before.loop-test.true),
       c.before.before.put-bytes.ensures
@@ -73,14 +73,14 @@ same_length : tie.Need-same-length invariant-loop decreases-loop
 same_length c =
     let start = c.before.before.before in
     let loop = c.before.loop in
-    ap length loop.invariant.1 ∙ lines-put start.args.out.now (object (stateIn start.args.unit.now) start.args.o) loop.s loop.invariant.0 start.requires.1.1
+    ap length loop.invariant.1 ∙ lines-put start.args.out.now (object (state_in start.args.unit.now) start.args.o) loop.s loop.invariant.0 start.requires.1.1
 
 returns : tie.Need-returns invariant-loop decreases-loop
 returns c =
     let start = c.before.before.before in
     let loop = c.before.loop in
-    let end : loop.s ≡ subjectCount = omega (arith, loop.invariant.0, c.loop-test.false) in
-    loop.invariant.1 ∙ ap (λ k. put start.args.out.now 0 (lines (object (stateIn start.args.unit.now) start.args.o) k)) end
+    let end : loop.s ≡ subject_count = omega (arith, loop.invariant.0, c.loop-test.false) in
+    loop.invariant.1 ∙ ap (λ k. put start.args.out.now 0 (lines (object (state_in start.args.unit.now) start.args.o) k)) end
 
 pub put-lines-spec : {M : Type 1} → statement M
 put-lines-spec =

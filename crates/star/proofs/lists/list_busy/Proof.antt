@@ -5,15 +5,15 @@ use native.Mathlib.Omega.{arith}
 use mathlib.Core.Path.{◌≡◌, sym, ap, ◌∙◌, subst}
 use mathlib.Core.Bool.{not}
 use Rattle.bits.specs.Bits.{bit}
-use Rattle.model.specs.State.{objectAt}
-use Rattle.unit.specs.Rows.{objectsIn}
-use Rattle.star.specs.Lists.{busyFor, Listed, itself}
+use Rattle.model.specs.State.{object_at}
+use Rattle.unit.specs.Rows.{objects_in}
+use Rattle.star.specs.Lists.{busy_for, Listed, itself}
 use Rattle.star.proofs.Listed.{listed-none, listed_more, bit-small}
 use Rattle.star.proofs.lists.list_busy.Statement.{statement}
 use Rattle.star.proofs.lists.list_busy.Tie as tie
 
 abbrev invariant-loop : tie.invariant-loop
-invariant-loop unit low end busy₀ count₀ o₀ busy count o = (o ≤ 64) × Listed (busyFor low end (objectAt (objectsIn unit))) itself busy count o
+invariant-loop unit low end busy₀ count₀ o₀ busy count o = (o ≤ 64) × Listed (busy_for low end (object_at (objects_in unit))) itself busy count o
 
 abbrev decreases-loop : tie.decreases-loop
 decreases-loop unit low end busy₀ count₀ o₀ busy count o = 64 - o
@@ -56,7 +56,7 @@ returns c =
     let inv = c.before.loop.invariant in
     let start = c.before.before.before in
     let all : c.before.loop.o ≡ 64 = omega (arith, c.loop-test.false, inv.0) in
-    subst (Listed (busyFor start.args.low start.args.end (objectAt (objectsIn start.args.unit.now))) itself c.before.loop.busy c.before.loop.count) all inv.1
+    subst (Listed (busy_for start.args.low start.args.end (object_at (objects_in start.args.unit.now))) itself c.before.loop.busy c.before.loop.count) all inv.1
 
 pub list-busy-spec : {M : Type 1} → statement M
 list-busy-spec =

@@ -5,17 +5,17 @@ use native.Mathlib.Omega.{arith}
 use mathlib.Core.Path.{◌≡◌, sym, ap, ◌∙◌, subst}
 use lib.ListN.{get_or}
 use Rattle.bits.specs.Bits.{bit}
-use Rattle.model.specs.State.{objectAt}
-use Rattle.unit.specs.Rows.{objectsIn}
-use Rattle.star.specs.Lists.{read_by, alteredBy, Listed, out_of}
+use Rattle.model.specs.State.{object_at}
+use Rattle.unit.specs.Rows.{objects_in}
+use Rattle.star.specs.Lists.{read_by, altered_by, Listed, out_of}
 use Rattle.star.proofs.Listed.{listed-none, listed_more, bit-small}
-use Rattle.model.specs.Modes.{anyObserves, anyAlters}
+use Rattle.model.specs.Modes.{any_observes, any_alters}
 use Rattle.star.proofs.lists.list_held.Statement.{statement}
 use Rattle.star.proofs.lists.list_held.Tie as tie
 
 abbrev invariant-loop : tie.invariant-loop
 invariant-loop unit s busy count read₀ altered₀ r₀ a₀ k₀ read altered r a k =
-    (k ≤ count) × Listed (read_by s (objectAt (objectsIn unit))) (out_of busy) read r k × Listed (alteredBy s (objectAt (objectsIn unit))) (out_of busy) altered a k
+    (k ≤ count) × Listed (read_by s (object_at (objects_in unit))) (out_of busy) read r k × Listed (altered_by s (object_at (objects_in unit))) (out_of busy) altered a k
 
 abbrev decreases-loop : tie.decreases-loop
 decreases-loop unit s busy count read₀ altered₀ r₀ a₀ k₀ read altered r a k = count - k
@@ -71,8 +71,8 @@ loop-again c =
     let inv = c.before.before.before.before.before.before.before.loop.invariant in
     let t = c.before.before.before.before.before.before in (
       omega (arith, t.loop-test.true),
-      listed_more _ _ _ _ _ (listed-few t) (at-below t) inv.1 _ (c.before.before.one-if.ensures ∙ ap bit (c.before.before.before.table-observes.ensures ∙ ap anyObserves c.before.before.before.before.held_by.ensures)),
-      listed_more _ _ _ _ _ (listed-few t) (at-below t) inv.2 _ (c.one-if2.ensures ∙ ap bit (c.before.table-alters.ensures ∙ ap anyAlters c.before.before.before.before.held_by.ensures)),
+      listed_more _ _ _ _ _ (listed-few t) (at-below t) inv.1 _ (c.before.before.one-if.ensures ∙ ap bit (c.before.before.before.table-observes.ensures ∙ ap any_observes c.before.before.before.before.held_by.ensures)),
+      listed_more _ _ _ _ _ (listed-few t) (at-below t) inv.2 _ (c.one-if2.ensures ∙ ap bit (c.before.table-alters.ensures ∙ ap any_alters c.before.before.before.before.held_by.ensures)),
     )
 
 same_length : tie.Need-same-length invariant-loop decreases-loop
@@ -85,10 +85,10 @@ returns : tie.Need-returns invariant-loop decreases-loop
 returns c =
     let inv = c.before.loop.invariant in
     let start = c.before.before.before.before.before in
-    let at = objectAt (objectsIn start.args.unit.now) in
+    let at = object_at (objects_in start.args.unit.now) in
     let all : c.before.loop.k ≡ start.args.count = omega (arith, c.loop-test.false, inv.0) in (
       subst (Listed (read_by start.args.s at) (out_of start.args.busy.now) c.before.loop.read c.before.loop.r) all inv.1,
-      subst (Listed (alteredBy start.args.s at) (out_of start.args.busy.now) c.before.loop.altered c.before.loop.a) all inv.2,
+      subst (Listed (altered_by start.args.s at) (out_of start.args.busy.now) c.before.loop.altered c.before.loop.a) all inv.2,
     )
 
 pub list-held-spec : {M : Type 1} → statement M

@@ -8,9 +8,9 @@ use native.Mathlib.Omega.{arith}
 use mathlib.Core.Path.{◌≡◌, refl, sym, ap, ap₂, ◌∙◌}
 use mathlib.Core.Bool.{Bool, true, false, not}
 use lib.ListN.{get_or}
-use Rattle.model.specs.State.{objectAt}
-use Rattle.unit.specs.Rows.{objectsIn}
-use Rattle.star.specs.Lists.{label_at, pairsKept}
+use Rattle.model.specs.State.{object_at}
+use Rattle.unit.specs.Rows.{objects_in}
+use Rattle.star.specs.Lists.{label_at, pairs_kept}
 use Rattle.star.proofs.Listed.{pair-apart}
 use borrow.Author.Count.{below_more}
 use Rattle.model.specs.Levels.{dominates}
@@ -19,19 +19,19 @@ use Rattle.star.proofs.lists.pair_offends.Statement.{statement}
 use Rattle.star.proofs.lists.pair_offends.Tie as tie
 
 -- the object that is read at i is in order with all that are altered
-abbrev inOrder : List (List ℕ) → List ℕ → List ℕ → ℕ → ℕ → Bool
-inOrder unit read altered a i = all_below a (λ j. dominates (label_at (objectAt (objectsIn unit)) altered j) (label_at (objectAt (objectsIn unit)) read i))
+abbrev in_order : List (List ℕ) → List ℕ → List ℕ → ℕ → ℕ → Bool
+in_order unit read altered a i = all_below a (λ j. dominates (label_at (object_at (objects_in unit)) altered j) (label_at (object_at (objects_in unit)) read i))
 
 abbrev invariant-loop : tie.invariant-loop
 invariant-loop unit read r altered a offends₀ p below q₀ offends q =
-    (q ≤ a) × (offends ≡ false) × ((j : ℕ) → j < q → dominates (label_at (objectAt (objectsIn unit)) altered j) below ≡ true)
+    (q ≤ a) × (offends ≡ false) × ((j : ℕ) → j < q → dominates (label_at (object_at (objects_in unit)) altered j) below ≡ true)
 
 abbrev decreases-loop : tie.decreases-loop
 decreases-loop unit read r altered a offends₀ p below q₀ offends q = a - q
 
 abbrev invariant-pairs : tie.invariant-pairs
 invariant-pairs unit read r altered a offends₀ p₀ offends p =
-    (p ≤ r) × (offends ≡ false) × ((i : ℕ) → i < p → inOrder unit read altered a i ≡ true)
+    (p ≤ r) × (offends ≡ false) × ((i : ℕ) → i < p → in_order unit read altered a i ≡ true)
 
 abbrev decreases-pairs : tie.decreases-pairs
 decreases-pairs unit read r altered a offends₀ p₀ offends p = r - p
@@ -99,12 +99,12 @@ pairs-again c = let inv = c.before.before.before.before.before.pairs.invariant i
       inner.1,
       below_more _ _ inv.2
           (below_in start.args.a _ (λ j h.
-          ap (dominates (label_at (objectAt (objectsIn start.args.unit.now)) start.args.altered.now j)) (sym c.before.before.label_of.ensures)
+          ap (dominates (label_at (object_at (objects_in start.args.unit.now)) start.args.altered.now j)) (sym c.before.before.label_of.ensures)
           ∙ inner.2 j (omega (arith, c.loop-test.false, inner.0)))),
     )
 
 returns : tie.Need-returns invariant-loop decreases-loop invariant-pairs decreases-pairs
-unfolding pairsKept
+unfolding pairs_kept
 returns c = let inv = c.before.pairs.invariant in
     inv.1 ∙ sym (ap not (below_in c.before.before.before.before.args.r _ (λ i h. inv.2 i (omega (arith, c.pairs-test.false, inv.0)))))
 

@@ -5,8 +5,8 @@ use mathlib.Core.Path.{◌≡◌, refl, sym, ap, ◌∙◌, subst}
 use mathlib.Core.List.{List}
 use lib.ListN.{length}
 use Rattle.bits.specs.Bits.{bit}
-use Rattle.unit.specs.Rows.{stateIn}
-use Rattle.unit.specs.Stored.{setHeld}
+use Rattle.unit.specs.Rows.{state_in}
+use Rattle.unit.specs.Stored.{set_held}
 use Rattle.asking.proofs.Lists.{asked-length}
 use Rattle.model.specs.declared.Profile.{Profile}
 use Rattle.start_order.specs.declared.wanted.Wanted.{Wanted}
@@ -57,7 +57,7 @@ unfolding alone
 returns c =
     let start = c.before.before.before.before.before.before in
     let none = wants start.args.piece.now _ _ _ _ c.before.before.before.profile-of.ensures c.before.before.access-in.ensures c.enum_told.given.1 in
-    (sym (ap (λ (w : Wanted). bit (alone (stateIn start.args.unit.now) w)) none), refl)
+    (sym (ap (λ (w : Wanted). bit (alone (state_in start.args.unit.now) w)) none), refl)
 
 same_length : tie.Need-same-length
 same_length c = search rules
@@ -76,7 +76,7 @@ returns-2 c =
     let asks = wants piece _ _ _ _ c.before.before.before.before.before.before.before.before.before.before.before.before.before.profile-of.ensures c.before.before.before.before.before.before.before.before.before.before.before.before.access-in.ensures get.1 in
     let r = subst Fits asks (wanted-fits _ piece) in (
       c.flag.ensures ∙ tried-alone u piece get.0.0 get.0.1.0 get.0.1.1.0 asks _ tried.0,
-      c.before.before.set-held.ensures ∙ ap (setHeld c.before.before.before.before.before.ask.new.0 get.0.1.0 get.0.0) c.before.before.before.before.before.before.before.held_by.ensures
+      c.before.before.set-held.ensures ∙ ap (set_held c.before.before.before.before.before.ask.new.0 get.0.1.0 get.0.0) c.before.before.before.before.before.before.before.held_by.ensures
           ∙ taken_back u piece get.0.0 get.0.1.0 get.0.1.1.0 asks start.requires r.1 _ tried.1,
     )
 

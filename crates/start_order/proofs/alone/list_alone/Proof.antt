@@ -7,7 +7,7 @@ use mathlib.Core.List.{List}
 use lib.ListN.{length, length-set}
 use Rattle.bits.specs.Bits.{bit}
 use Rattle.model.specs.Program.{pieces}
-use Rattle.unit.specs.Rows.{Rows, stateIn}
+use Rattle.unit.specs.Rows.{Rows, state_in}
 use Rattle.start_order.specs.Answers.{wanted, alone}
 use Rattle.start_order.proofs.Searching.{counted, Listing, listed_more}
 use borrow.Author.Rules.{rules}
@@ -51,8 +51,8 @@ loop-again c =
       bound = omega (arith, tested);
       rows = tried.ensures.1 ∙ loop.invariant.rows;
       size = length-set loop.list loop.i tried.result ∙ loop.invariant.size;
-      so_far = listed_more (stateIn start.args.unit.now) (pieces start.args.requests.now) loop.i loop.list _ (omega (arith, tested, loop.invariant.size, start.requires.1.1)) loop.invariant.so_far
-          (tried.ensures.0 ∙ ap₂ (λ (u : Rows) (b : List ℕ). bit (alone (stateIn u) (wanted (stateIn u).profile b))) loop.invariant.rows asked);
+      so_far = listed_more (state_in start.args.unit.now) (pieces start.args.requests.now) loop.i loop.list _ (omega (arith, tested, loop.invariant.size, start.requires.1.1)) loop.invariant.so_far
+          (tried.ensures.0 ∙ ap₂ (λ (u : Rows) (b : List ℕ). bit (alone (state_in u) (wanted (state_in u).profile b))) loop.invariant.rows asked);
     }
 
 same_length : tie.Need-same-length invariant-loop decreases-loop

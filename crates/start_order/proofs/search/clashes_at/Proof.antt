@@ -6,7 +6,7 @@ use mathlib.Core.Bool.{Bool, ◌&&◌}
 use mathlib.Core.List.{[]}
 use lib.ListN.{get_or}
 use Rattle.model.specs.Program.{pieces}
-use Rattle.unit.specs.Rows.{stateIn}
+use Rattle.unit.specs.Rows.{state_in}
 use Rattle.turns.proofs.Runs.{length-pieces}
 use Rattle.model.specs.declared.Profile.{Profile}
 use Rattle.start_order.specs.Answers.{Fits, wanted, breaks}
@@ -23,7 +23,7 @@ returns : tie.Need-returns
 returns c =
     let start = c.before.before.before.before in
     let args = start.args in
-    sym (ap (λ (b : Bool). b && breaks (stateIn args.unit.now) args.first (wanted (stateIn args.unit.now).profile (get_or (pieces args.requests.now) args.j [])))
+    sym (ap (λ (b : Bool). b && breaks (state_in args.unit.now) args.first (wanted (state_in args.unit.now).profile (get_or (pieces args.requests.now) args.j [])))
     (listed-off _ _ _ _ start.requires.1.0 args.j start.requires.1.1.1 c.if1.true))
 
 profile-of-requires : tie.Need-profile-of-requires
@@ -44,8 +44,8 @@ returns-2 c =
     let start = c.before.before.before.before.before.before.before in
     let args = start.args in
     let on = listed-on _ _ _ _ start.requires.1.0 args.j start.requires.1.1.1 c.before.before.before.if1.false in
-    c.breaks.ensures ∙ ap (breaks (stateIn args.unit.now) args.first) (c.before.wanted-at.ensures ∙ ap (λ (p : Profile). wanted p (get_or (pieces args.requests.now) args.j [])) c.before.before.profile-of.ensures)
-    ∙ sym (ap (λ (b : Bool). b && breaks (stateIn args.unit.now) args.first (wanted (stateIn args.unit.now).profile (get_or (pieces args.requests.now) args.j []))) on)
+    c.breaks.ensures ∙ ap (breaks (state_in args.unit.now) args.first) (c.before.wanted-at.ensures ∙ ap (λ (p : Profile). wanted p (get_or (pieces args.requests.now) args.j [])) c.before.before.profile-of.ensures)
+    ∙ sym (ap (λ (b : Bool). b && breaks (state_in args.unit.now) args.first (wanted (state_in args.unit.now).profile (get_or (pieces args.requests.now) args.j []))) on)
 
 pub clashes-at-spec : {M : Type 1} → statement M
 clashes-at-spec =

@@ -7,31 +7,31 @@ use mathlib.Core.Bool.{◌&&◌}
 use mathlib.Core.List.{[]}
 use lib.ListN.{length, get_or}
 use Rattle.model.specs.Program.{pieces}
-use Rattle.unit.specs.Rows.{stateIn}
+use Rattle.unit.specs.Rows.{state_in}
 use Rattle.turns.proofs.Runs.{length-pieces}
 use Rattle.model.specs.declared.Profile.{Profile}
 use Rattle.start_order.specs.declared.wanted.Wanted.{Wanted}
 use Rattle.start_order.specs.Answers.{Fits, wanted, alone, breaks}
 use Rattle.start_order.proofs.First.{NoneBelow, none_more, found_first, ended-first}
 use Rattle.start_order.proofs.Trying.{wanted-fits}
-use Rattle.start_order.proofs.Searching.{isPartner, listed-on, listed-off, refused_none, none_before, partner-at}
+use Rattle.start_order.proofs.Searching.{is_partner, listed-on, listed-off, refused_none, none_before, partner-at}
 use borrow.Author.Rules.{rules}
 use Rattle.start_order.proofs.search.partner.Statement.{statement}
 use Rattle.start_order.proofs.search.partner.Tie as tie
 
 abbrev invariant-loop : tie.invariant-loop
-invariant-loop unit requests count list i first j₀ j = (i < j) × (j ≤ count) × NoneBelow (isPartner (stateIn unit) (pieces requests) i) j
+invariant-loop unit requests count list i first j₀ j = (i < j) × (j ≤ count) × NoneBelow (is_partner (state_in unit) (pieces requests) i) j
 
 abbrev decreases-loop : tie.decreases-loop
 decreases-loop unit requests count list i first j₀ j = count - j
 
 -- what is tested at j
 tested : (c : tie.After-clashes-at invariant-loop decreases-loop)
-    → isPartner (stateIn c.before.before.before.before.before.before.before.before.before.args.unit.now) (pieces c.before.before.before.before.before.before.before.before.before.args.requests.now) c.before.before.before.before.before.before.before.before.before.args.i c.before.before.loop.j ≡ c.clashes-at.result
+    → is_partner (state_in c.before.before.before.before.before.before.before.before.before.args.unit.now) (pieces c.before.before.before.before.before.before.before.before.before.args.requests.now) c.before.before.before.before.before.before.before.before.before.args.i c.before.before.loop.j ≡ c.clashes-at.result
 tested c =
     let start = c.before.before.before.before.before.before.before.before.before in
     let args = start.args in
-    let m = stateIn args.unit.now in
+    let m = state_in args.unit.now in
     let bs = pieces args.requests.now in
     let loop = c.before.before.loop in
     let on = listed-on m bs _ _ start.requires.1.0 args.i start.requires.1.1 c.before.before.before.before.before.if1.false in
@@ -48,10 +48,10 @@ returns : tie.Need-returns invariant-loop decreases-loop
 returns c =
     let start = c.before.before.before.before in
     let args = start.args in
-    let m = stateIn args.unit.now in
+    let m = state_in args.unit.now in
     let bs = pieces args.requests.now in
     let off = listed-off m bs _ _ start.requires.1.0 args.i start.requires.1.1 c.if1.true in
-    ended-first (length bs) _ (length bs) (isPartner m bs args.i) start.requires.1.0.counted (refused_none m bs args.i off (length bs)) (omega (arith, start.requires.1.0.counted))
+    ended-first (length bs) _ (length bs) (is_partner m bs args.i) start.requires.1.0.counted (refused_none m bs args.i off (length bs)) (omega (arith, start.requires.1.0.counted))
 
 profile-of-requires : tie.Need-profile-of-requires invariant-loop decreases-loop
 profile-of-requires c κs = search rules
@@ -68,7 +68,7 @@ loop-holds : tie.Need-loop-init invariant-loop decreases-loop
 loop-holds c =
     let start = c.before.before.before.before.before.before in
     let args = start.args in
-    (omega arith, omega (arith, start.requires.1.1), none_before (stateIn args.unit.now) (pieces args.requests.now) args.i)
+    (omega arith, omega (arith, start.requires.1.1), none_before (state_in args.unit.now) (pieces args.requests.now) args.i)
 
 clashes-at-requires : tie.Need-clashes-at-requires invariant-loop decreases-loop
 clashes-at-requires c κs =
@@ -80,7 +80,7 @@ returns-2 c =
     let start = c.before.before.before.before.before.before.before.before.before.before in
     let args = start.args in
     let loop = c.before.before.before.loop in
-    found_first _ _ loop.j (isPartner (stateIn args.unit.now) (pieces args.requests.now) args.i) start.requires.1.0.counted loop.invariant.2
+    found_first _ _ loop.j (is_partner (state_in args.unit.now) (pieces args.requests.now) args.i) start.requires.1.0.counted loop.invariant.2
     (tested c.before ∙ c.if2.true) c.before.before.loop-test.true
 
 add-j-2 : tie.Need-overflow-add-j-2 invariant-loop decreases-loop
@@ -96,7 +96,7 @@ loop-again c =
     let loop = c.before.before.before.loop in (
       omega (arith, loop.invariant.0),
       omega (arith, c.before.before.loop-test.true),
-      none_more (isPartner (stateIn args.unit.now) (pieces args.requests.now) args.i) loop.j loop.invariant.2 (tested c.before ∙ c.if2.false),
+      none_more (is_partner (state_in args.unit.now) (pieces args.requests.now) args.i) loop.j loop.invariant.2 (tested c.before ∙ c.if2.false),
     )
 
 returns-3 : tie.Need-returns-3 invariant-loop decreases-loop
@@ -104,7 +104,7 @@ returns-3 c =
     let start = c.before.before.before.before.before.before.before.before in
     let args = start.args in
     let loop = c.before.loop in
-    ended-first _ _ loop.j (isPartner (stateIn args.unit.now) (pieces args.requests.now) args.i) start.requires.1.0.counted loop.invariant.2 c.loop-test.false
+    ended-first _ _ loop.j (is_partner (state_in args.unit.now) (pieces args.requests.now) args.i) start.requires.1.0.counted loop.invariant.2 c.loop-test.false
 
 pub partner-spec : {M : Type 1} → statement M
 partner-spec =

@@ -4,9 +4,9 @@ use mathlib.Core.Path.{sym, ap, ap₂, ◌∙◌, subst}
 use mathlib.Core.Bool.{Bool, not, ◌&&◌}
 use lib.Dec.{eqb}
 use borrow.Author.Rules.{rules}
-use Rattle.model.specs.Companies.{wallKept}
+use Rattle.model.specs.Companies.{wall_kept}
 use Rattle.model.specs.ModePairs.{entry, kept}
-use Rattle.unit.specs.Rows.{stateIn}
+use Rattle.unit.specs.Rows.{state_in}
 use Rattle.start_order.specs.declared.wanted.Wanted.{Wanted}
 use Rattle.start_order.specs.Answers.{Fits, breaks}
 use Rattle.start_order.proofs.wanted.breaks.Statement.{statement}
@@ -50,13 +50,13 @@ returns : tie.Need-returns
 unfolding breaks
 returns c =
     let start = c.before.before.args in
-    sym (ap (λ (v : Wanted). breaks (stateIn start.unit.now) v start.w) c.enum_told.given.1)
+    sym (ap (λ (v : Wanted). breaks (state_in start.unit.now) v start.w) c.enum_told.given.1)
 
 returns-2 : tie.Need-returns-2
 unfolding breaks
 returns-2 c =
     let start = c.before.before.before.before.before.args in
-    sym (ap₂ (breaks (stateIn start.unit.now)) c.before.before.before.v.given.1 c.enum-told2.given.1)
+    sym (ap₂ (breaks (state_in start.unit.now)) c.before.before.before.v.given.1 c.enum-told2.given.1)
 
 returns-3 : tie.Need-returns-3
 unfolding breaks
@@ -65,9 +65,9 @@ returns-3 c =
     let v = c.before.before.before.before.before.before.before.before.before.before.v in
     let w = c.before.before.before.before.before.before.before.w in
     let labels = c.before.before.before.labels-keep.ensures ∙ ap₂ (kept (entry v.given.0.1.1.0 w.given.0.1.1.0)) c.before.before.before.before.before.label_of.ensures c.before.before.before.before.label-of2.ensures in
-    let numbers = c.companies-keep.ensures ∙ ap₂ (wallKept v.given.0.1.1.0 w.given.0.1.1.0) c.before.before.companies-of.ensures c.before.companies-of2.ensures in
+    let numbers = c.companies-keep.ensures ∙ ap₂ (wall_kept v.given.0.1.1.0 w.given.0.1.1.0) c.before.before.companies-of.ensures c.before.companies-of2.ensures in
     ap₂ (λ (j k : Bool). eqb v.given.0.0 w.given.0.0 && not (j && k)) labels numbers
-    ∙ sym (ap₂ (breaks (stateIn start.unit.now)) v.given.1 w.given.1)
+    ∙ sym (ap₂ (breaks (state_in start.unit.now)) v.given.1 w.given.1)
 
 pub breaks-spec : {M : Type 1} → statement M
 breaks-spec =

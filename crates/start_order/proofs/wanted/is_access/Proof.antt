@@ -2,7 +2,7 @@
 -- Assumes nothing.
 use mathlib.Core.Path.{sym, ap}
 use borrow.Author.Rules.{rules}
-use Rattle.start_order.specs.Answers.{isAccess}
+use Rattle.start_order.specs.Answers.{is_access}
 use Rattle.start_order.proofs.wanted.is_access.Statement.{statement}
 use Rattle.start_order.proofs.wanted.is_access.Tie as tie
 
@@ -13,12 +13,12 @@ enum_told : tie.Need-enum-told
 enum_told c = search rules
 
 returns : tie.Need-returns
-unfolding isAccess
-returns c = sym (ap isAccess c.before.w.given.1)
+unfolding is_access
+returns c = sym (ap is_access c.before.w.given.1)
 
 returns-2 : tie.Need-returns-2
-unfolding isAccess
-returns-2 c = sym (ap isAccess c.enum_told.given.1)
+unfolding is_access
+returns-2 c = sym (ap is_access c.enum_told.given.1)
 
 pub is-access-spec : {M : Type 1} → statement M
 is-access-spec = tie.close (tie.spec enum-known-w enum_told returns returns-2)

@@ -1,6 +1,6 @@
 -- `unit::parts::set_companies` meets its contract.
 -- Assumes nothing.
-use Rattle.unit.specs.Rows.{objectOf}
+use Rattle.unit.specs.Rows.{object_of}
 use borrow.Author.Rules.{rules}
 use Rattle.unit.proofs.parts.set_companies.Statement.{statement}
 use Rattle.unit.proofs.parts.set_companies.Tie as tie
@@ -33,7 +33,7 @@ same_length : tie.Need-same-length
 same_length c = search rules
 
 returns : tie.Need-returns
-unfolding objectOf
+unfolding object_of
 returns c = rw (c.before.set_rest.ensures, c.before.before.before.row_of.ensures, c.before.before.before.before.flag.ensures, c.before.before.before.before.before.label-in.ensures, c.before.before.before.before.before.before.rest_of.ensures)
 
 pub set-companies-spec : {M : Type 1} → statement M

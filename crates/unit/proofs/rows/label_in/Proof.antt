@@ -1,6 +1,6 @@
 -- `unit::rows::label_in` meets its contract.
 -- Assumes nothing.
-use Rattle.unit.specs.Rows.{labelIn}
+use Rattle.unit.specs.Rows.{label_in}
 use lib.ListN.{get_or}
 use borrow.Author.Tests.{eq-eqb, ne_eqb}
 use borrow.Author.Rules.{rules}
@@ -14,11 +14,11 @@ level-in-requires : tie.Need-level-in-requires
 level-in-requires c κs = search rules
 
 returns : tie.Need-returns
-unfolding labelIn
+unfolding label_in
 returns c = rw (eq-eqb (get_or c.before.before.args.t1 2 0) 1 c.before.if1.true, c.level_in.ensures)
 
 returns-2 : tie.Need-returns-2
-unfolding labelIn
+unfolding label_in
 returns-2 c = rw (ne_eqb (get_or c.before.args.t1 2 0) 1 c.if1.false)
 
 pub label-in-spec : {M : Type 1} → statement M

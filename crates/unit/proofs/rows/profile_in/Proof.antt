@@ -1,6 +1,6 @@
 -- `unit::rows::profile_in` meets its contract.
 -- Assumes nothing.
-use Rattle.unit.specs.Rows.{profileIn}
+use Rattle.unit.specs.Rows.{profile_in}
 use borrow.Author.Rules.{rules}
 use Rattle.unit.proofs.rows.profile_in.Statement.{statement}
 use Rattle.unit.proofs.rows.profile_in.Tie as tie
@@ -15,7 +15,7 @@ level-in-requires : tie.Need-level-in-requires
 level-in-requires c κs = search rules
 
 returns : tie.Need-returns
-unfolding profileIn
+unfolding profile_in
 returns c = rw c.level_in.ensures
 
 pub profile-in-spec : {M : Type 1} → statement M

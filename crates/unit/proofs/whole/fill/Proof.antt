@@ -3,7 +3,7 @@
 use Prim.Native.Nat.{◌-◌}
 use native.Mathlib.Omega.{arith}
 use mathlib.Core.Path.{sym, ap, ◌∙◌}
-use Rattle.unit.specs.Rows.{profileRow}
+use Rattle.unit.specs.Rows.{profile_row}
 use Rattle.unit.specs.Stored.{ObjectsStored}
 use Rattle.unit.proofs.Units.{objects-none, objects-more, SubjectsStored, subjects-none, subjects-more, subjects-all}
 use Prim.Native.Nat.{◌+◌}
@@ -94,7 +94,7 @@ same_length : tie.Need-same-length invariant-loop decreases-loop invariant-loop2
 same_length c = search (rules, c.before.before.before.loop2.invariant.objects.whole, c.before.before.before.before.before.before.requires)
 
 returns : tie.Need-returns invariant-loop decreases-loop invariant-loop2 decreases-loop2
-returns c = ap (set c.before.before.before.loop2.unit profileRow) c.profile-row.ensures ∙ subjects-all _ _ _ c.before.before.before.loop2.invariant c.before.before.loop2-test.false
+returns c = ap (set c.before.before.before.loop2.unit profile_row) c.profile-row.ensures ∙ subjects-all _ _ _ c.before.before.before.loop2.invariant c.before.before.loop2-test.false
 
 pub fill_spec : {M : Type 1} → statement M
 fill_spec =

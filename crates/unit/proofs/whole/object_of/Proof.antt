@@ -1,6 +1,6 @@
 -- `unit::whole::object_of` meets its contract.
 -- Assumes nothing.
-use Rattle.unit.specs.Rows.{objectOf}
+use Rattle.unit.specs.Rows.{object_of}
 use borrow.Author.Rules.{rules}
 use Rattle.unit.proofs.whole.object_of.Statement.{statement}
 use Rattle.unit.proofs.whole.object_of.Tie as tie
@@ -21,7 +21,7 @@ array-read-t17 : tie.Need-array-read-t17
 array-read-t17 c = search rules
 
 returns : tie.Need-returns
-unfolding objectOf
+unfolding object_of
 returns c = rw (c.before.label-in.ensures, c.companies-in.ensures)
 
 pub object-of-spec : {M : Type 1} → statement M

@@ -1,6 +1,6 @@
 -- `unit::whole::set_object` meets its contract.
 -- Assumes nothing.
-use Rattle.unit.specs.Stored.{setObject}
+use Rattle.unit.specs.Stored.{set_object}
 use borrow.Author.Rules.{rules}
 use Rattle.unit.proofs.whole.set_object.Statement.{statement}
 use Rattle.unit.proofs.whole.set_object.Tie as tie
@@ -18,7 +18,7 @@ same_length : tie.Need-same-length
 same_length c = search rules
 
 returns : tie.Need-returns
-unfolding setObject
+unfolding set_object
 returns c = rw (c.before.set-rows.ensures, c.before.before.before.row_of.ensures, c.before.before.before.before.flag.ensures)
 
 pub set-object-spec : {M : Type 1} → statement M

@@ -7,16 +7,16 @@ use mathlib.Core.Path.{◌≡◌, refl, sym, ap, ap₂, ◌∙◌}
 use mathlib.Core.Bool.{Bool, ◌&&◌, cond}
 use lib.ListN.{get_or}
 use Rattle.model.specs.Companies.{compatible}
-use Rattle.model.specs.Modes.{anyObserves}
-use Rattle.model.specs.State.{objectAt}
-use Rattle.unit.specs.Rows.{objectsIn}
-use Rattle.wall.specs.Joined.{joined, joinedBelow, every, joins}
-use Rattle.wall.specs.Lists.{numbersAt, readAt}
+use Rattle.model.specs.Modes.{any_observes}
+use Rattle.model.specs.State.{object_at}
+use Rattle.unit.specs.Rows.{objects_in}
+use Rattle.wall.specs.Joined.{joined, joined_below, every, joins}
+use Rattle.wall.specs.Lists.{numbers_at, read_at}
 use Rattle.wall.proofs.lists.join_numbers.Statement.{statement}
 use Rattle.wall.proofs.lists.join_numbers.Tie as tie
 
 abbrev invariant-loop : tie.invariant-loop
-invariant-loop unit s list count fit₀ seen₀ read₀ i₀ fit seen read i = (i ≤ count) × (fit ≡ joins i (numbersAt (objectAt (objectsIn unit)) list)) × (seen ≡ joinedBelow i every (numbersAt (objectAt (objectsIn unit)) list)) × (read ≡ joinedBelow i (readAt s (objectAt (objectsIn unit)) list) (numbersAt (objectAt (objectsIn unit)) list))
+invariant-loop unit s list count fit₀ seen₀ read₀ i₀ fit seen read i = (i ≤ count) × (fit ≡ joins i (numbers_at (object_at (objects_in unit)) list)) × (seen ≡ joined_below i every (numbers_at (object_at (objects_in unit)) list)) × (read ≡ joined_below i (read_at s (object_at (objects_in unit)) list) (numbers_at (object_at (objects_in unit)) list))
 
 abbrev decreases-loop : tie.decreases-loop
 decreases-loop unit s list count fit₀ seen₀ read₀ i₀ fit seen read i = count - i
@@ -64,30 +64,30 @@ unfolding joins
 loop-again c =
     let inv = c.before.before.before.before.before.before.before.before.loop.invariant in
     let start = c.before.before.before.before.before.before.before.before.before.before in
-    let at = objectAt (objectsIn start.args.unit.now) in
+    let at = object_at (objects_in start.args.unit.now) in
     let list = start.args.list.now in
-    let g = numbersAt at list in
-    let f = readAt start.args.s at list in
+    let g = numbers_at at list in
+    let f = read_at start.args.s at list in
     let numbers = c.before.before.before.before.before.companies-of.ensures in
     let old = c.before.before.before.before.before.before.before.before.loop.read in
     let i = c.before.before.before.before.before.before.before.before.loop.i in
     let next = sym (add-one i) in
-    let reads = c.before.any-observes.ensures ∙ ap anyObserves c.before.before.held_by.ensures in (
+    let reads = c.before.any-observes.ensures ∙ ap any_observes c.before.before.held_by.ensures in (
       omega (arith, c.before.before.before.before.before.before.before.loop-test.true),
       ap₂ ◌&&◌ inv.1 (c.before.before.before.before.compatible.ensures ∙ ap₂ compatible inv.2 numbers) ∙ ap (λ (k : ℕ). joins k g) next,
-      c.before.before.before.joined.ensures ∙ ap₂ joined inv.2 numbers ∙ ap (λ (k : ℕ). joinedBelow k every g) next,
+      c.before.before.before.joined.ensures ∙ ap₂ joined inv.2 numbers ∙ ap (λ (k : ℕ). joined_below k every g) next,
       c.joined-if.ensures ∙ ap₂ (λ (t : Bool) (n : ℕ). cond t (joined old n) old) reads numbers
-          ∙ ap (λ (r : ℕ). cond (f i) (joined r (g i)) r) inv.3 ∙ ap (λ (k : ℕ). joinedBelow k f g) next,
+          ∙ ap (λ (r : ℕ). cond (f i) (joined r (g i)) r) inv.3 ∙ ap (λ (k : ℕ). joined_below k f g) next,
     )
 
 returns : tie.Need-returns invariant-loop decreases-loop
 returns c =
     let inv = c.before.loop.invariant in
     let a = c.before.before.before.args in
-    let at = objectAt (objectsIn a.unit.now) in
-    let g = numbersAt at a.list.now in
+    let at = object_at (objects_in a.unit.now) in
+    let g = numbers_at at a.list.now in
     let all : c.before.loop.i ≡ a.count = omega (arith, c.loop-test.false, inv.0) in
-    (inv.1 ∙ ap (λ (k : ℕ). joins k g) all, inv.3 ∙ ap (λ (k : ℕ). joinedBelow k (readAt a.s at a.list.now) g) all)
+    (inv.1 ∙ ap (λ (k : ℕ). joins k g) all, inv.3 ∙ ap (λ (k : ℕ). joined_below k (read_at a.s at a.list.now) g) all)
 
 pub join-numbers-spec : {M : Type 1} → statement M
 join-numbers-spec =

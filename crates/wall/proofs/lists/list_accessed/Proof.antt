@@ -4,17 +4,17 @@ use Prim.Native.Nat.{◌-◌, ◌≤◌}
 use native.Mathlib.Omega.{arith}
 use mathlib.Core.Path.{◌≡◌, sym, ap, ◌∙◌, subst}
 use Rattle.bits.specs.Bits.{bit}
-use Rattle.model.specs.Modes.{anyHeld}
-use Rattle.model.specs.State.{objectAt}
-use Rattle.unit.specs.Rows.{objectsIn}
+use Rattle.model.specs.Modes.{any_held}
+use Rattle.model.specs.State.{object_at}
+use Rattle.unit.specs.Rows.{objects_in}
 use Rattle.star.specs.Lists.{Listed, itself}
 use Rattle.star.proofs.Listed.{listed-none, listed_more, bit-small}
-use Rattle.wall.specs.Lists.{accessedBy}
+use Rattle.wall.specs.Lists.{accessed_by}
 use Rattle.wall.proofs.lists.list_accessed.Statement.{statement}
 use Rattle.wall.proofs.lists.list_accessed.Tie as tie
 
 abbrev invariant-loop : tie.invariant-loop
-invariant-loop unit s accessed₀ count₀ o₀ accessed count o = (o ≤ 64) × Listed (accessedBy s (objectAt (objectsIn unit))) itself accessed count o
+invariant-loop unit s accessed₀ count₀ o₀ accessed count o = (o ≤ 64) × Listed (accessed_by s (object_at (objects_in unit))) itself accessed count o
 
 abbrev decreases-loop : tie.decreases-loop
 decreases-loop unit s accessed₀ count₀ o₀ accessed count o = 64 - o
@@ -50,7 +50,7 @@ loop-again : tie.Need-loop-preserved invariant-loop decreases-loop
 loop-again c =
     let inv = c.before.before.before.before.loop.invariant in
     let t = c.before.before.before.loop-test.true in
-    (omega (arith, t), listed_more _ _ _ _ _ t t inv.1 _ (c.one-if.ensures ∙ ap bit (c.before.any_held.ensures ∙ ap anyHeld c.before.before.held_by.ensures)))
+    (omega (arith, t), listed_more _ _ _ _ _ t t inv.1 _ (c.one-if.ensures ∙ ap bit (c.before.any_held.ensures ∙ ap any_held c.before.before.held_by.ensures)))
 
 same_length : tie.Need-same-length invariant-loop decreases-loop
 same_length c = c.before.loop.invariant.1.whole ∙ sym c.before.before.before.requires.1.0
@@ -60,7 +60,7 @@ returns c =
     let inv = c.before.loop.invariant in
     let start = c.before.before.before in
     let all : c.before.loop.o ≡ 64 = omega (arith, c.loop-test.false, inv.0) in
-    subst (Listed (accessedBy start.args.s (objectAt (objectsIn start.args.unit.now))) itself c.before.loop.accessed c.before.loop.count) all inv.1
+    subst (Listed (accessed_by start.args.s (object_at (objects_in start.args.unit.now))) itself c.before.loop.accessed c.before.loop.count) all inv.1
 
 pub list-accessed-spec : {M : Type 1} → statement M
 list-accessed-spec =

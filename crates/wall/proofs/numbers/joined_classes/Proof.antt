@@ -5,13 +5,13 @@ use Prim.Native.Nat.{ℕ, ◌+◌, ◌*◌, ◌/◌, ◌%◌, ◌<◌}
 use native.Mathlib.Omega.{arith}
 use mathlib.Core.Path.{◌≡◌, sym, ap, ap₂, ◌∙◌, subst}
 use Rattle.model.specs.Companies.{company}
-use Rattle.wall.specs.Joined.{numberOr, joined}
+use Rattle.wall.specs.Joined.{number_or, joined}
 use Rattle.wall.proofs.Joined.{number-or-fits, last-company}
 use Rattle.wall.proofs.numbers.joined_classes.Statement.{statement}
 use Rattle.wall.proofs.numbers.joined_classes.Tie as tie
 
 -- each of the four numbers is below 16
-one-fits : (r a b : ℕ) → r ≡ numberOr (a % 16) (b % 16) → r < 16
+one-fits : (r a b : ℕ) → r ≡ number_or (a % 16) (b % 16) → r < 16
 one-fits r a b e = subst (λ (n : ℕ). n < 16) (sym e) (number-or-fits (a % 16) (b % 16) (omega arith) (omega arith))
 
 fits : (c : tie.After-number-or4)
@@ -59,7 +59,7 @@ returns : tie.Need-returns
 unfolding joined company
 returns c =
     let a = c.before.before.before.before.args in
-    let last = c.number-or4.ensures ∙ ap₂ numberOr (last-company a.p) (last-company a.q) in
+    let last = c.number-or4.ensures ∙ ap₂ number_or (last-company a.p) (last-company a.q) in
     ap₂ ◌+◌
     (ap₂ ◌+◌
     (ap₂ ◌+◌ (ap (λ (n : ℕ). n * 4096) c.before.before.before.number-or.ensures) (ap (λ (n : ℕ). n * 256) c.before.before.number-or2.ensures))
