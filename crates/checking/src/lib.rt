@@ -19,7 +19,7 @@ use unit::{clearance_of, held_by, is_enrolled, is_live, label_of, owner_of, righ
 use wall::breaks_wall;
 
 // Which of the checks passed: 12, 6, 7 and 8.
-#[derive(Drop)]
+#[derive(Clone, Copy)]
 struct Findings {
     enrolled: bool,
     matrix: bool,

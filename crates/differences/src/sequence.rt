@@ -7,7 +7,7 @@ ghost use Rattle.differences.specs.Sequences.{found, reading_at, requests_of};
 use model::{Level, Request};
 
 // Where an object is to be created: its number, and whether one is live there, whose owner deletes it first.
-#[derive(Drop)]
+#[derive(Clone, Copy)]
 pub struct Place {
     pub live: bool,
     pub owner: u8,
@@ -17,7 +17,7 @@ pub struct Place {
 // Remaking: the owner of an object deletes it and creates another; the numbers are the owner, the one, the other. Reading: the subject
 // creates the object, gives it the level and asks to read it. Replacing: the owner of a live object deletes it, and then the subject does
 // this; the numbers are the owner, the object, the subject.
-#[derive(Drop)]
+#[derive(Clone, Copy)]
 pub enum Sequence {
     Nothing,
     One(Request),

@@ -14,7 +14,7 @@ use model::{Label, Level, Monitor, Object, Subject, no_object};
 use unit::set_object;
 
 // A bit, the number in the four bits behind it, and whether all five are 0.
-#[derive(Drop)]
+#[derive(Clone, Copy)]
 struct FlagRead {
     flag: bool,
     number: u8,
@@ -22,14 +22,14 @@ struct FlagRead {
 }
 
 // A label, and whether no bit of its record is set.
-#[derive(Drop)]
+#[derive(Clone, Copy)]
 struct LabelRead {
     label: Label,
     blank: bool,
 }
 
 // The rights and the accesses at one object, and whether no bit of them is set.
-#[derive(Drop)]
+#[derive(Clone, Copy)]
 struct SetsRead {
     rights: [u8; 16],
     held: [u8; 16],
@@ -37,14 +37,14 @@ struct SetsRead {
 }
 
 // An object, and whether its record has its form: what is absent has no other bit set.
-#[derive(Drop)]
+#[derive(Clone, Copy)]
 struct ObjectRead {
     object: Object,
     formed: bool,
 }
 
 // What the bytes of a table say, and whether each record has its form.
-#[derive(Drop)]
+#[derive(Clone, Copy)]
 pub struct TableRead {
     pub subjects: [Subject; 16],
     pub formed: bool,

@@ -6,21 +6,21 @@ ghost use Rattle.std.specs.Prelude.{◌≡◌};
 ghost use Rattle.model.specs.State.{widest, no_object, fresh};
 
 // A class, 0 to 15, and a set of needs-to-know, 0 to 15, where need k weighs 2^k.
-#[derive(Drop)]
+#[derive(Clone, Copy)]
 pub struct Level {
     pub class: u8,
     pub needs: u16,
 }
 
 // The label of an object, or none; the clearance of a subject, or absent. Absent is no level: it differs from class 0 with no needs.
-#[derive(Drop)]
+#[derive(Clone, Copy)]
 pub enum Label {
     Absent,
     Present(Level),
 }
 
 // How one level compares with another: the same; above, only the first dominates; below, only the second does; apart, neither.
-#[derive(Drop)]
+#[derive(Clone, Copy)]
 pub enum Comparison {
     Equal,
     Above,
@@ -29,12 +29,12 @@ pub enum Comparison {
 }
 
 // A subject is enrolled exactly where its clearance is present.
-#[derive(Drop)]
+#[derive(Clone, Copy)]
 pub struct Subject {
     pub clearance: Label,
 }
 
-#[derive(Drop)]
+#[derive(Clone, Copy)]
 pub enum Mode {
     Read,
     Write,
@@ -44,7 +44,7 @@ pub enum Mode {
 
 // Companies: the numbers of four conflict classes, four bits for each, the first class highest. Rights and held accesses: for each of the
 // sixteen subjects a set of modes, r 8, w 4, a 2, e 1. Parent: the number of the object that this one is under, plus one; 0 for none.
-#[derive(Drop)]
+#[derive(Clone, Copy)]
 pub struct Object {
     pub live: bool,
     pub owner: u8,
@@ -71,7 +71,7 @@ pub fn no_object() -> Object
 }
 
 // A site profile: the subjects in use, 1 to 16, the objects in use, 1 to 64, and the level that has the highest class and every need in use.
-#[derive(Drop)]
+#[derive(Clone, Copy)]
 pub struct Profile {
     pub subjects: u8,
     pub objects: u8,
@@ -92,7 +92,7 @@ pub fn widest() -> Profile
     }
 }
 
-#[derive(Drop)]
+#[derive(Clone, Copy)]
 pub struct Monitor {
     pub profile: Profile,
     pub subjects: [Subject; 16],
@@ -138,7 +138,7 @@ impl Monitor {
 }
 
 // The fields of a request's six bytes.
-#[derive(Drop)]
+#[derive(Clone, Copy)]
 pub struct Fields {
     pub kind: u8,
     pub actor: u8,
@@ -151,14 +151,14 @@ pub struct Fields {
 }
 
 // How an object is created: whether its owner gains e too, and its parent, number plus one, 0 for none.
-#[derive(Drop)]
+#[derive(Clone, Copy)]
 pub struct Creation {
     pub execute: bool,
     pub parent: u16,
 }
 
 // A well-formed request: the actor, in give and rescind the other subject, the object, then what the kind uses beside them.
-#[derive(Drop)]
+#[derive(Clone, Copy)]
 pub enum Request {
     Get(u8, u8, Mode),
     Release(u8, u8, Mode),
@@ -171,14 +171,14 @@ pub enum Request {
 }
 
 // What a byte string says.
-#[derive(Drop)]
+#[derive(Clone, Copy)]
 pub enum Decoded {
     Malformed,
     Says(Request),
 }
 
 // Every answer of the monitor, in the order of its number (specs/Decisions.antt).
-#[derive(Drop)]
+#[derive(Clone, Copy)]
 pub enum Decision {
     Granted,
     Already,
@@ -204,7 +204,7 @@ pub enum Decision {
 }
 
 // The answer to a request or to a beginning, and the monitor after it.
-#[derive(Drop)]
+#[derive(Clone, Copy)]
 pub struct Response {
     pub decision: Decision,
     pub monitor: Monitor,

@@ -43,7 +43,7 @@ fn label_inside(p: Profile, l: Label) -> bool
 }
 
 // Whether every record beyond the profile is absent, and whether every level is inside it.
-#[derive(Drop)]
+#[derive(Clone, Copy)]
 pub struct Kept {
     pub absent: bool,
     pub inside: bool,

@@ -76,7 +76,7 @@ pub fn input_room() -> [u8; INPUT_BYTES]
 }
 
 // What the program prints: the first len bytes.
-#[derive(Drop)]
+#[derive(Clone, Copy)]
 pub struct Printed {
     pub bytes: [u8; 12288],
     pub len: usize,

@@ -28,7 +28,7 @@ pub fn list_busy(unit: &[[u8; 16]], low: usize, end: usize, busy: &mut [u8]) -> 
 }
 
 // How many objects are in the two lists of a subject.
-#[derive(Drop)]
+#[derive(Clone, Copy)]
 pub struct Counts {
     pub read: usize,
     pub altered: usize,

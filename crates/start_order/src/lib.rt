@@ -20,7 +20,7 @@ use unit::{ROWS, profile_of};
 pub const MOST: usize = 4096;
 
 // All orders of the gets leave equal states; the gets at two places clash; at a place stands no get; there are too many.
-#[derive(Drop)]
+#[derive(Clone, Copy)]
 pub enum StartOrder {
     Agree,
     Clash(usize, usize),

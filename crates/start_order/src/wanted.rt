@@ -13,7 +13,7 @@ use unit::{companies_of, label_of};
 use wall::companies_keep;
 
 // The access that a get asks for, by subject, object and mode; nothing where the bytes say no get.
-#[derive(Drop)]
+#[derive(Clone, Copy)]
 pub enum Wanted {
     Access(u8, u8, Mode),
     Nothing,

@@ -7,7 +7,7 @@ ghost use Rattle.task_list.specs.Tasks.{most, no_tasks};
 
 // A task: its subject, and its place in the script area, a start and a count of requests. Three bytes for C, without padding.
 #[repr(C)]
-#[derive(Drop)]
+#[derive(Clone, Copy)]
 pub struct Task {
     pub subject: u8,
     pub start: u8,
@@ -18,7 +18,7 @@ pub struct Task {
 pub const MOST: usize = 16;
 
 // How many tasks were lent, and the first sixteen of them; behind these stand tasks without a request.
-#[derive(Drop)]
+#[derive(Clone, Copy)]
 pub struct TaskList {
     pub count: usize,
     pub tasks: [Task; MOST],

@@ -14,7 +14,7 @@ use model::Decision;
 use requests::make;
 
 // The answer to a load, and how many requests were made.
-#[derive(Drop)]
+#[derive(Clone, Copy)]
 pub struct Loaded {
     pub decision: Decision,
     pub count: usize,

@@ -51,7 +51,7 @@ fn level_drawn(kind: u8, class: u32, needs: u32) -> Level
 }
 
 // A request, and the state behind its seven draws.
-#[derive(Drop)]
+#[derive(Clone, Copy)]
 pub struct Made {
     pub fields: Fields,
     pub state: u32,

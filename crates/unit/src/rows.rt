@@ -87,7 +87,7 @@ pub fn profile_in(row: [u8; 16]) -> Profile
 }
 
 // The four bytes of a label.
-#[derive(Drop)]
+#[derive(Clone, Copy)]
 struct LabelBytes {
     present: u8,
     class: u8,

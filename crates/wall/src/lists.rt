@@ -32,7 +32,7 @@ pub fn list_accessed(unit: &[[u8; 16]], s: u8, accessed: &mut [u8]) -> usize
 }
 
 // What the listed objects have in common: whether their numbers are compatible, and the numbers of those that the subject reads, joined.
-#[derive(Drop)]
+#[derive(Clone, Copy)]
 pub struct Joint {
     pub compatible: bool,
     pub read: u16,
