@@ -1,0 +1,9 @@
+-- `unit::whole::object_of` meets its contract.
+-- Assumes nothing.
+use Rattle.unit.specs.Rows.{object_of}
+use borrow.Author.Rules.{rules}
+use Rattle.unit.proofs.whole.object_of.Goals as goal
+
+pub returns : goal.returns
+unfolding object_of
+returns c = rw (c.label_in-label.ensures, c.companies_in-companies.ensures)
