@@ -1,0 +1,10 @@
+-- Each field stands behind those before it.
+-- Assumes nothing.
+use mathlib.Core.Path.{refl}
+use Rattle.encoding.specs.Word.{word_of}
+use borrow.Author.Rules.{rules}
+use Rattle.encoding.proofs.word_of.Goals as goal
+
+pub returns : goal.returns
+unfolding word_of
+returns c = refl

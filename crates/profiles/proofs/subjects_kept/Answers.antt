@@ -1,0 +1,23 @@
+-- `profiles::subjects_kept` meets its contract.
+-- Assumes nothing.
+use Prim.Native.Nat.{ℕ, ◌-◌, ◌≤◌}
+use native.Mathlib.Omega.{arith}
+use mathlib.Core.Path.{◌≡◌, refl, ap, ap₂, ◌∙◌}
+use mathlib.Core.Bool.{Bool, not, ◌||◌}
+use lib.Dec.{ltb}
+use Rattle.model.specs.declared.Profile.{Profile}
+use Rattle.model.specs.Tests.{all_below}
+use Rattle.model.specs.Levels.{present}
+use Rattle.model.specs.Profiles.{label_inside, subject_inside, clearance_inside}
+use Rattle.unit.specs.Rows.{state_in}
+use Rattle.profiles.proofs.Below.{below_next}
+use borrow.Author.Rules.{rules}
+use Rattle.profiles.proofs.subjects_kept.Goals as goal
+
+pub returns : goal.returns
+returns c = let loop = c.loop-i in
+    let end : loop.i ≡ 16 = omega (arith, c.loop-i-test.false, loop.invariant.0) in
+    let m = state_in c.args.unit.now in
+    let absent = loop.invariant.1 ∙ ap (λ (k : ℕ). all_below k (subject_inside m)) end in
+    let inside = loop.invariant.2 ∙ ap (λ (k : ℕ). all_below k (clearance_inside m)) end in
+    λ i. record { absent = absent i; inside = inside i }
