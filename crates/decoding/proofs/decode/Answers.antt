@@ -1,0 +1,18 @@
+-- `decoding::decode` meets its contract.
+-- Assumes nothing.
+use mathlib.Core.Path.{ap, ◌∙◌}
+use borrow.Author.Tests.{eq-eqb, ne_eqb}
+use Rattle.model.specs.Requests.{decode_fields, decode}
+use Rattle.decoding.specs.Word.{fields_of_word}
+use Rattle.decoding.proofs.Word.{fields-word}
+use Rattle.decoding.proofs.decode.Goals as goal
+
+pub returns-then-b-ne6 : goal.returns-then-b-ne6
+unfolding decode
+returns-then-b-ne6 c = rw (ne_eqb _ _ c.if-b-ne6.true)
+
+pub returns : goal.returns
+unfolding decode
+returns c = rw (eq-eqb _ _ c.if-b-ne6.false)
+    (c.decode_fields.ensures
+    ∙ ap (decode_fields c.args.p) (c.fields_of.ensures ∙ ap fields_of_word c.read_word.ensures.0 ∙ fields-word _))

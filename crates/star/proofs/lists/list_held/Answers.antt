@@ -1,0 +1,24 @@
+-- `star::lists::list_held` meets its contract.
+-- Assumes nothing.
+use Prim.Native.Nat.{◌-◌, ◌<◌, ◌≤◌}
+use native.Mathlib.Omega.{arith}
+use mathlib.Core.Path.{◌≡◌, sym, ap, ◌∙◌, subst}
+use lib.ListN.{get_or}
+use Rattle.bits.specs.Bits.{bit}
+use Rattle.model.specs.State.{object_at}
+use Rattle.unit.specs.Rows.{objects_in}
+use Rattle.star.specs.Lists.{read_by, altered_by, Listed, out_of}
+use Rattle.star.proofs.Listed.{listed-none, listed_more, bit-small}
+use Rattle.model.specs.Modes.{any_observes, any_alters}
+use Rattle.star.proofs.lists.list_held.Goals as goal
+use Rattle.star.proofs.lists.list_held.Goals.{In-loop-k}
+
+pub loop-k-preserved : goal.loop-k-preserved
+loop-k-preserved c = let inv = c.loop-k.invariant in
+    let busy = c.requires.s_lt_subject_count.1 in
+    let at-below = busy.below _ c.loop-k-test.true in
+    let listed-few : c.loop-k.k < 64 = omega (arith, c.loop-k-test.true, busy.few) in (
+      omega (arith, c.loop-k-test.true),
+      listed_more _ _ _ _ _ listed-few at-below inv.1 _ (c.one_if-r.ensures ∙ ap bit (c.table_observes.ensures ∙ ap any_observes c.held_by-modes.ensures)),
+      listed_more _ _ _ _ _ listed-few at-below inv.2 _ (c.one_if-a.ensures ∙ ap bit (c.table_alters.ensures ∙ ap any_alters c.held_by-modes.ensures)),
+    )
