@@ -1,0 +1,22 @@
+-- `wall::lists::altered_confined` meets its contract.
+-- Assumes nothing.
+use Prim.Native.Nat.{ℕ, ◌-◌, ◌<◌, ◌≤◌}
+use native.Mathlib.Omega.{arith}
+use native.Mathlib.Numerals.{add-one}
+use mathlib.Core.Path.{◌≡◌, refl, sym, ap, ap₂, ◌∙◌}
+use mathlib.Core.Bool.{◌&&◌}
+use lib.ListN.{get_or}
+use Rattle.model.specs.Tests.{implies}
+use Rattle.model.specs.Companies.{confined}
+use Rattle.model.specs.Modes.{any_alters}
+use Rattle.model.specs.State.{object_at}
+use Rattle.unit.specs.Rows.{objects_in}
+use Rattle.wall.specs.Joined.{confined_to}
+use Rattle.wall.specs.Lists.{numbers_at, altered_at}
+use Rattle.wall.proofs.lists.altered_confined.Given as goal
+
+abbrev pub invariant-loop-i : goal.invariant-loop-i
+invariant-loop-i l = (l.i ≤ l.count) × (l.kept ≡ confined_to l.i (altered_at l.s (object_at (objects_in l.unit)) l.list) l.read (numbers_at (object_at (objects_in l.unit)) l.list))
+
+abbrev pub decreases-loop-i : goal.decreases-loop-i
+decreases-loop-i l = l.count - l.i

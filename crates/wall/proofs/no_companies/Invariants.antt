@@ -1,0 +1,19 @@
+-- `wall::no_companies` meets its contract.
+-- Assumes nothing.
+use Prim.Native.Nat.{ℕ, ◌-◌, ◌<◌, ◌≤◌}
+use native.Mathlib.Omega.{arith}
+use mathlib.Core.Path.{◌≡◌, sym, ap, ◌∙◌}
+use mathlib.Core.Bool.{true}
+use lib.Dec.{eqb}
+use borrow.Author.Tests.{eq-eqb, ne_eqb}
+use borrow.Author.Count.{below_more}
+use Rattle.model.proofs.Tests.{split, apart, below_in, below_out}
+use Rattle.unit.specs.Rows.{objects_in}
+use Rattle.wall.specs.Lists.{unmarked, no_companies}
+use Rattle.wall.proofs.no_companies.Given as goal
+
+abbrev pub invariant-loop-o : goal.invariant-loop-o
+invariant-loop-o l = (l.o ≤ 64) × ((k : ℕ) → k < l.o → unmarked (objects_in l.unit) k ≡ true)
+
+abbrev pub decreases-loop-o : goal.decreases-loop-o
+decreases-loop-o l = 64 - l.o
