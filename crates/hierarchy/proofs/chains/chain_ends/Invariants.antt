@@ -1,0 +1,17 @@
+-- `hierarchy::chains::chain_ends` meets its contract.
+-- Assumes nothing.
+use Prim.Native.Nat.{ℕ, suc, ◌-◌}
+use native.Mathlib.Omega.{arith}
+use native.Mathlib.Numerals.{add-one}
+use mathlib.Core.Path.{◌≡◌, sym, ap, ◌∙◌}
+use borrow.Author.Rules.{rules}
+use Rattle.model.specs.Hierarchy.{ends}
+use Rattle.unit.specs.Rows.{objects_in}
+use Rattle.hierarchy.proofs.Upward.{ends-going, ends-step, ends_last}
+use Rattle.hierarchy.proofs.chains.chain_ends.Given as goal
+
+abbrev pub invariant-loop-left : goal.invariant-loop-left
+invariant-loop-left l = ends l.left (objects_in l.unit) l.p ≡ ends 64 (objects_in l.unit) (suc l.o)
+
+abbrev pub decreases-loop-left : goal.decreases-loop-left
+decreases-loop-left l = l.left
