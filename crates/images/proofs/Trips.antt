@@ -18,7 +18,7 @@ use Rattle.model.specs.declared.Profile.{Profile}
 use Rattle.model.specs.declared.Monitor.{Monitor}
 use Rattle.model.specs.declared.Decision.TheVariants.{Granted}
 use Rattle.model.specs.Tests.{all_of, first_failing}
-use Rattle.model.specs.State.{subject_count, object_count, nobody, no_object, clearance_at, clearance, object, fresh}
+use Rattle.model.specs.State.{subject_count, object_count, nobody, no_object, clearance_at, object, fresh}
 use Rattle.model.specs.Layout.{label_width, object_width, table_width, table_size, objects_width, objects_size, image_size, subject_bits, object_bits, table_bits, objects_bits, image_bits, image_of}
 use Rattle.model.specs.Reading.{label_form, subject_from, object_from, object_form, table_from, table_form, objects_from, objects_form, monitor_from, image_form, state_list, beginning_list, state_checks, table_checks, image_checks}
 use Rattle.model.proofs.Tests.{and_both, and_left, and_right, all-at, all-map-at}

@@ -12,7 +12,7 @@ use Rattle.model.specs.declared.Request.{Request}
 use Rattle.model.specs.declared.Request.TheVariants.{Get, Release, Give, Rescind, Create, Delete, ChangeLevel, SetCompanies}
 use Rattle.model.specs.declared.Decision.TheVariants.{Granted}
 use Rattle.model.specs.Modes.{has, observes, alters, any_observes, any_held}
-use Rattle.model.specs.Companies.{Compatible, Confined, compatible, confined}
+use Rattle.model.specs.Companies.{Compatible, Confined, compatible}
 use Rattle.model.specs.State.{no_object, object_at, held_by, WellFormed}
 use Rattle.model.specs.Properties.{Secure, Wall}
 use Rattle.model.specs.Rules.{changed, afterwards, checks, wall_pair, wall_from, wall_for, wall_all}

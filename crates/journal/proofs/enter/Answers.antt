@@ -1,7 +1,6 @@
 -- `journal::enter` meets its contract.
 -- Assumes nothing.
 use Rattle.journal.proofs.Rings.{entered_by}
-use borrow.Author.Rules.{rules}
 use Rattle.journal.proofs.enter.Goals as goal
 
 pub returns : goal.returns

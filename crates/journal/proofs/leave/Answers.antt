@@ -3,7 +3,6 @@
 use Prim.Native.Nat.{◌-◌}
 use mathlib.Core.Path.{ap, ap₂, ◌∙◌}
 use Rattle.journal.specs.Stored.{set_ring, left_rows}
-use borrow.Author.Rules.{rules}
 use Rattle.journal.proofs.leave.Goals as goal
 
 pub returns : goal.returns

@@ -2,7 +2,6 @@
 -- Assumes nothing.
 use mathlib.Core.Path.{◌∙◌}
 use Rattle.unit.proofs.Readings.{read-clearance}
-use borrow.Author.Rules.{rules}
 use Rattle.unit.proofs.parts.clearance_of.Goals as goal
 
 pub returns : goal.returns

@@ -2,7 +2,6 @@
 -- Assumes nothing.
 use mathlib.Core.Path.{◌∙◌}
 use Rattle.unit.proofs.Readings.{read-companies}
-use borrow.Author.Rules.{rules}
 use Rattle.unit.proofs.parts.companies_of.Goals as goal
 
 pub returns : goal.returns

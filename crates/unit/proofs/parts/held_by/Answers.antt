@@ -1,7 +1,6 @@
 -- `unit::parts::held_by` meets its contract.
 -- Assumes nothing.
 use Rattle.unit.proofs.Readings.{read_held}
-use borrow.Author.Rules.{rules}
 use Rattle.unit.proofs.parts.held_by.Goals as goal
 
 pub returns : goal.returns

@@ -1,7 +1,6 @@
 -- `unit::parts::held_row` meets its contract.
 -- Assumes nothing.
 use Rattle.unit.proofs.Readings.{read-held-row}
-use borrow.Author.Rules.{rules}
 use Rattle.unit.proofs.parts.held_row.Goals as goal
 
 pub returns : goal.returns

@@ -1,7 +1,6 @@
 -- `unit::parts::is_enrolled` meets its contract.
 -- Assumes nothing.
 use Rattle.unit.proofs.Readings.{read-enrolled}
-use borrow.Author.Rules.{rules}
 use Rattle.unit.proofs.parts.is_enrolled.Goals as goal
 
 pub returns : goal.returns

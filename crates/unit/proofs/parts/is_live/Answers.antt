@@ -1,7 +1,6 @@
 -- `unit::parts::is_live` meets its contract.
 -- Assumes nothing.
 use Rattle.unit.proofs.Readings.{read_live}
-use borrow.Author.Rules.{rules}
 use Rattle.unit.proofs.parts.is_live.Goals as goal
 
 pub returns : goal.returns

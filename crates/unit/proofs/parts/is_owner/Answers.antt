@@ -1,7 +1,6 @@
 -- `unit::parts::is_owner` meets its contract.
 -- Assumes nothing.
 use Rattle.unit.proofs.Readings.{read-owner}
-use borrow.Author.Rules.{rules}
 use Rattle.unit.proofs.parts.is_owner.Goals as goal
 
 pub returns : goal.returns

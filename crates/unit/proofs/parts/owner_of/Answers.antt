@@ -1,7 +1,6 @@
 -- `unit::parts::owner_of` meets its contract.
 -- Assumes nothing.
 use Rattle.unit.proofs.Readings.{read-owner-byte}
-use borrow.Author.Rules.{rules}
 use Rattle.unit.proofs.parts.owner_of.Goals as goal
 
 pub returns : goal.returns

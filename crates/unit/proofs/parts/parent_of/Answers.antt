@@ -1,7 +1,6 @@
 -- `unit::parts::parent_of` meets its contract.
 -- Assumes nothing.
 use Rattle.unit.proofs.Readings.{read-parent}
-use borrow.Author.Rules.{rules}
 use Rattle.unit.proofs.parts.parent_of.Goals as goal
 
 pub returns : goal.returns

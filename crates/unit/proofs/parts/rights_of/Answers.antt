@@ -1,7 +1,6 @@
 -- `unit::parts::rights_of` meets its contract.
 -- Assumes nothing.
 use Rattle.unit.proofs.Readings.{read-rights}
-use borrow.Author.Rules.{rules}
 use Rattle.unit.proofs.parts.rights_of.Goals as goal
 
 pub returns : goal.returns

@@ -1,7 +1,6 @@
 -- `unit::parts::set_label` meets its contract.
 -- Assumes nothing.
 use Rattle.unit.specs.Rows.{object_of}
-use borrow.Author.Rules.{rules}
 use Rattle.unit.proofs.parts.set_label.Goals as goal
 
 pub returns : goal.returns

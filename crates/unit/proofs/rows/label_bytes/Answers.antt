@@ -1,7 +1,6 @@
 -- `unit::rows::label_bytes` meets its contract.
 -- Assumes nothing.
 use Rattle.unit.specs.Stored.{label_bytes}
-use borrow.Author.Rules.{rules}
 use Rattle.unit.proofs.rows.label_bytes.Goals as goal
 
 pub returns-in-Absent : goal.returns-in-Absent

@@ -3,7 +3,6 @@
 use Rattle.unit.specs.Rows.{label_in}
 use lib.ListN.{get_or}
 use borrow.Author.Tests.{eq-eqb, ne_eqb}
-use borrow.Author.Rules.{rules}
 use Rattle.unit.proofs.rows.label_in.Goals as goal
 
 pub returns-then-row-eq1 : goal.returns-then-row-eq1

@@ -1,7 +1,6 @@
 -- `unit::rows::profile_in` meets its contract.
 -- Assumes nothing.
 use Rattle.unit.specs.Rows.{profile_in}
-use borrow.Author.Rules.{rules}
 use Rattle.unit.proofs.rows.profile_in.Goals as goal
 
 pub returns : goal.returns

@@ -1,7 +1,6 @@
 -- `unit::rows::row_of` meets its contract.
 -- Assumes nothing.
 use Rattle.unit.specs.Stored.{row_of}
-use borrow.Author.Rules.{rules}
 use Rattle.unit.proofs.rows.row_of.Goals as goal
 
 pub returns : goal.returns

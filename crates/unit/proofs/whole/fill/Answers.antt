@@ -1,15 +1,12 @@
 -- `unit::whole::fill` meets its contract.
 -- Assumes nothing.
-use Prim.Native.Nat.{◌-◌}
-use native.Mathlib.Omega.{arith}
 use mathlib.Core.Path.{sym, ap, ◌∙◌}
 use Rattle.unit.specs.Rows.{profile_row}
 use Rattle.unit.specs.Stored.{ObjectsStored}
-use Rattle.unit.proofs.Units.{objects-none, objects-more, SubjectsStored, subjects-none, subjects-more, subjects-all}
+use Rattle.unit.proofs.Units.{objects-more, subjects-all}
 use Prim.Native.Nat.{◌+◌}
 use mathlib.Core.Path.{◌≡◌, subst}
 use lib.ListN.{length, set}
-use Rattle.model.proofs.Tests.{mapped-length}
 use Rattle.model.proofs.Arrays.{read-object}
 use borrow.Author.Rules.{rules}
 use Rattle.unit.proofs.whole.fill.Goals as goal

@@ -2,7 +2,6 @@
 -- Assumes nothing.
 use mathlib.Core.Path.{◌∙◌}
 use Rattle.unit.proofs.Readings.{read-object}
-use borrow.Author.Rules.{rules}
 use Rattle.unit.proofs.whole.object_in.Goals as goal
 
 pub returns : goal.returns

@@ -1,7 +1,6 @@
 -- `unit::whole::object_of` meets its contract.
 -- Assumes nothing.
 use Rattle.unit.specs.Rows.{object_of}
-use borrow.Author.Rules.{rules}
 use Rattle.unit.proofs.whole.object_of.Goals as goal
 
 pub returns : goal.returns

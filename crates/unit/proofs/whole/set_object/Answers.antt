@@ -1,7 +1,6 @@
 -- `unit::whole::set_object` meets its contract.
 -- Assumes nothing.
 use Rattle.unit.specs.Stored.{set_object}
-use borrow.Author.Rules.{rules}
 use Rattle.unit.proofs.whole.set_object.Goals as goal
 
 pub returns : goal.returns
