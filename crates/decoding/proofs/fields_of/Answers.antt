@@ -1,7 +1,6 @@
 -- `decoding::fields_of` meets its contract.
 -- Assumes nothing.
 use mathlib.Core.Path.{refl}
-use borrow.Author.Rules.{rules}
 use Rattle.decoding.specs.Word.{fields_of_word}
 use Rattle.decoding.proofs.fields_of.Goals as goal
 

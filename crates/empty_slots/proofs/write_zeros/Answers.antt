@@ -1,13 +1,12 @@
 -- `empty_slots::write_zeros` meets its contract: the bits that fill no byte, eight, and then bytes, all 0.
 -- Assumes nothing.
-use Prim.Native.Nat.{ℕ, ◌+◌, ◌-◌, ◌*◌, ◌/◌, ◌%◌, ◌≤◌}
+use Prim.Native.Nat.{ℕ, ◌+◌, ◌-◌, ◌*◌, ◌/◌, ◌%◌}
 use native.Mathlib.Omega.{arith}
 use mathlib.Core.Path.{◌≡◌, refl, sym, ap, ◌∙◌, subst}
 use mathlib.Core.Bool.{false}
 use mathlib.Core.List.{◌++◌}
 use lib.Dec.{lit≤}
 use lib.ListN.{length, replicate}
-use borrow.Author.Rules.{rules}
 use Rattle.bits.specs.Bits.{to_bits}
 use Rattle.bits.specs.Stream.{Appends, stay, next, ends}
 use Rattle.record_fields.proofs.Streams.{appended, appended-less}

@@ -1,17 +1,10 @@
 -- `empty_slots::write_zeros` meets its contract: the bits that fill no byte, eight, and then bytes, all 0.
 -- Assumes nothing.
-use Prim.Native.Nat.{ℕ, ◌+◌, ◌-◌, ◌*◌, ◌/◌, ◌%◌, ◌≤◌}
-use native.Mathlib.Omega.{arith}
-use mathlib.Core.Path.{◌≡◌, refl, sym, ap, ◌∙◌, subst}
+use Prim.Native.Nat.{◌+◌, ◌-◌, ◌*◌, ◌/◌, ◌%◌, ◌≤◌}
+use mathlib.Core.Path.{◌≡◌}
 use mathlib.Core.Bool.{false}
-use mathlib.Core.List.{◌++◌}
-use lib.Dec.{lit≤}
-use lib.ListN.{length, replicate}
-use borrow.Author.Rules.{rules}
-use Rattle.bits.specs.Bits.{to_bits}
-use Rattle.bits.specs.Stream.{Appends, stay, next, ends}
-use Rattle.record_fields.proofs.Streams.{appended, appended-less}
-use Rattle.empty_slots.proofs.Zeros.{zeros-wait, zeros-more, all-zeros}
+use lib.ListN.{replicate}
+use Rattle.bits.specs.Stream.{Appends}
 use Rattle.empty_slots.proofs.write_zeros.Given as goal
 
 abbrev pub invariant-loop-k : goal.invariant-loop-k

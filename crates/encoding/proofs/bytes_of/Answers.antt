@@ -5,7 +5,6 @@ use native.Mathlib.Omega.{arith}
 use mathlib.Core.Path.{◌≡◌, ap}
 use mathlib.Core.List.{[], ◌∷◌}
 use Rattle.encoding.specs.Word.{word_bytes}
-use borrow.Author.Rules.{rules}
 use Rattle.encoding.proofs.bytes_of.Goals as goal
 
 pub returns : goal.returns

@@ -3,7 +3,6 @@
 use mathlib.Core.Path.{ap, ◌∙◌}
 use Rattle.encoding.specs.Word.{word_bytes}
 use Rattle.encoding.proofs.Word.{word-pack}
-use borrow.Author.Rules.{rules}
 use Rattle.encoding.proofs.pack.Goals as goal
 
 pub returns : goal.returns

@@ -2,7 +2,6 @@
 -- Assumes nothing.
 use mathlib.Core.Path.{refl}
 use Rattle.encoding.specs.Word.{word_of}
-use borrow.Author.Rules.{rules}
 use Rattle.encoding.proofs.word_of.Goals as goal
 
 pub returns : goal.returns

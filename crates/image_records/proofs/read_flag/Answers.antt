@@ -7,9 +7,7 @@ use native.Mathlib.Omega.{arith}
 use Rattle.bits.specs.Fields.{field-within}
 use Rattle.image_records.specs.Records.{flag_width, bits_at}
 use Rattle.image_records.proofs.Places.{length_at}
-use Rattle.bits.proofs.Machine.{low-four-lt}
 use Rattle.image_records.proofs.Contents.{flag-from}
-use borrow.Author.Rules.{rules}
 use Rattle.image_records.proofs.read_flag.Goals as goal
 
 pub returns : goal.returns

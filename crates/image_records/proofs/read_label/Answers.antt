@@ -10,7 +10,6 @@ use Rattle.model.specs.Layout.{label_width}
 use Rattle.image_records.specs.Records.{flag_width, bits_at, flag_of}
 use Rattle.image_records.proofs.Places.{length_at, part_at, field_at}
 use Rattle.image_records.proofs.Contents.{label-present, label-absent}
-use borrow.Author.Rules.{rules}
 use Rattle.image_records.proofs.read_label.Goals as goal
 
 pub returns-then-head : goal.returns-then-head

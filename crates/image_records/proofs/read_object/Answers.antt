@@ -14,7 +14,6 @@ use Rattle.image_records.specs.Records.{flag_width, bits_at, flag_of, label_of, 
 use Rattle.image_records.proofs.Places.{length_at, part_at, field_at}
 use Rattle.image_records.proofs.Contents.{object-off, object-on}
 use Rattle.model.proofs.Tests.{not_on, not-off}
-use borrow.Author.Rules.{rules}
 use Rattle.image_records.proofs.read_object.Goals as goal
 
 parts : (s : List ℕ) (at : ℕ)

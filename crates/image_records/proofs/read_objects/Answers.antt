@@ -1,6 +1,6 @@
 -- `image_records::read_objects` meets its contract.
 -- Assumes nothing.
-use Prim.Native.Nat.{ℕ, ◌+◌, ◌-◌, ◌≤◌}
+use Prim.Native.Nat.{ℕ, ◌+◌}
 use native.Mathlib.Omega.{arith}
 use mathlib.Core.Path.{◌≡◌, refl, sym, ap, ◌∙◌, subst}
 use Rattle.bits.specs.Bits.{bytes_to_bits, cut}
@@ -13,7 +13,6 @@ use Rattle.unit.specs.Stored.{ObjectsStored, SameClearances}
 use Rattle.unit.proofs.Units.{objects-none, objects-more, clearances-kept}
 use Rattle.image_records.specs.declared.ObjectRead.{ObjectRead}
 use Rattle.image_records.proofs.Gathering.{record-at, none-formed, form-more}
-use borrow.Author.Rules.{rules}
 use Rattle.image_records.proofs.read_objects.Goals as goal
 
 pub loop-o-init : goal.loop-o-init

@@ -3,21 +3,19 @@
 -- After s turns the sets of the subjects below s are read, and the bits so far are blank or not.
 -- Assumes nothing.
 use mathlib.Core.Path.{◌≡◌, refl, sym, ap, ◌∙◌}
-use mathlib.Core.Bool.{Bool}
-use mathlib.Core.List.{List, map}
-use Prim.Native.Nat.{ℕ, ◌+◌, ◌-◌, ◌*◌, ◌/◌, ◌%◌, ◌<◌, ◌≤◌}
+use mathlib.Core.List.{map}
+use Prim.Native.Nat.{ℕ, ◌+◌, ◌*◌, ◌/◌, ◌%◌, ◌<◌}
 use native.Mathlib.Omega.{arith}
-use borrow.Author.Rules.{rules}
 use lib.Bits.{bit_and}
 use lib.ListN.{length, take, drop, length-set}
-use Rattle.bits.specs.Bits.{from_bits, bytes_to_bits, cut, all_zero}
+use Rattle.bits.specs.Bits.{from_bits, all_zero}
 use Rattle.bits.specs.Fields.{field-within}
 use Rattle.bits.specs.Records.{cut-take}
 use Rattle.model.specs.State.{subject_count}
 use Rattle.model.specs.Layout.{pair_width}
 use Rattle.model.specs.Reading.{rights_from, held_from}
 use Rattle.image_records.proofs.Places.{length_at, byte_at}
-use Rattle.bits.proofs.Machine.{low-four, low-four-lt}
+use Rattle.bits.proofs.Machine.{low-four}
 use Rattle.image_records.proofs.Contents.{zero_more, halves}
 use Rattle.image_records.proofs.Gathering.{none-gathered, gather-more, gathered}
 use Rattle.image_records.proofs.read_sets.Goals as goal

@@ -1,6 +1,5 @@
 -- `labels::dominates` meets its contract.
 -- Assumes nothing.
-use borrow.Author.Rules.{rules}
 use mathlib.Core.Path.{◌∙◌, ap}
 use Rattle.model.specs.Levels.{equal_or_above, level_dominates, dominates}
 use Rattle.labels.proofs.dominates.Goals as goal

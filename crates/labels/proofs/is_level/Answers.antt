@@ -1,6 +1,5 @@
 -- `labels::is_level` meets its contract.
 -- Assumes nothing.
-use borrow.Author.Rules.{rules}
 use Rattle.model.specs.Levels.{same_label}
 use Rattle.labels.proofs.is_level.Goals as goal
 

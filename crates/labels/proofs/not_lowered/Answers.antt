@@ -3,7 +3,6 @@
 use mathlib.Core.Path.{ap₂, ◌∙◌}
 use Rattle.model.specs.Tests.{implies}
 use Rattle.model.specs.Rules.{not_lowered}
-use borrow.Author.Rules.{rules}
 use Rattle.labels.proofs.not_lowered.Goals as goal
 
 pub returns : goal.returns

@@ -2,12 +2,12 @@
 -- Assumes nothing.
 use Prim.Native.Nat.{ℕ}
 use mathlib.Core.Path.{◌≡◌, sym, ap, ◌∙◌}
-use mathlib.Core.Bool.{true, false}
+use mathlib.Core.Bool.{false}
 use lib.Bits.{bit_and}
 use lib.Dec.{eqb}
-use borrow.Author.Tests.{eq-eqb, ne_eqb}
+use borrow.Author.Tests.{ne_eqb}
 use Rattle.model.specs.Modes.{weight}
-use Rattle.model.proofs.Tests.{cond-true, cond-false}
+use Rattle.model.proofs.Tests.{cond-false}
 use Rattle.mode_pairs.specs.Table.{row_asks}
 use Rattle.mode_pairs.proofs.Table.{alone}
 use Rattle.mode_pairs.proofs.if_asking.Goals as goal

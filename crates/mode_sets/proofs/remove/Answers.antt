@@ -1,7 +1,6 @@
 -- `mode_sets::remove` meets its contract.
 -- Assumes nothing.
 use native.Mathlib.Omega.{arith}
-use lib.Bits.{and_le_l}
 use Rattle.mode_sets.proofs.Sets.{remove-and}
 use Rattle.mode_sets.proofs.remove.Goals as goal
 

@@ -4,8 +4,7 @@ use native.Mathlib.Omega.{arith}
 use Rattle.bits.specs.Bits.{bit}
 use Rattle.model.specs.Modes.{has}
 use Rattle.page_sets.specs.Sets.{mode_count}
-use Rattle.page_sets.proofs.Counts.{count_small, over-modes}
-use borrow.Author.Rules.{rules}
+use Rattle.page_sets.proofs.Counts.{over-modes}
 use Rattle.page_sets.proofs.count.Goals as goal
 
 pub returns : goal.returns

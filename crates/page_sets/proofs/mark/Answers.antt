@@ -2,8 +2,7 @@
 -- Assumes nothing.
 use mathlib.Core.Path.{sym, ◌∙◌}
 use Rattle.model.proofs.Tests.{cond-true, cond-false}
-use Rattle.page_sets.specs.Sets.{mark, letter, dash}
-use borrow.Author.Rules.{rules}
+use Rattle.page_sets.specs.Sets.{mark, dash}
 use Rattle.page_sets.proofs.mark.Goals as goal
 
 pub returns-then-has : goal.returns-then-has

@@ -2,7 +2,6 @@
 -- Assumes nothing.
 use mathlib.Core.Bool.{◌&&◌}
 use Rattle.model.specs.Profiles.{absent_beyond, levels_inside}
-use borrow.Author.Rules.{rules}
 use Rattle.profiles.proofs.keeps.Goals as goal
 
 pub returns : goal.returns

@@ -2,7 +2,6 @@
 -- Assumes nothing.
 use mathlib.Core.Path.{sym, ap, ◌∙◌}
 use Rattle.model.specs.Profiles.{label_inside}
-use borrow.Author.Rules.{rules}
 use Rattle.profiles.proofs.label_inside.Goals as goal
 
 pub returns-in-Absent : goal.returns-in-Absent

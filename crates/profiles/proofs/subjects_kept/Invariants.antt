@@ -1,17 +1,10 @@
 -- `profiles::subjects_kept` meets its contract.
 -- Assumes nothing.
-use Prim.Native.Nat.{ℕ, ◌-◌, ◌≤◌}
-use native.Mathlib.Omega.{arith}
-use mathlib.Core.Path.{◌≡◌, refl, ap, ap₂, ◌∙◌}
-use mathlib.Core.Bool.{Bool, not, ◌||◌}
-use lib.Dec.{ltb}
-use Rattle.model.specs.declared.Profile.{Profile}
+use Prim.Native.Nat.{◌-◌, ◌≤◌}
+use mathlib.Core.Path.{◌≡◌}
 use Rattle.model.specs.Tests.{all_below}
-use Rattle.model.specs.Levels.{present}
-use Rattle.model.specs.Profiles.{label_inside, subject_inside, clearance_inside}
+use Rattle.model.specs.Profiles.{subject_inside, clearance_inside}
 use Rattle.unit.specs.Rows.{state_in}
-use Rattle.profiles.proofs.Below.{below_next}
-use borrow.Author.Rules.{rules}
 use Rattle.profiles.proofs.subjects_kept.Given as goal
 
 abbrev pub invariant-loop-i : goal.invariant-loop-i

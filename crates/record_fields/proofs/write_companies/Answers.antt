@@ -7,7 +7,6 @@ use lib.Dec.{lit≤}
 use Rattle.bits.specs.Stream.{next, ends}
 use Rattle.bits.specs.Laws.{to_bits-split}
 use Rattle.record_fields.proofs.Streams.{appended}
-use borrow.Author.Rules.{rules}
 use Rattle.record_fields.proofs.write_companies.Goals as goal
 
 pub returns : goal.returns

@@ -9,7 +9,6 @@ use lib.Dec.{lit≤}
 use Rattle.bits.specs.Stream.{next, ends}
 use Rattle.record_fields.proofs.Words.{three-parts}
 use Rattle.record_fields.proofs.Streams.{appended}
-use borrow.Author.Rules.{rules}
 use Rattle.record_fields.proofs.write_label.Goals as goal
 
 pub returns : goal.returns

@@ -3,7 +3,6 @@
 use native.Mathlib.Omega.{arith}
 use lib.Dec.{lit≤}
 use Rattle.record_fields.proofs.Streams.{appended}
-use borrow.Author.Rules.{rules}
 use Rattle.record_fields.proofs.write_parent.Goals as goal
 
 pub returns : goal.returns

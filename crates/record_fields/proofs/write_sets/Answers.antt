@@ -2,19 +2,16 @@
 -- Assumes nothing.
 -- After s turns the sets of the subjects below s are appended.
 -- Assumes nothing.
-use mathlib.Core.Path.{◌≡◌, refl, ap, ap₂, ◌∙◌}
+use mathlib.Core.Path.{◌≡◌, refl, ap, ◌∙◌}
 use mathlib.Core.Bool.{Bool}
 use mathlib.Core.List.{List, [], ◌++◌}
-use Prim.Native.Nat.{ℕ, ◌+◌, ◌-◌, ◌*◌, ◌≤◌}
+use Prim.Native.Nat.{◌+◌, ◌*◌}
 use native.Mathlib.Omega.{arith}
-use borrow.Author.Rules.{rules}
 use lib.Dec.{lit≤}
-use lib.ListN.{length, take, get_or}
-use lib.Seq.{take_all}
+use lib.ListN.{take, get_or}
 use Rattle.bits.specs.Bits.{to_bits}
-use Rattle.bits.specs.Stream.{Appends, stay, next, ends}
-use Rattle.model.specs.State.{subject_count}
-use Rattle.model.specs.Layout.{pair_width, sets_bits}
+use Rattle.bits.specs.Stream.{stay, next, ends}
+use Rattle.model.specs.Layout.{sets_bits}
 use Rattle.record_fields.proofs.Words.{pair-bits}
 use Rattle.record_fields.proofs.Streams.{appended, sets_more, no-sets}
 use Rattle.record_fields.proofs.write_sets.Goals as goal

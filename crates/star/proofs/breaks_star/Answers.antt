@@ -1,16 +1,11 @@
 -- `star::breaks_star` meets its contract.
 -- Assumes nothing.
-use Prim.Native.Nat.{ℕ, ◌-◌, ◌<◌, ◌≤◌}
 use native.Mathlib.Omega.{arith}
-use mathlib.Core.Path.{◌≡◌, refl, sym, ap, ◌∙◌}
-use mathlib.Core.Bool.{true, not}
-use borrow.Author.Count.{below_more}
-use Rattle.model.specs.Rules.{star_for}
-use Rattle.model.proofs.Tests.{not_on, not-off}
-use Rattle.unit.specs.Rows.{objects_in}
+use mathlib.Core.Path.{sym, ap, ◌∙◌}
+use mathlib.Core.Bool.{not}
+use Rattle.model.proofs.Tests.{not_on}
 use Rattle.star.proofs.Listed.{busy-covers}
 use Rattle.star.proofs.Between.{between_in, between-out}
-use borrow.Author.Rules.{rules}
 use Rattle.star.proofs.breaks_star.Goals as goal
 
 pub subject_breaks_star-requires : goal.subject_breaks_star-requires

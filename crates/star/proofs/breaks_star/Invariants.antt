@@ -1,16 +1,10 @@
 -- `star::breaks_star` meets its contract.
 -- Assumes nothing.
 use Prim.Native.Nat.{ℕ, ◌-◌, ◌<◌, ◌≤◌}
-use native.Mathlib.Omega.{arith}
-use mathlib.Core.Path.{◌≡◌, refl, sym, ap, ◌∙◌}
-use mathlib.Core.Bool.{true, not}
-use borrow.Author.Count.{below_more}
+use mathlib.Core.Path.{◌≡◌}
+use mathlib.Core.Bool.{true}
 use Rattle.model.specs.Rules.{star_for}
-use Rattle.model.proofs.Tests.{not_on, not-off}
 use Rattle.unit.specs.Rows.{objects_in}
-use Rattle.star.proofs.Listed.{busy-covers}
-use Rattle.star.proofs.Between.{between_in, between-out}
-use borrow.Author.Rules.{rules}
 use Rattle.star.proofs.breaks_star.Given as goal
 
 abbrev pub invariant-loop-s : goal.invariant-loop-s

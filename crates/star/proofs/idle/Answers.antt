@@ -4,7 +4,6 @@ use Prim.Native.Nat.{◌+◌, min}
 use mathlib.Core.Path.{sym, ap, ◌∙◌}
 use mathlib.Core.Bool.{not}
 use lib.Dec.{eqb}
-use borrow.Author.Rules.{rules}
 use borrow.Author.Tests.{eq-eqb, ne_eqb}
 use Rattle.model.proofs.Tests.{cond-true, cond-false}
 use Rattle.model.specs.Modes.{any_needs_label}

@@ -1,21 +1,15 @@
 -- `star::keeps_simple` meets its contract.
 -- Assumes nothing.
 use mathlib.Core.List.{List}
-use Rattle.model.specs.Tests.{all_below, implies}
+use Rattle.model.specs.Tests.{implies}
 use Rattle.model.specs.Modes.{any_observes}
-use Rattle.model.specs.Rules.{simple_all}
 use Rattle.model.specs.State.{object, clearance}
 use Rattle.unit.specs.Rows.{state_in}
-use Rattle.model.proofs.Tests.{split, apart}
 use Prim.Native.Nat.{ℕ, ◌-◌, ◌<◌, ◌≤◌}
-use native.Mathlib.Omega.{arith}
-use mathlib.Core.Path.{◌≡◌, sym, ap, ap₂, ◌∙◌}
+use mathlib.Core.Path.{◌≡◌}
 use mathlib.Core.Bool.{Bool, true}
 use Rattle.model.specs.State.{held_by}
-use borrow.Author.Count.{below_more}
 use Rattle.model.specs.Levels.{dominates}
-use Rattle.model.proofs.Tests.{not_on, not-off, below_in, below_out}
-use borrow.Author.Rules.{rules}
 use Rattle.star.proofs.keeps_simple.Given as goal
 
 abbrev pub passes : List (List ℕ) → ℕ → ℕ → Bool

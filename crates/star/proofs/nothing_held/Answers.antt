@@ -1,11 +1,7 @@
 -- `star::nothing_held` meets its contract: the sets below s are looked at.
 -- Assumes nothing.
-use Prim.Native.Nat.{◌-◌, ◌≤◌}
 use native.Mathlib.Omega.{arith}
-use native.Mathlib.Numerals.{add-one}
-use mathlib.Core.Path.{◌≡◌, refl, sym, ap, ap₂, ◌∙◌}
-use mathlib.Core.Bool.{not, ◌&&◌}
-use borrow.Author.Rules.{rules}
+use mathlib.Core.Path.{◌≡◌, ap, ◌∙◌}
 use Rattle.model.specs.Tests.{all_below}
 use Rattle.star.specs.Idle.{free, nothing_held}
 use Rattle.star.proofs.nothing_held.Goals as goal

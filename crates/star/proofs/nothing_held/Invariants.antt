@@ -1,13 +1,9 @@
 -- `star::nothing_held` meets its contract: the sets below s are looked at.
 -- Assumes nothing.
 use Prim.Native.Nat.{◌-◌, ◌≤◌}
-use native.Mathlib.Omega.{arith}
-use native.Mathlib.Numerals.{add-one}
-use mathlib.Core.Path.{◌≡◌, refl, sym, ap, ap₂, ◌∙◌}
-use mathlib.Core.Bool.{not, ◌&&◌}
-use borrow.Author.Rules.{rules}
+use mathlib.Core.Path.{◌≡◌}
 use Rattle.model.specs.Tests.{all_below}
-use Rattle.star.specs.Idle.{free, nothing_held}
+use Rattle.star.specs.Idle.{free}
 use Rattle.star.proofs.nothing_held.Given as goal
 
 abbrev pub invariant-loop-s : goal.invariant-loop-s

@@ -5,8 +5,7 @@ use mathlib.Core.Bool.{not}
 use Rattle.model.specs.State.{no_object, object_at}
 use Rattle.unit.specs.Rows.{object_in, objects_in}
 use Rattle.unit.proofs.Tabulated.{tabulate-length}
-use Rattle.star.proofs.Listed.{listed-all, listed-numbers, star-pairs}
-use borrow.Author.Rules.{rules}
+use Rattle.star.proofs.Listed.{listed-all, star-pairs}
 use Rattle.star.proofs.subject_breaks_star.Goals as goal
 
 pub returns : goal.returns

@@ -1,12 +1,9 @@
 -- `wall::breaks_wall` meets its contract.
 -- Assumes nothing.
-use Prim.Native.Nat.{ℕ, ◌-◌, ◌<◌, ◌≤◌}
 use native.Mathlib.Omega.{arith}
-use mathlib.Core.Path.{◌≡◌, sym, ap, ◌∙◌}
-use mathlib.Core.Bool.{true, not}
-use borrow.Author.Count.{below_more}
-use Rattle.model.specs.Rules.{wall_for}
-use Rattle.model.proofs.Tests.{not_on, not-off}
+use mathlib.Core.Path.{sym, ap, ◌∙◌}
+use mathlib.Core.Bool.{not}
+use Rattle.model.proofs.Tests.{not_on}
 use Rattle.unit.specs.Rows.{object_in, objects_in}
 use Rattle.unit.proofs.Tabulated.{tabulate-length}
 use Rattle.star.proofs.Between.{between_in, between-out}

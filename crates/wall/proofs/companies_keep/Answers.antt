@@ -1,6 +1,5 @@
 -- `wall::companies_keep` meets its contract.
 -- Assumes nothing.
-use borrow.Author.Rules.{rules}
 use mathlib.Core.Path.{ap₂, ◌∙◌}
 use mathlib.Core.Bool.{◌&&◌}
 use Rattle.model.specs.Tests.{implies}

@@ -1,12 +1,10 @@
 -- `wall::no_companies` meets its contract.
 -- Assumes nothing.
-use Prim.Native.Nat.{ℕ, ◌-◌, ◌<◌, ◌≤◌}
+use Prim.Native.Nat.{ℕ}
 use native.Mathlib.Omega.{arith}
-use mathlib.Core.Path.{◌≡◌, sym, ap, ◌∙◌}
-use mathlib.Core.Bool.{true}
+use mathlib.Core.Path.{sym, ap, ◌∙◌}
 use lib.Dec.{eqb}
-use borrow.Author.Tests.{eq-eqb, ne_eqb}
-use borrow.Author.Count.{below_more}
+use borrow.Author.Tests.{ne_eqb}
 use Rattle.model.proofs.Tests.{split, apart, below_in, below_out}
 use Rattle.unit.specs.Rows.{objects_in}
 use Rattle.wall.specs.Lists.{unmarked, no_companies}

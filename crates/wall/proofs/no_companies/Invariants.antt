@@ -1,15 +1,10 @@
 -- `wall::no_companies` meets its contract.
 -- Assumes nothing.
 use Prim.Native.Nat.{ℕ, ◌-◌, ◌<◌, ◌≤◌}
-use native.Mathlib.Omega.{arith}
-use mathlib.Core.Path.{◌≡◌, sym, ap, ◌∙◌}
+use mathlib.Core.Path.{◌≡◌}
 use mathlib.Core.Bool.{true}
-use lib.Dec.{eqb}
-use borrow.Author.Tests.{eq-eqb, ne_eqb}
-use borrow.Author.Count.{below_more}
-use Rattle.model.proofs.Tests.{split, apart, below_in, below_out}
 use Rattle.unit.specs.Rows.{objects_in}
-use Rattle.wall.specs.Lists.{unmarked, no_companies}
+use Rattle.wall.specs.Lists.{unmarked}
 use Rattle.wall.proofs.no_companies.Given as goal
 
 abbrev pub invariant-loop-o : goal.invariant-loop-o

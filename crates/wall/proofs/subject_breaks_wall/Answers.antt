@@ -1,12 +1,9 @@
 -- `wall::subject_breaks_wall` meets its contract.
 -- Assumes nothing.
-use borrow.Author.Rules.{rules}
-use native.Mathlib.Omega.{arith}
 use mathlib.Core.Path.{ap}
 use mathlib.Core.Bool.{not}
 use Rattle.unit.specs.Rows.{object_in, objects_in}
 use Rattle.unit.proofs.Tabulated.{tabulate-length}
-use Rattle.star.proofs.Listed.{listed-numbers}
 use Rattle.wall.proofs.Wall.{wall-listed}
 use Rattle.wall.proofs.subject_breaks_wall.Goals as goal
 

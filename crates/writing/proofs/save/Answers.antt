@@ -7,7 +7,6 @@ use Rattle.bits.specs.Stream.{Appends, next, whole}
 use Rattle.model.specs.Layout.{image_size, image_bits, image_of}
 use Rattle.model.proofs.Buffers.{writing-short, writing-done}
 use Rattle.unit.specs.Rows.{state_in}
-use borrow.Author.Rules.{rules}
 use Rattle.writing.proofs.save.Goals as goal
 
 pub returns-then-out-lt-IMAGE_BYTES : goal.returns-then-out-lt-IMAGE_BYTES

@@ -13,7 +13,6 @@ use Rattle.model.specs.Layout.{label_bits, sets_bits, object_bits}
 use Rattle.record_fields.proofs.Words.{flag-bits}
 use Rattle.record_fields.proofs.Streams.{appended}
 use Rattle.model.proofs.Records.{none-bits}
-use borrow.Author.Rules.{rules}
 use Rattle.writing.proofs.write_object.Goals as goal
 
 pub returns-then-is_none : goal.returns-then-is_none

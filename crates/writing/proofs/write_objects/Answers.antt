@@ -2,17 +2,15 @@
 -- Assumes nothing.
 use mathlib.Core.Path.{refl, ap, ◌∙◌}
 use mathlib.Core.List.{[], ◌++◌}
-use Prim.Native.Nat.{◌+◌, ◌-◌, ◌*◌, ◌≤◌}
 use native.Mathlib.Omega.{arith}
 use lib.ListN.{take}
-use Rattle.bits.specs.Stream.{Appends, stay, next, ends}
+use Rattle.bits.specs.Stream.{stay, next, ends}
 use Rattle.unit.proofs.Tabulated.{tabulate-length}
 use Rattle.writing.proofs.Streams.{join_more, join-all, no-records}
 use Rattle.model.specs.declared.Object.{Object}
 use Rattle.model.specs.State.{object_count, no_object}
-use Rattle.model.specs.Layout.{object_width, table_width, object_bits, objects_bits}
+use Rattle.model.specs.Layout.{table_width, object_bits, objects_bits}
 use Rattle.unit.specs.Rows.{object_in, objects_in}
-use borrow.Author.Rules.{rules}
 use Rattle.writing.proofs.write_objects.Goals as goal
 
 pub loop-o-init : goal.loop-o-init

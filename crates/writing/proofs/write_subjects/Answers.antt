@@ -2,17 +2,15 @@
 -- Assumes nothing.
 use mathlib.Core.Path.{refl, ap, ◌∙◌}
 use mathlib.Core.List.{[], ◌++◌}
-use Prim.Native.Nat.{◌+◌, ◌-◌, ◌*◌, ◌≤◌}
 use native.Mathlib.Omega.{arith}
 use lib.ListN.{take}
-use Rattle.bits.specs.Stream.{Appends, stay, next, ends}
+use Rattle.bits.specs.Stream.{stay, next, ends}
 use Rattle.unit.proofs.Tabulated.{tabulate-length}
 use Rattle.writing.proofs.Streams.{join_more, join-all, no-records}
 use Rattle.model.specs.declared.Label.{Label}
 use Rattle.model.specs.State.{subject_count, nobody}
-use Rattle.model.specs.Layout.{label_width, label_bits, subject_bits, table_bits}
+use Rattle.model.specs.Layout.{label_bits, subject_bits, table_bits}
 use Rattle.unit.specs.Rows.{subject_in, subjects_in}
-use borrow.Author.Rules.{rules}
 use Rattle.writing.proofs.write_subjects.Goals as goal
 
 pub loop-s-init : goal.loop-s-init

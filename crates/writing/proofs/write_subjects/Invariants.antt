@@ -1,18 +1,11 @@
 -- `writing::write_subjects` meets its contract.
 -- Assumes nothing.
-use mathlib.Core.Path.{refl, ap, ◌∙◌}
-use mathlib.Core.List.{[], ◌++◌}
-use Prim.Native.Nat.{◌+◌, ◌-◌, ◌*◌, ◌≤◌}
-use native.Mathlib.Omega.{arith}
+use Prim.Native.Nat.{◌-◌, ◌*◌, ◌≤◌}
 use lib.ListN.{take}
-use Rattle.bits.specs.Stream.{Appends, stay, next, ends}
-use Rattle.unit.proofs.Tabulated.{tabulate-length}
-use Rattle.writing.proofs.Streams.{join_more, join-all, no-records}
-use Rattle.model.specs.declared.Label.{Label}
-use Rattle.model.specs.State.{subject_count, nobody}
-use Rattle.model.specs.Layout.{label_width, label_bits, subject_bits, table_bits}
-use Rattle.unit.specs.Rows.{subject_in, subjects_in}
-use borrow.Author.Rules.{rules}
+use Rattle.bits.specs.Stream.{Appends}
+use Rattle.model.specs.State.{subject_count}
+use Rattle.model.specs.Layout.{label_width, table_bits}
+use Rattle.unit.specs.Rows.{subjects_in}
 use Rattle.writing.proofs.write_subjects.Given as goal
 
 abbrev pub invariant-loop-s : goal.invariant-loop-s

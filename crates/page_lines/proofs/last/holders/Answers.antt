@@ -1,9 +1,8 @@
 -- `page_lines::last::holders` meets its contract: after s turns the holders among the subjects below s are counted.
 -- Assumes nothing.
-use Prim.Native.Nat.{◌-◌, ◌+◌, ◌≤◌}
+use Prim.Native.Nat.{◌+◌}
 use native.Mathlib.Omega.{arith}
 use mathlib.Core.Path.{◌≡◌, ap, ap₂, ◌∙◌}
-use borrow.Author.Rules.{rules}
 use Rattle.bits.specs.Bits.{bit}
 use Rattle.model.specs.Modes.{has}
 use Rattle.model.specs.State.{subject_count, object, held_by}

@@ -1,17 +1,12 @@
 -- `page_lines::last::holders` meets its contract: after s turns the holders among the subjects below s are counted.
 -- Assumes nothing.
-use Prim.Native.Nat.{◌-◌, ◌+◌, ◌≤◌}
-use native.Mathlib.Omega.{arith}
-use mathlib.Core.Path.{◌≡◌, ap, ap₂, ◌∙◌}
-use borrow.Author.Rules.{rules}
+use Prim.Native.Nat.{◌-◌, ◌≤◌}
+use mathlib.Core.Path.{◌≡◌}
 use Rattle.bits.specs.Bits.{bit}
 use Rattle.model.specs.Modes.{has}
 use Rattle.model.specs.State.{subject_count, object, held_by}
 use Rattle.unit.specs.Rows.{state_in}
 use Rattle.orders.specs.Sums.{sum_below}
-use Rattle.page_lines.specs.Lines.{holders}
-use Rattle.orders.proofs.Sums.{no-sum, sum_more}
-use Rattle.page_sets.proofs.Counts.{bit-most}
 use Rattle.page_lines.proofs.last.holders.Given as goal
 
 abbrev pub invariant-loop-s : goal.invariant-loop-s

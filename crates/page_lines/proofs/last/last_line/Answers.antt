@@ -9,7 +9,6 @@ use Rattle.unit.specs.Rows.{state_in}
 use Rattle.page_lines.specs.Lines.{holders, total, last_line}
 use Rattle.page_sets.proofs.Counts.{over-modes}
 use Rattle.page_lines.proofs.Sizes.{total-small, total-over-modes}
-use borrow.Author.Rules.{rules}
 use Rattle.page_lines.proofs.last.last_line.Goals as goal
 
 pub overflow_add-read-3 : goal.overflow_add-read-3

@@ -3,7 +3,6 @@
 use native.Mathlib.Omega.{arith}
 use Rattle.page_lines.specs.Lines.{line}
 use Rattle.page_sets.proofs.Counts.{count_small}
-use borrow.Author.Rules.{rules}
 use Rattle.page_lines.proofs.lines.line.Goals as goal
 
 pub overflow_add-result : goal.overflow_add-result

@@ -1,16 +1,11 @@
 -- `page_lines::lines::put_lines` meets its contract: after s turns the lines of the subjects below s are put.
 -- Assumes nothing.
-use Prim.Native.Nat.{◌-◌, ◌*◌, ◌≤◌}
-use native.Mathlib.Omega.{arith}
-use mathlib.Core.Path.{◌≡◌, ap, ap₂, ◌∙◌}
-use lib.ListN.{length}
-use borrow.Author.Rules.{rules}
+use Prim.Native.Nat.{◌-◌, ◌≤◌}
+use mathlib.Core.Path.{◌≡◌}
 use Rattle.model.specs.State.{subject_count, object}
 use Rattle.model.specs.Buffers.{put}
-use Rattle.model.proofs.Buffers.{put-none, put-more}
 use Rattle.unit.specs.Rows.{state_in}
-use Rattle.page_lines.specs.Lines.{line, lines}
-use Rattle.page_lines.proofs.Sizes.{line-length, lines-length, lines_more, no_lines, lines-put}
+use Rattle.page_lines.specs.Lines.{lines}
 use Rattle.page_lines.proofs.lines.put_lines.Given as goal
 
 abbrev pub invariant-loop-s : goal.invariant-loop-s

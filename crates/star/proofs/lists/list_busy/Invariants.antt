@@ -1,14 +1,9 @@
 -- `star::lists::list_busy` meets its contract.
 -- Assumes nothing.
 use Prim.Native.Nat.{◌-◌, ◌≤◌}
-use native.Mathlib.Omega.{arith}
-use mathlib.Core.Path.{◌≡◌, sym, ap, ◌∙◌, subst}
-use mathlib.Core.Bool.{not}
-use Rattle.bits.specs.Bits.{bit}
 use Rattle.model.specs.State.{object_at}
 use Rattle.unit.specs.Rows.{objects_in}
 use Rattle.star.specs.Lists.{busy_for, Listed, itself}
-use Rattle.star.proofs.Listed.{listed-none, listed_more, bit-small}
 use Rattle.star.proofs.lists.list_busy.Given as goal
 
 abbrev pub invariant-loop-o : goal.invariant-loop-o

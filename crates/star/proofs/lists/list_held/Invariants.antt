@@ -1,15 +1,9 @@
 -- `star::lists::list_held` meets its contract.
 -- Assumes nothing.
-use Prim.Native.Nat.{◌-◌, ◌<◌, ◌≤◌}
-use native.Mathlib.Omega.{arith}
-use mathlib.Core.Path.{◌≡◌, sym, ap, ◌∙◌, subst}
-use lib.ListN.{get_or}
-use Rattle.bits.specs.Bits.{bit}
+use Prim.Native.Nat.{◌-◌, ◌≤◌}
 use Rattle.model.specs.State.{object_at}
 use Rattle.unit.specs.Rows.{objects_in}
 use Rattle.star.specs.Lists.{read_by, altered_by, Listed, out_of}
-use Rattle.star.proofs.Listed.{listed-none, listed_more, bit-small}
-use Rattle.model.specs.Modes.{any_observes, any_alters}
 use Rattle.star.proofs.lists.list_held.Given as goal
 
 abbrev pub invariant-loop-k : goal.invariant-loop-k

@@ -1,12 +1,9 @@
 -- `star::lists::pair_offends` meets its contract.
 -- Assumes nothing.
-use mathlib.Core.List.{List}
-use Rattle.model.specs.declared.Label.{Label}
-use Rattle.model.specs.Tests.{all_below}
-use Prim.Native.Nat.{ℕ, ◌-◌, ◌<◌, ◌≤◌}
+use Prim.Native.Nat.{◌<◌}
 use native.Mathlib.Omega.{arith}
-use mathlib.Core.Path.{◌≡◌, refl, sym, ap, ap₂, ◌∙◌}
-use mathlib.Core.Bool.{Bool, true, false, not}
+use mathlib.Core.Path.{sym, ap, ap₂, ◌∙◌}
+use mathlib.Core.Bool.{not}
 use lib.ListN.{get_or}
 use Rattle.model.specs.State.{object_at}
 use Rattle.unit.specs.Rows.{objects_in}
@@ -14,9 +11,8 @@ use Rattle.star.specs.Lists.{label_at, pairs_kept}
 use Rattle.star.proofs.Listed.{pair-apart}
 use borrow.Author.Count.{below_more}
 use Rattle.model.specs.Levels.{dominates}
-use Rattle.model.proofs.Tests.{not_on, not-off, below_in}
+use Rattle.model.proofs.Tests.{below_in}
 use Rattle.star.proofs.lists.pair_offends.Goals as goal
-use Rattle.star.proofs.lists.pair_offends.Invariants.{in_order}
 use Rattle.star.proofs.lists.pair_offends.Goals.{In-loop-q, In-pairs}
 
 from-few : (c : In-pairs) → c.pairs.p < 64

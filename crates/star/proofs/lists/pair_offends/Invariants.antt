@@ -1,20 +1,14 @@
 -- `star::lists::pair_offends` meets its contract.
 -- Assumes nothing.
 use mathlib.Core.List.{List}
-use Rattle.model.specs.declared.Label.{Label}
 use Rattle.model.specs.Tests.{all_below}
 use Prim.Native.Nat.{ℕ, ◌-◌, ◌<◌, ◌≤◌}
-use native.Mathlib.Omega.{arith}
-use mathlib.Core.Path.{◌≡◌, refl, sym, ap, ap₂, ◌∙◌}
-use mathlib.Core.Bool.{Bool, true, false, not}
-use lib.ListN.{get_or}
+use mathlib.Core.Path.{◌≡◌}
+use mathlib.Core.Bool.{Bool, true, false}
 use Rattle.model.specs.State.{object_at}
 use Rattle.unit.specs.Rows.{objects_in}
-use Rattle.star.specs.Lists.{label_at, pairs_kept}
-use Rattle.star.proofs.Listed.{pair-apart}
-use borrow.Author.Count.{below_more}
+use Rattle.star.specs.Lists.{label_at}
 use Rattle.model.specs.Levels.{dominates}
-use Rattle.model.proofs.Tests.{not_on, not-off, below_in}
 use Rattle.star.proofs.lists.pair_offends.Given as goal
 
 abbrev pub in_order : List (List ℕ) → List ℕ → List ℕ → ℕ → ℕ → Bool

@@ -1,14 +1,7 @@
 -- `wall::lists::altered_confined` meets its contract.
 -- Assumes nothing.
-use Prim.Native.Nat.{ℕ, ◌-◌, ◌<◌, ◌≤◌}
-use native.Mathlib.Omega.{arith}
-use native.Mathlib.Numerals.{add-one}
-use mathlib.Core.Path.{◌≡◌, refl, sym, ap, ap₂, ◌∙◌}
-use mathlib.Core.Bool.{◌&&◌}
-use lib.ListN.{get_or}
-use Rattle.model.specs.Tests.{implies}
-use Rattle.model.specs.Companies.{confined}
-use Rattle.model.specs.Modes.{any_alters}
+use Prim.Native.Nat.{◌-◌, ◌≤◌}
+use mathlib.Core.Path.{◌≡◌}
 use Rattle.model.specs.State.{object_at}
 use Rattle.unit.specs.Rows.{objects_in}
 use Rattle.wall.specs.Joined.{confined_to}

@@ -1,16 +1,10 @@
 -- `wall::lists::join_numbers` meets its contract.
 -- Assumes nothing.
-use Prim.Native.Nat.{ℕ, ◌-◌, ◌<◌, ◌≤◌}
-use native.Mathlib.Omega.{arith}
-use native.Mathlib.Numerals.{add-one}
-use mathlib.Core.Path.{◌≡◌, refl, sym, ap, ap₂, ◌∙◌}
-use mathlib.Core.Bool.{Bool, ◌&&◌, cond}
-use lib.ListN.{get_or}
-use Rattle.model.specs.Companies.{compatible}
-use Rattle.model.specs.Modes.{any_observes}
+use Prim.Native.Nat.{◌-◌, ◌≤◌}
+use mathlib.Core.Path.{◌≡◌}
 use Rattle.model.specs.State.{object_at}
 use Rattle.unit.specs.Rows.{objects_in}
-use Rattle.wall.specs.Joined.{joined, joined_below, every, joins}
+use Rattle.wall.specs.Joined.{joined_below, every, joins}
 use Rattle.wall.specs.Lists.{numbers_at, read_at}
 use Rattle.wall.proofs.lists.join_numbers.Given as goal
 

@@ -1,14 +1,9 @@
 -- `wall::lists::list_accessed` meets its contract.
 -- Assumes nothing.
 use Prim.Native.Nat.{◌-◌, ◌≤◌}
-use native.Mathlib.Omega.{arith}
-use mathlib.Core.Path.{◌≡◌, sym, ap, ◌∙◌, subst}
-use Rattle.bits.specs.Bits.{bit}
-use Rattle.model.specs.Modes.{any_held}
 use Rattle.model.specs.State.{object_at}
 use Rattle.unit.specs.Rows.{objects_in}
 use Rattle.star.specs.Lists.{Listed, itself}
-use Rattle.star.proofs.Listed.{listed-none, listed_more, bit-small}
 use Rattle.wall.specs.Lists.{accessed_by}
 use Rattle.wall.proofs.lists.list_accessed.Given as goal
 

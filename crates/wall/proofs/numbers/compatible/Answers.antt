@@ -7,7 +7,6 @@ use borrow.Author.Tests.{eqb-true}
 use Rattle.model.specs.Companies.{Compatible}
 use Rattle.model.proofs.Tests.{or_cases}
 use Rattle.model.proofs.Companies.{compatible-decides, compatible-itself, no-company}
-use borrow.Author.Rules.{rules}
 use Rattle.wall.proofs.numbers.compatible.Goals as goal
 
 pub returns-then-q-p : goal.returns-then-q-p

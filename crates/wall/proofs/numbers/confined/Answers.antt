@@ -7,7 +7,6 @@ use borrow.Author.Tests.{eqb-true}
 use Rattle.model.specs.Companies.{Confined}
 use Rattle.model.proofs.Tests.{or_cases}
 use Rattle.model.proofs.Companies.{confined-decides, confined-itself, no-company}
-use borrow.Author.Rules.{rules}
 use Rattle.wall.proofs.numbers.confined.Goals as goal
 
 pub returns-then-p-q : goal.returns-then-p-q

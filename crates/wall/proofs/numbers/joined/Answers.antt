@@ -6,7 +6,6 @@ use lib.Dec.{eqb}
 use borrow.Author.Tests.{eqb-true}
 use Rattle.model.proofs.Tests.{or_cases}
 use Rattle.wall.proofs.Joined.{joined_same}
-use borrow.Author.Rules.{rules}
 use Rattle.wall.proofs.numbers.joined.Goals as goal
 
 pub returns-then-q-p : goal.returns-then-q-p

@@ -1,0 +1,36 @@
+-- `checking::findings_of` meets its contract.
+-- Assumes nothing.
+use Prim.Native.Nat.{ℕ, ◌+◌, ◌-◌, ◌≤◌}
+use native.Mathlib.Omega.{arith}
+use mathlib.Core.Path.{◌≡◌, ap, ap₂, ◌∙◌}
+use mathlib.Core.Bool.{Bool, true}
+use Rattle.model.specs.Tests.{implies}
+use Rattle.model.specs.Levels.{present}
+use Rattle.model.specs.State.{clearance_at, clearance, object, rights_of, held_by}
+use Rattle.model.specs.Rules.{simple_all}
+use Rattle.model.specs.Reading.{only_enrolled, within_matrix, held_labelled}
+use Rattle.unit.specs.Rows.{Rows, subjects_in, state_in}
+use Rattle.checking.specs.declared.Findings.{Findings}
+use Rattle.checking.specs.Checks.{both, at}
+use Rattle.checking.proofs.Passes.{below, both-unbroken, below_more, both-assoc}
+use borrow.Author.Rules.{rules}
+use Rattle.checking.proofs.findings_of.Goals as goal
+use Rattle.checking.proofs.findings_of.Invariants.{begins, at_subject}
+
+pub loop-i-preserved : goal.loop-i-preserved
+loop-i-preserved c = let loop = c.loop-i in
+    let f = at_subject c.args.unit.now c.args.o in
+    let first = begins c.implies-owned.result in
+    let here : c.findings_at-here.result ≡ f loop.i = rw (c.findings_at-here.ensures, c.held_by.ensures, c.rights_of.ensures, c.clearance_of.ensures, c.label_of-label.ensures) in
+    let more : _ ≡ both first (below (loop.i + 1) f) =
+    c.both-found.ensures ∙ ap₂ both loop.invariant.1 here ∙ both-assoc first (below loop.i f) (f loop.i) ∙ ap (both first) (below_more loop.i f) in
+    (omega (arith, c.loop-i-test.true), more)
+
+pub returns : goal.returns
+unfolding only_enrolled within_matrix held_labelled simple_all
+returns c = let loop = c.loop-i in
+    let u = c.args.unit.now in
+    let f = at_subject u c.args.o in
+    let end : loop.i ≡ 16 = omega (arith, c.loop-i-test.false, loop.invariant.0) in
+    let owned = c.implies-owned.ensures ∙ ap₂ implies c.is_live.ensures (c.is_known.ensures ∙ ap (λ k. present (clearance_at (subjects_in u) k)) c.owner_of.ensures) in
+    loop.invariant.1 ∙ ap (λ (n : ℕ). both (begins c.implies-owned.result) (below n f)) end ∙ ap (λ (b : Bool). both (begins b) (below 16 f)) owned

@@ -1,0 +1,29 @@
+-- `checking::findings_of` meets its contract.
+-- Assumes nothing.
+use Prim.Native.Nat.{ℕ, ◌+◌, ◌-◌, ◌≤◌}
+use native.Mathlib.Omega.{arith}
+use mathlib.Core.Path.{◌≡◌, ap, ap₂, ◌∙◌}
+use mathlib.Core.Bool.{Bool, true}
+use Rattle.model.specs.Tests.{implies}
+use Rattle.model.specs.Levels.{present}
+use Rattle.model.specs.State.{clearance_at, clearance, object, rights_of, held_by}
+use Rattle.model.specs.Rules.{simple_all}
+use Rattle.model.specs.Reading.{only_enrolled, within_matrix, held_labelled}
+use Rattle.unit.specs.Rows.{Rows, subjects_in, state_in}
+use Rattle.checking.specs.declared.Findings.{Findings}
+use Rattle.checking.specs.Checks.{both, at}
+use Rattle.checking.proofs.Passes.{below, both-unbroken, below_more, both-assoc}
+use borrow.Author.Rules.{rules}
+use Rattle.checking.proofs.findings_of.Given as goal
+
+abbrev pub begins : Bool → Findings
+begins b = record { enrolled = b; matrix = true; labelled = true; simple = true }
+
+abbrev pub at_subject : Rows → ℕ → ℕ → Findings
+at_subject u o s = at (clearance (state_in u) s) (object (state_in u) o).label (rights_of (object (state_in u) o) s) (held_by (object (state_in u) o) s)
+
+abbrev pub invariant-loop-i : goal.invariant-loop-i
+invariant-loop-i l = (l.i ≤ 16) × (l.found ≡ both (begins l.owned) (below l.i (at_subject l.unit l.o)))
+
+abbrev pub decreases-loop-i : goal.decreases-loop-i
+decreases-loop-i l = 16 - l.i
