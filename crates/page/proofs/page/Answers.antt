@@ -1,13 +1,12 @@
 -- `page::page` meets its contract.
 -- Assumes nothing.
-use Prim.Native.Nat.{ℕ, ◌+◌}
+use Prim.Native.Nat.{ℕ}
 use native.Mathlib.Omega.{arith}
-use mathlib.Core.Path.{◌≡◌, sym, ap, ap₂, ◌∙◌}
+use mathlib.Core.Path.{◌≡◌, sym, ap₂, ◌∙◌}
 use mathlib.Core.List.{List, ◌++◌}
 use Rattle.model.specs.declared.Object.{Object}
 use Rattle.model.specs.State.{subject_count, object}
 use Rattle.model.specs.Buffers.{put, front}
-use Rattle.model.proofs.Tests.{not_on, not-off}
 use Rattle.model.proofs.Buffers.{put-more, put_front}
 use Rattle.unit.specs.Rows.{state_in}
 use Rattle.page_lines.specs.Lines.{page_size, lines, last_line}
@@ -15,7 +14,6 @@ use Rattle.page.specs.Page.{page}
 use Rattle.page_lines.proofs.Sizes.{lines-length}
 use Rattle.page.proofs.Sizes.{page-length}
 use Rattle.page.proofs.Paging.{page-above, page-not-live, page-short, page-done}
-use borrow.Author.Rules.{rules}
 use Rattle.page.proofs.page.Goals as goal
 
 page-put : (out : List ℕ) (ob : Object) → put (put out 0 (lines ob subject_count)) 240 (last_line ob) ≡ front page_size (page ob) out

@@ -6,6 +6,7 @@ use mathlib.Core.Bool.{cond}
 use Rattle.differences.specs.Records.{life_apart}
 use borrow.Author.Rules.{rules}
 use Rattle.differences.proofs.objects.life_apart.Goals as goal
+use Rattle.differences.proofs.objects.life_apart.Goals.{then-a, else-a}
 
 pub returns : goal.returns
 unfolding life_apart
@@ -13,7 +14,7 @@ returns c = let a = c.args.a in
     let b = c.args.b in
     let e : c.if-a.owner ≡ cond a.live a.owner b.owner =
     elim c.if-a.branch [
-      | then-live w ↦ w.owner-is ∙ rw w.if-live.true
-      | else-live w ↦ w.owner-is ∙ rw w.if-live.false
+      | then-a w ↦ w.owner-is ∙ rw w.if-a.true
+      | else-a w ↦ w.owner-is ∙ rw w.if-a.false
     ] in
     rw (c.when.ensures, c.differ.ensures, e)
