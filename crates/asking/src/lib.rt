@@ -2,7 +2,7 @@
 
 #![tactic(auto)]
 
-ghost use Rattle.std.specs.Prelude.{◌≡◌};
+ghost use Rattle.std.specs.Prelude.{◌≡◌, length};
 ghost use Rattle.model.specs.Requests.{InRange};
 ghost use Rattle.model.specs.Runs.{reply};
 ghost use Rattle.unit.specs.Rows.{row_count, state_in};

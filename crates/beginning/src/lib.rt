@@ -8,7 +8,6 @@ ghost use Rattle.model.specs.Decisions.{refuses};
 ghost use Rattle.model.specs.Reading.{read_table};
 ghost use Rattle.model.specs.Writing.{writing, written};
 
-use bytes::copy;
 use image_records::read_subjects;
 use labels::check;
 use model::{Decision, Monitor};
@@ -35,7 +34,7 @@ pub fn write_begun(table: &[u8], out: &mut [u8]) -> Decision
         return Decision::ShortBuffer;
     }
     let mut image = [0u8; Monitor::IMAGE_BYTES];
-    copy(table, &mut image);
-    copy(&image, out);
+    image[..table.len()].copy_from_slice(table);
+    out[..Monitor::IMAGE_BYTES].copy_from_slice(&image);
     Decision::Granted
 }

@@ -3,7 +3,7 @@
 
 #![tactic(auto)]
 
-ghost use Rattle.std.specs.Prelude.{◌≡◌, ◌<◌};
+ghost use Rattle.std.specs.Prelude.{◌≡◌, ◌<◌, length};
 ghost use Rattle.model.specs.State.{subject_count, object_count};
 ghost use Rattle.unit.specs.Rows.{row_count};
 ghost use Rattle.kinds.specs.Carried.{Does};

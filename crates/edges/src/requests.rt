@@ -1,6 +1,6 @@
 // The edges of a request: subjects, objects, modes, lengths, kinds, fields that are not used, labels beside that of an
 // object, and company numbers. The comment behind each request has the reply that the scope gives it, and why.
-ghost use Rattle.std.specs.Prelude.{◌≤◌, ◌≡◌};
+ghost use Rattle.std.specs.Prelude.{◌≤◌, ◌≡◌, length};
 ghost use Rattle.edges.specs.Trials.{left, change_to};
 
 use crate::trial::{ask, ask_plain, create, get, give, release};

@@ -1,6 +1,6 @@
 // The edges of tables and images: lengths, and a bit that is turned over. The comment behind each has the number that the scope
 // gives it, and why.
-ghost use Rattle.std.specs.Prelude.{◌≤◌};
+ghost use Rattle.std.specs.Prelude.{◌≤◌, length};
 
 use saying::{answer, enrolment, say_bytes, say_set};
 use unit::ROWS;

@@ -1,6 +1,6 @@
 // The ranges of a profile: "the subjects in use (1 to 16), objects in use (1 to 64), highest class (0 to 15) and the needs in use as a
 // set". The comment behind each profile has the number that the text gives it, and why.
-ghost use Rattle.std.specs.Prelude.{◌≤◌};
+ghost use Rattle.std.specs.Prelude.{◌≤◌, length};
 
 use crate::tables::start;
 use profiles::site;

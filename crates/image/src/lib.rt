@@ -2,7 +2,7 @@
 
 #![tactic(auto)]
 
-ghost use Rattle.std.specs.Prelude.{◌≡◌, cond};
+ghost use Rattle.std.specs.Prelude.{◌≡◌, cond, length};
 ghost use Rattle.model.specs.State.{widest, fresh, empty_monitor};
 ghost use Rattle.model.specs.Decisions.{refuses};
 ghost use Rattle.model.specs.Reading.{read_table, read_image};

@@ -1,5 +1,5 @@
 // A unit begun from a table or an image: the rows of the monitor, and an empty journal.
-ghost use Rattle.std.specs.Prelude.{◌≡◌};
+ghost use Rattle.std.specs.Prelude.{◌≡◌, length};
 ghost use Rattle.model.specs.Reading.{read_table, read_image};
 ghost use Rattle.journaled.specs.Units.{unit_rows, begun_rows};
 

@@ -20,10 +20,8 @@ use Rattle.distinguish.specs.Telling.{bytes_of, room_of_four, told_number, told_
 use Rattle.distinguish.proofs.Storing.{length-bytes_of}
 use Rattle.unit.specs.Rows.{state_in}
 use borrow.Author.Rules.{rules}
-use Rattle.distinguish.proofs.distinguish.Statement.{statement}
-use Rattle.distinguish.proofs.distinguish.Tie as tie
+use Rattle.distinguish.proofs.distinguish.Goals as goal
 
--- the two answers
 short : (m n : Monitor) (s : List ℕ) (k : ℕ) → length s < room_of_four → k ≡ number ShortBuffer → (k ≡ told_number m n s) × (s ≡ told_bytes m n s)
 unfolding told_number told_bytes
 short m n s k h f =
@@ -42,37 +40,12 @@ long m n s t k q h e f g =
           ∙ sym (filled-front room_of_four (request_size * length qs) (bytes_of qs) s h),
     )
 
-number-requires : tie.Need-number-requires
-number-requires c κs = search rules
+pub returns-then-out-lt-ROOM : goal.returns-then-out-lt-ROOM
+returns-then-out-lt-ROOM c = let args = c.args in
+    short (state_in args.a.now) (state_in args.b.now) args.out.now c.number.result (omega (arith, c.if-out-lt-ROOM.true)) c.number.ensures
 
-returns : tie.Need-returns
-returns c =
-    let args = c.before.before.before.args in
-    short (state_in args.a.now) (state_in args.b.now) args.out.now c.number.result (omega (arith, c.before.if1.true)) c.number.ensures
-
-sequence-of-requires : tie.Need-sequence-of-requires
-sequence-of-requires c κs = search rules
-
-write-sequence-requires : tie.Need-write-sequence-requires
-write-sequence-requires c κs = search rules
-
-same_length : tie.Need-same-length
-same_length c = search rules
-
-returns-2 : tie.Need-returns-2
-returns-2 c =
-    let args = c.before.before.before.before.before.before.before.args in
-    let found = c.before.before.before.before.sequence-of in
-    let write = c.before.before.write-sequence in
-    long (state_in args.a.now) (state_in args.b.now) args.out.now write.new.0 write.result found.result (omega arith) found.ensures write.ensures.0 write.ensures.1
-
-pub distinguish-spec : {M : Type 1} → statement M
-distinguish-spec =
-    tie.close
-    (tie.spec
-    number-requires
-    returns
-    sequence-of-requires
-    write-sequence-requires
-    same_length
-    returns-2)
+pub returns : goal.returns
+returns c = let args = c.args in
+    let found = c.sequence_of-sequence in
+    let write = c.write_sequence in
+    long (state_in args.a.now) (state_in args.b.now) args.out.now write.new.out write.result found.result (omega arith) found.ensures write.ensures.0 write.ensures.1
