@@ -9,12 +9,13 @@ use native.Mathlib.Omega.{arith}
 use borrow.Author.Tests.{eqb-true}
 use lib.Dec.{eqb, lit<}
 use lib.ListN.{length, get_or, take, drop, replicate, length-append, length-replicate}
-use lib.Seq.{take-length}
+use native.Mathlib.Nat.{zero-add}
 use Rattle.bits.specs.Bits.{Bytes, bytes_to_bits, bits_to_bytes, join, to_bits, odd}
 use Rattle.bits.specs.Laws.{bytes_to_bits-append, bits_to_bytes-bytes_to_bits}
 use Rattle.model.specs.declared.Decision.TheVariants.{Granted, WrongLength, StrayBits}
 use Rattle.model.specs.declared.Response.{Response}
 use Rattle.model.specs.State.{widest, object_count, no_object, empty_monitor, fresh}
+use Rattle.model.specs.Buffers.{put}
 use Rattle.model.specs.Tests.{unless}
 use Rattle.model.specs.Decisions.{refuses}
 use Rattle.model.specs.Layout.{table_size, objects_size, image_size, label_bits, sets_bits, object_bits, objects_bits, image_bits, image_of}
@@ -32,6 +33,11 @@ use Rattle.images.proofs.Trips.{subjects-written}
 -- the bytes of the object records where no object is live
 abbrev zeros : List ℕ
 zeros = replicate objects_size 0
+
+-- bytes put in front
+put-front : (s b : List ℕ) → put s 0 b ≡ b ++ drop (length b) s
+unfolding put
+put-front s b = ap (λ (n : ℕ). b ++ drop n s) (zero-add (length b))
 
 no-objects : objects_bits (replicate object_count no_object) ≡ bytes_to_bits zeros
 unfolding join bytes_to_bits object_bits label_bits sets_bits to_bits odd
@@ -82,14 +88,14 @@ module _ (b : List ℕ) (accepted : refuses (read_table widest b).decision ≡ f
       ap image_of begun-monitor ∙ ap (bits_to_bytes image_size) bits
       ∙ bits_to_bytes-bytes_to_bits image_size (b ++ zeros) (with-zeros objects_size b hb) full
 
-  -- the buffer after the table was copied into zeros, and these to the front of it
-  pub begun-copied : Bytes b → (buffer image last : List ℕ) → image_size ≤ length buffer → image ≡ take (length b) b ++ drop (length b) (replicate image_size 0)
-      → last ≡ take (length image) image ++ drop (length image) buffer → (Granted ≡ writing buffer) × (last ≡ written (read_table widest b).monitor buffer)
-  begun-copied hb buffer image last h e f =
-      let whole : image ≡ b ++ zeros = e ∙ ap₂ (λ (x y : List ℕ). x ++ y) (take-length b) (ap (λ (n : ℕ). drop n (replicate {A = ℕ} image_size 0)) size) in
-      let first = take-length image ∙ whole ∙ sym (begun-bytes hb) in
+  -- the buffer after the table was put into zeros, and these to the front of it
+  pub begun-put : Bytes b → (buffer image last : List ℕ) → image_size ≤ length buffer → image ≡ put (replicate image_size 0) 0 b
+      → last ≡ put buffer 0 image → (Granted ≡ writing buffer) × (last ≡ written (read_table widest b).monitor buffer)
+  begun-put hb buffer image last h e f =
+      let whole : image ≡ b ++ zeros = e ∙ put-front (replicate image_size 0) b ∙ ap (λ (n : ℕ). b ++ drop n (replicate {A = ℕ} image_size 0)) size in
+      let first = whole ∙ sym (begun-bytes hb) in
       let behind = ap (λ (n : ℕ). drop n buffer) (ap length whole ∙ full) in
-      writing-done (read_table widest b).monitor buffer last h (f ∙ ap₂ (λ (x y : List ℕ). x ++ y) first behind)
+      writing-done (read_table widest b).monitor buffer last h (f ∙ put-front buffer image ∙ ap₂ (λ (x y : List ℕ). x ++ y) first behind)
 
 -- checks 10 and 11, of what was read of the table
 either : (b : Bool) (x y : TableRead) → unless b WrongLength (unless (cond b x y).formed StrayBits Granted) ≡ unless b WrongLength (unless x.formed StrayBits Granted)

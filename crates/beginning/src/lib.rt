@@ -8,6 +8,7 @@ ghost use Rattle.model.specs.Decisions.{refuses};
 ghost use Rattle.model.specs.Reading.{read_table};
 ghost use Rattle.model.specs.Writing.{writing, written};
 
+use buffers::put_bytes;
 use image_records::read_subjects;
 use labels::check;
 use model::{Decision, Monitor};
@@ -34,7 +35,7 @@ pub fn write_begun(table: &[u8], out: &mut [u8]) -> Decision
         return Decision::ShortBuffer;
     }
     let mut image = [0u8; Monitor::IMAGE_BYTES];
-    image[..table.len()].copy_from_slice(table);
-    out[..Monitor::IMAGE_BYTES].copy_from_slice(&image);
+    put_bytes(&mut image, 0, table);
+    put_bytes(out, 0, &image);
     Decision::Granted
 }
