@@ -1,0 +1,9 @@
+-- `journaled::beginning::open` meets its contract.
+-- Assumes nothing.
+use Rattle.journaled.proofs.Stored.{begun-by}
+use borrow.Author.Rules.{rules}
+use Rattle.journaled.proofs.beginning.open.Goals as goal
+
+pub returns : goal.returns
+returns c = let read = c.before.before.before.before in
+    (read.«open».ensures.0, begun-by c.args.unit.now c.requires _ _ _ read.«open».ensures.1 c.clear.ensures)

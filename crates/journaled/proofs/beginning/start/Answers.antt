@@ -1,0 +1,8 @@
+-- `journaled::beginning::start` meets its contract.
+-- Assumes nothing.
+use Rattle.journaled.proofs.Stored.{begun-by}
+use borrow.Author.Rules.{rules}
+use Rattle.journaled.proofs.beginning.start.Goals as goal
+
+pub returns : goal.returns
+returns c = (c.start-started.ensures.0, begun-by c.args.unit.now c.requires _ _ _ c.start-started.ensures.1 c.clear.ensures)

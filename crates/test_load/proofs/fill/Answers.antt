@@ -1,0 +1,26 @@
+-- `test_load::fill` meets its contract.
+-- Assumes nothing.
+use Prim.Native.Nat.{◌+◌, ◌-◌}
+use native.Mathlib.Omega.{arith}
+use mathlib.Core.Path.{ap, ◌∙◌}
+use lib.ListN.{length}
+use borrow.Author.Rules.{rules}
+use Rattle.model.specs.Requests.{pack}
+use Rattle.model.proofs.Packing.{pack-length}
+use Rattle.test_load.specs.Load.{made}
+use Rattle.test_load.proofs.Filling.{zero-refused, Filling, start, in-room, length-kept, further, ended}
+use Rattle.test_load.proofs.fill.Goals as goal
+
+pub returns-then-seed-eq0 : goal.returns-then-seed-eq0
+returns-then-seed-eq0 c = zero-refused c.args.seed c.args.out.now c.if-seed-eq0.true
+
+pub loop-i-init : goal.loop-i-init
+loop-i-init c = start _ _
+
+pub loop-i-preserved : goal.loop-i-preserved
+loop-i-preserved c = let loop = c.loop-i in
+    let made = c.make-made.ensures in
+    further _ _ _ _ _ _ loop.invariant _ _ _ c.loop-i-test.true (c.pack-bytes.ensures ∙ ap pack made.0) made.1 c.put_bytes.ensures
+
+pub returns : goal.returns
+returns c = ended _ _ _ _ _ _ c.loop-i.invariant c.if-seed-eq0.false c.loop-i-test.false
