@@ -13,16 +13,16 @@ use Rattle.journaled.proofs.take_back.Goals as goal
 
 pub returns-then-entry_count-eq0 : goal.returns-then-entry_count-eq0
 unfolding said_by taken_unit
-returns-then-entry_count-eq0 c = let none = sym (c.entry_count.ensures ∙ ap entry_count (part-behind c.args.unit.now c.requires)) ∙ c.if-entry_count-eq0.true in
+returns-then-entry_count-eq0 c = let none = sym (c.entry_count.ensures ∙ ap entry_count (part-behind c.args.unit.now c.requires.unit_len)) ∙ c.if-entry_count-eq0.true in
     (sym (taken_none c.args.unit.now none), sym (cond-true _ _ _ (eq-eqb _ 0 none)))
 
 pub restore-requires : goal.restore-requires
 restore-requires c = record {
-      unit_len = c.requires;
-      nonzero = omega (arith, c.entry_count.ensures ∙ ap entry_count (part-behind c.args.unit.now c.requires), c.if-entry_count-eq0.false);
-    }
+  unit_len = c.requires.unit_len;
+  nonzero = omega (arith, c.entry_count.ensures ∙ ap entry_count (part-behind c.args.unit.now c.requires.unit_len), c.if-entry_count-eq0.false);
+}
 
 pub returns : goal.returns
 unfolding said_by taken_unit
-returns c = let same = c.entry_count.ensures ∙ ap entry_count (part-behind c.args.unit.now c.requires) in
+returns c = let same = c.entry_count.ensures ∙ ap entry_count (part-behind c.args.unit.now c.requires.unit_len) in
     (sym (taken-some c.args.unit.now (λ e. c.if-entry_count-eq0.false (same ∙ e))), c.restore.ensures ∙ sym (cond-false _ _ _ (ne_eqb _ 0 (λ e. c.if-entry_count-eq0.false (same ∙ e)))))

@@ -6,4 +6,4 @@ use Rattle.journaled.proofs.beginning.open.Goals as goal
 
 pub returns : goal.returns
 returns c = let read = c.before.before.before.before in
-    (read.«open».ensures.0, begun-by c.args.unit.now c.requires _ _ _ read.«open».ensures.1 c.clear.ensures)
+    (read.open-opened.ensures.0, begun-by c.args.unit.now c.requires.unit_len _ _ _ read.open-opened.ensures.1 c.clear.ensures)

@@ -5,4 +5,4 @@ use borrow.Author.Rules.{rules}
 use Rattle.journaled.proofs.beginning.start.Goals as goal
 
 pub returns : goal.returns
-returns c = (c.start-started.ensures.0, begun-by c.args.unit.now c.requires _ _ _ c.start-started.ensures.1 c.clear.ensures)
+returns c = (c.start-started.ensures.0, begun-by c.args.unit.now c.requires.unit_len _ _ _ c.start-started.ensures.1 c.clear.ensures)
