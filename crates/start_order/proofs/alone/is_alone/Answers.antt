@@ -21,21 +21,21 @@ wants b p q v w e f g = sym (f ∙ ap (λ (k : Profile). wanted k b) e) ∙ g
 pub held_by-had-requires : goal.held_by-had-requires
 unfolding Fits
 held_by-had-requires c = let r = subst Fits (wants c.args.piece.now _ _ _ _ c.profile_of-profile.ensures c.access_in-get.ensures c.in-Access.is) (wanted-fits _ c.args.piece.now) in
-    (c.requires.unit_len, (r.1, r.0))
+    record { unit_len = c.requires.unit_len; o_lt_object_count = (r.1, r.0) }
 
 pub set_held-requires : goal.set_held-requires
 unfolding Fits
 set_held-requires c = let r = subst Fits (wants c.args.piece.now _ _ _ _ c.profile_of-profile.ensures c.access_in-get.ensures c.in-Access.is) (wanted-fits _ c.args.piece.now) in record {
-      unit_len = ap length c.ask-reply.ensures.1 ∙ asked-length c.args.piece.now c.args.unit.now ∙ c.requires.unit_len;
-      o_lt_object_count = (r.1, r.0);
-    }
+  unit_len = ap length c.ask-reply.ensures.1 ∙ asked-length c.args.piece.now c.args.unit.now ∙ c.requires.unit_len;
+  o_lt_object_count = (r.1, r.0);
+}
 
 pub returns-in-Nothing : goal.returns-in-Nothing
 unfolding alone
 returns-in-Nothing c = let none = wants c.args.piece.now _ _ _ _ c.profile_of-profile.ensures c.access_in-get.ensures c.in-Nothing.is in record {
-      answered = sym (ap (λ (w : Wanted). bit (alone (state_in c.args.unit.now) w)) none);
-      left = refl;
-    }
+  answered = sym (ap (λ (w : Wanted). bit (alone (state_in c.args.unit.now) w)) none);
+  left = refl;
+}
 
 pub returns-in-Access : goal.returns-in-Access
 unfolding Fits

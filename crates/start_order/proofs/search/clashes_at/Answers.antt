@@ -20,6 +20,6 @@ wanted_at-requires c = omega (arith, c.requires.fits.1, c.requires.tried.counted
 
 pub breaks-requires : goal.breaks-requires
 breaks-requires c = record {
-      unit_len = c.requires.unit_len;
-      fits = (c.requires.fits.0, subst Fits (sym c.wanted_at.ensures) (wanted-fits _ _));
-    }
+  unit_len = c.requires.unit_len;
+  fits = (c.requires.fits.0, subst Fits (sym c.wanted_at.ensures) (wanted-fits _ _));
+}

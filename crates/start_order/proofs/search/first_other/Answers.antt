@@ -14,7 +14,7 @@ use Rattle.start_order.proofs.search.first_other.Goals as goal
 pub returns-then-not-is_access : goal.returns-then-not-is_access
 returns-then-not-is_access c = let loop = c.loop-i in
     found_first _ _ loop.i (is_other c.args.p (pieces c.args.requests.now)) (counted c.args.requests.now _ c.requires) loop.invariant.1
-    (ap not (sym (c.is_access.ensures ∙ ap is_access c.wanted_at.ensures)) ∙ c.if-not-is_access.true) c.loop-i-test.true
+    (ap not (sym (c.is_access.ensures ∙ ap is_access c.wanted_at.ensures) ∙ c.if-not-is_access.true)) c.loop-i-test.true
 
 pub returns : goal.returns
 returns c = ended-first _ _ c.loop-i.i (is_other c.args.p (pieces c.args.requests.now)) (counted c.args.requests.now _ c.requires) c.loop-i.invariant.1 c.loop-i-test.false

@@ -1,14 +1,15 @@
 -- `start_order::search::partner` meets its contract.
 -- Assumes nothing.
-use Prim.Native.Nat.{◌-◌, ◌<◌, ◌≤◌}
+use Prim.Native.Nat.{ℕ, ◌-◌, ◌<◌, ◌≤◌}
 use native.Mathlib.Omega.{arith}
 use mathlib.Core.Path.{◌≡◌, sym, ap, ◌∙◌, subst}
-use mathlib.Core.Bool.{◌&&◌}
-use mathlib.Core.List.{[]}
+use mathlib.Core.Bool.{Bool, true, ◌&&◌}
+use mathlib.Core.List.{List, []}
 use lib.ListN.{length, get_or}
 use Rattle.model.specs.Program.{pieces}
 use Rattle.unit.specs.Rows.{state_in}
 use Rattle.turns.proofs.Runs.{length-pieces}
+use Rattle.model.specs.declared.Monitor.{Monitor}
 use Rattle.model.specs.declared.Profile.{Profile}
 use Rattle.start_order.specs.declared.wanted.Wanted.{Wanted}
 use Rattle.start_order.specs.Answers.{Fits, wanted, alone, breaks}
@@ -17,19 +18,15 @@ use Rattle.start_order.proofs.Trying.{wanted-fits}
 use Rattle.start_order.proofs.Searching.{is_partner, listed-on, listed-off, refused_none, none_before, partner-at}
 use borrow.Author.Rules.{rules}
 use Rattle.start_order.proofs.search.partner.Goals as goal
-use Rattle.start_order.proofs.search.partner.Goals.{After-clashes_at}
 
-tested : (c : After-clashes_at)
-    → is_partner (state_in c.args.unit.now) (pieces c.args.requests.now) c.args.i c.loop-j.j ≡ c.clashes_at.result
-tested c =
-    let args = c.args in
-    let m = state_in args.unit.now in
-    let bs = pieces args.requests.now in
-    let loop = c.loop-j in
-    let on = listed-on m bs _ _ c.requires.tried args.i c.requires.i_lt_count c.if-list-i-ne1.false in
-    partner-at m bs args.i on loop.j loop.invariant.0
-    ∙ sym (c.clashes_at.ensures
-    ∙ ap (λ (w : Wanted). alone m (wanted m.profile (get_or bs loop.j [])) && breaks m w (wanted m.profile (get_or bs loop.j []))) (c.wanted_at-first.ensures ∙ ap (λ (p : Profile). wanted p (get_or bs args.i [])) c.profile_of-profile.ensures))
+-- whether the piece at j is the partner, of what was found on the piece at i and on both
+tested : (m : Monitor) (bs : List (List ℕ)) (i j : ℕ) (p : Profile) (w : Wanted) (r : Bool) → alone m (wanted m.profile (get_or bs i [])) ≡ true → i < j
+    → p ≡ m.profile → w ≡ wanted p (get_or bs i []) → r ≡ (alone m (wanted m.profile (get_or bs j [])) && breaks m w (wanted m.profile (get_or bs j [])))
+    → is_partner m bs i j ≡ r
+tested m bs i j p w r on h e f g =
+    partner-at m bs i on j h
+    ∙ sym (g
+    ∙ ap (λ (w : Wanted). alone m (wanted m.profile (get_or bs j [])) && breaks m w (wanted m.profile (get_or bs j []))) (f ∙ ap (λ (p : Profile). wanted p (get_or bs i [])) e))
 
 pub returns-then-list-i-ne1 : goal.returns-then-list-i-ne1
 returns-then-list-i-ne1 c = let args = c.args in
@@ -43,23 +40,23 @@ wanted_at-first-requires c = omega (arith, c.requires.i_lt_count, c.requires.tri
 
 pub clashes_at-requires : goal.clashes_at-requires
 clashes_at-requires c = record {
-      unit_len = c.requires.unit_len;
-      tried = c.requires.tried;
-      fits = (subst Fits (sym c.wanted_at-first.ensures) (wanted-fits _ _), c.loop-j-test.true);
-    }
+  unit_len = c.requires.unit_len;
+  tried = c.requires.tried;
+  fits = (subst Fits (sym c.wanted_at-first.ensures) (wanted-fits _ _), c.loop-j-test.true);
+}
 
 pub returns-then-clashes_at : goal.returns-then-clashes_at
 returns-then-clashes_at c = let args = c.args in
     let loop = c.loop-j in
     found_first _ _ loop.j (is_partner (state_in args.unit.now) (pieces args.requests.now) args.i) c.requires.tried.counted loop.invariant.2
-    (tested c.before ∙ c.if-clashes_at.true) c.loop-j-test.true
+    (tested (state_in args.unit.now) (pieces args.requests.now) args.i loop.j _ _ _ (listed-on _ _ _ _ c.requires.tried args.i c.requires.i_lt_count c.if-list-i-ne1.false) loop.invariant.0 c.profile_of-profile.ensures c.wanted_at-first.ensures c.clashes_at.ensures ∙ c.if-clashes_at.true) c.loop-j-test.true
 
 pub loop-j-preserved : goal.loop-j-preserved
 loop-j-preserved c = let args = c.args in
     let loop = c.loop-j in (
       omega (arith, loop.invariant.0),
       omega (arith, c.loop-j-test.true),
-      none_more (is_partner (state_in args.unit.now) (pieces args.requests.now) args.i) loop.j loop.invariant.2 (tested c.before ∙ c.if-clashes_at.false),
+      none_more (is_partner (state_in args.unit.now) (pieces args.requests.now) args.i) loop.j loop.invariant.2 (tested (state_in args.unit.now) (pieces args.requests.now) args.i loop.j _ _ _ (listed-on _ _ _ _ c.requires.tried args.i c.requires.i_lt_count c.if-list-i-ne1.false) loop.invariant.0 c.profile_of-profile.ensures c.wanted_at-first.ensures c.clashes_at.ensures ∙ c.if-clashes_at.false),
     )
 
 pub returns : goal.returns

@@ -14,24 +14,24 @@ use Rattle.start_order.proofs.wanted.breaks.Goals as goal
 pub label_of-requires : goal.label_of-requires
 unfolding Fits
 label_of-requires c = record {
-      unit_len = c.requires.unit_len;
-      o_lt_object_count = (subst Fits c.in-Access.is c.requires.fits.0).1;
-    }
+  unit_len = c.requires.unit_len;
+  o_lt_object_count = (subst Fits c.in-Access.is c.requires.fits.0).1;
+}
 
 pub label_of-requires-in-Access-w : goal.label_of-requires-in-Access-w
 unfolding Fits
-label_of-requires-in-Access-w c = (c.requires.unit_len, (subst Fits c.in-Access-w.is c.requires.fits.1).1)
+label_of-requires-in-Access-w c = record { unit_len = c.requires.unit_len; o_lt_object_count = (subst Fits c.in-Access-w.is c.requires.fits.1).1 }
 
 pub companies_of-requires : goal.companies_of-requires
 unfolding Fits
 companies_of-requires c = record {
-      unit_len = c.requires.unit_len;
-      o_lt_object_count = (subst Fits c.in-Access.is c.requires.fits.0).1;
-    }
+  unit_len = c.requires.unit_len;
+  o_lt_object_count = (subst Fits c.in-Access.is c.requires.fits.0).1;
+}
 
 pub companies_of-requires-in-Access-w : goal.companies_of-requires-in-Access-w
 unfolding Fits
-companies_of-requires-in-Access-w c = (c.requires.unit_len, (subst Fits c.in-Access-w.is c.requires.fits.1).1)
+companies_of-requires-in-Access-w c = record { unit_len = c.requires.unit_len; o_lt_object_count = (subst Fits c.in-Access-w.is c.requires.fits.1).1 }
 
 pub returns-in-Nothing : goal.returns-in-Nothing
 unfolding breaks

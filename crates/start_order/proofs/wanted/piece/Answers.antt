@@ -10,4 +10,4 @@ use Rattle.start_order.proofs.wanted.piece.Goals as goal
 pub returns : goal.returns
 returns c = let requests = c.args.requests.now in
     let i = c.args.i in
-    ap (λ k. take (k - i * 6) (drop (i * 6) requests)) c.smaller-end.ensures ∙ sym (piece-at requests i c.?pre)
+    ap (λ k. take (k - i * 6) (drop (i * 6) requests)) c.smaller-end.ensures ∙ sym (piece-at requests i c.requires)
