@@ -8,7 +8,7 @@ use mathlib.Core.List.{List, [], ◌∷◌, ◌++◌}
 use native.Mathlib.Omega.{arith}
 use borrow.Author.Tests.{eqb-true}
 use lib.Dec.{eqb, lit<}
-use lib.ListN.{length, get_or, take, drop, replicate, length-append, length-replicate}
+use lib.ListN.{length, get_or, drop, replicate, length-append, length-replicate}
 use native.Mathlib.Nat.{zero-add}
 use Rattle.bits.specs.Bits.{Bytes, bytes_to_bits, bits_to_bytes, join, to_bits, odd}
 use Rattle.bits.specs.Laws.{bytes_to_bits-append, bits_to_bytes-bytes_to_bits}

@@ -1,7 +1,6 @@
 -- `accesses::access_fits` meets its contract.
 -- Assumes nothing.
 use mathlib.Core.Path.{sym, ap, ap₂, ◌∙◌}
-use mathlib.Core.Logic.{⊎_elim}
 use mathlib.Core.Bool.{not}
 use Rattle.model.specs.declared.Decision.TheVariants.{Granted, StarBroken, WallBroken}
 use Rattle.model.specs.Tests.{implies, unless}
@@ -9,7 +8,6 @@ use Rattle.model.proofs.Tests.{apart, implies-in, not_on, not-off, not-not, pass
 use Rattle.star.proofs.Between.{between-one}
 use Rattle.wall.proofs.Between.{wall-one}
 use Rattle.kinds.specs.Stages.{after_get}
-use borrow.Author.Rules.{rules}
 use Rattle.accesses.proofs.access_fits.Goals as goal
 use Rattle.accesses.proofs.access_fits.Goals.{then-needs_label+else-breaks_star, else-needs_label}
 

@@ -8,7 +8,6 @@ use Rattle.unit.specs.Stored.{set_held}
 use Rattle.kinds.specs.Carried.{stores}
 use Rattle.kinds.proofs.Answers.{does-refused, does-granted, get_refused, get-last}
 use Rattle.kinds.proofs.Effects.{held_back}
-use borrow.Author.Rules.{rules}
 use Rattle.accesses.proofs.get.Goals as goal
 use Rattle.accesses.proofs.get.Goals.{After-set_held}
 

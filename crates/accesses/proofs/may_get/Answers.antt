@@ -1,7 +1,6 @@
 -- `accesses::may_get` meets its contract.
 -- Assumes nothing.
 use Rattle.kinds.specs.Stages.{before_star}
-use borrow.Author.Rules.{rules}
 use Rattle.accesses.proofs.may_get.Goals as goal
 
 pub returns : goal.returns

@@ -9,7 +9,6 @@ use Rattle.unit.specs.Rows.{state_in}
 use Rattle.unit.specs.Stored.{set_held}
 use Rattle.kinds.specs.Carried.{stores}
 use Rattle.kinds.proofs.Answers.{does-refused, does-granted}
-use borrow.Author.Rules.{rules}
 use Rattle.accesses.proofs.release.Goals as goal
 use Rattle.accesses.proofs.release.Goals.{After-check-d}
 

@@ -8,7 +8,6 @@ use Rattle.model.specs.declared.Decoded.{Decoded}
 use Rattle.model.specs.Requests.{decode}
 use Rattle.model.proofs.Requests.{decode-range}
 use Rattle.asking.proofs.Lists.{ask-malformed, ask-says}
-use borrow.Author.Rules.{rules}
 use Rattle.asking.proofs.ask.Goals as goal
 
 said : (b : List ℕ) (p q : Profile) (d : Decoded) → q ≡ p → d ≡ decode q b → decode p b ≡ d

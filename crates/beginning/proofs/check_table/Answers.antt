@@ -9,7 +9,6 @@ use Rattle.model.specs.Tests.{unless}
 use Rattle.model.specs.Layout.{table_size}
 use Rattle.image_records.specs.declared.TableRead.{TableRead}
 use Rattle.beginning.proofs.Begun.{checks-answer}
-use borrow.Author.Rules.{rules}
 use Rattle.beginning.proofs.check_table.Goals as goal
 
 pub returns : goal.returns

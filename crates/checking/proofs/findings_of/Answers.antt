@@ -1,19 +1,17 @@
 -- `checking::findings_of` meets its contract.
 -- Assumes nothing.
-use Prim.Native.Nat.{ℕ, ◌+◌, ◌-◌, ◌≤◌}
+use Prim.Native.Nat.{ℕ, ◌+◌}
 use native.Mathlib.Omega.{arith}
 use mathlib.Core.Path.{◌≡◌, ap, ap₂, ◌∙◌}
-use mathlib.Core.Bool.{Bool, true}
+use mathlib.Core.Bool.{Bool}
 use Rattle.model.specs.Tests.{implies}
 use Rattle.model.specs.Levels.{present}
-use Rattle.model.specs.State.{clearance_at, clearance, object, rights_of, held_by}
+use Rattle.model.specs.State.{clearance_at}
 use Rattle.model.specs.Rules.{simple_all}
 use Rattle.model.specs.Reading.{only_enrolled, within_matrix, held_labelled}
-use Rattle.unit.specs.Rows.{Rows, subjects_in, state_in}
-use Rattle.checking.specs.declared.Findings.{Findings}
-use Rattle.checking.specs.Checks.{both, at}
-use Rattle.checking.proofs.Passes.{below, both-unbroken, below_more, both-assoc}
-use borrow.Author.Rules.{rules}
+use Rattle.unit.specs.Rows.{subjects_in}
+use Rattle.checking.specs.Checks.{both}
+use Rattle.checking.proofs.Passes.{below, below_more, both-assoc}
 use Rattle.checking.proofs.findings_of.Goals as goal
 use Rattle.checking.proofs.findings_of.Invariants.{begins, at_subject}
 

@@ -1,8 +1,8 @@
 -- `checking::findings_over` meets its contract.
 -- Assumes nothing.
-use Prim.Native.Nat.{ℕ, ◌-◌, ◌≤◌}
+use Prim.Native.Nat.{ℕ}
 use native.Mathlib.Omega.{arith}
-use mathlib.Core.Path.{◌≡◌, refl, ap, ap₂, ◌∙◌}
+use mathlib.Core.Path.{◌≡◌, ap, ap₂, ◌∙◌}
 use lib.ListN.{take}
 use lib.Seq.{take_all}
 use Rattle.model.specs.State.{no_object}
@@ -10,7 +10,6 @@ use Rattle.unit.specs.Rows.{object_in, subjects_in, objects_in}
 use Rattle.unit.proofs.Tabulated.{tabulate-length}
 use Rattle.checking.specs.Checks.{both, of_object, of_objects}
 use Rattle.checking.proofs.Passes.{along-more}
-use borrow.Author.Rules.{rules}
 use Rattle.checking.proofs.findings_over.Goals as goal
 
 pub loop-o-preserved : goal.loop-o-preserved

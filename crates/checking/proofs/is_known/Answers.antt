@@ -8,7 +8,6 @@ use Rattle.model.specs.State.{nobody}
 use Rattle.model.proofs.Tests.{beyond}
 use Rattle.unit.specs.Rows.{subject_in, subjects_in}
 use Rattle.unit.proofs.Tabulated.{tabulate-length}
-use borrow.Author.Rules.{rules}
 use Rattle.checking.proofs.is_known.Goals as goal
 
 pub returns : goal.returns

@@ -10,7 +10,6 @@ use Rattle.model.proofs.Tests.{not-not}
 use Rattle.star.proofs.Between.{between-all}
 use Rattle.wall.proofs.Between.{wall-all}
 use Rattle.checking.specs.declared.Findings.{Findings}
-use borrow.Author.Rules.{rules}
 use Rattle.checking.proofs.state_checks.Goals as goal
 
 answers : (d : Decision) {r k v : Decision} {a b : Bool} → a ≡ b → k ≡ v → r ≡ unless a d k → r ≡ unless b d v

@@ -12,7 +12,6 @@ use Rattle.unit.proofs.Stores.{rest-put-back}
 use Rattle.wall.proofs.Between.{wall-all}
 use Rattle.kinds.specs.Carried.{stores}
 use Rattle.kinds.proofs.Answers.{does-refused, does-granted, companies-refused, companies-broken, companies-kept}
-use borrow.Author.Rules.{rules}
 use Rattle.company_changes.proofs.change_companies.Goals as goal
 
 pub returns-then-refuses : goal.returns-then-refuses

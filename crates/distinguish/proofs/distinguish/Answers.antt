@@ -19,7 +19,6 @@ use Rattle.differences.specs.Sequences.{requests_of}
 use Rattle.distinguish.specs.Telling.{bytes_of, room_of_four, told_number, told_bytes}
 use Rattle.distinguish.proofs.Storing.{length-bytes_of}
 use Rattle.unit.specs.Rows.{state_in}
-use borrow.Author.Rules.{rules}
 use Rattle.distinguish.proofs.distinguish.Goals as goal
 
 short : (m n : Monitor) (s : List ℕ) (k : ℕ) → length s < room_of_four → k ≡ number ShortBuffer → (k ≡ told_number m n s) × (s ≡ told_bytes m n s)

@@ -5,7 +5,6 @@ use Rattle.unit.specs.Rows.{state_in, subjects_in}
 use Rattle.differences.specs.declared.sequence.Place.{Place}
 use Rattle.differences.specs.Records.{clearances_apart}
 use Rattle.distinguish.proofs.Parts.{distinguish-parts, told-first, told-second, told-third}
-use borrow.Author.Rules.{rules}
 use Rattle.distinguish.proofs.sequence_of.Goals as goal
 
 pub returns-then-is_found : goal.returns-then-is_found

@@ -3,7 +3,6 @@
 use mathlib.Core.Path.{sym, ◌∙◌}
 use Rattle.unit.specs.Rows.{state_in}
 use Rattle.distinguish.proofs.Parts.{standing-parts, told-first, told-second, told-third}
-use borrow.Author.Rules.{rules}
 use Rattle.distinguish.proofs.standing_of.Goals as goal
 
 pub returns-then-is_found : goal.returns-then-is_found

@@ -3,7 +3,6 @@
 use mathlib.Core.Path.{refl}
 use native.Mathlib.Omega.{arith}
 use Rattle.distinguish.proofs.Storing.{stored_next, stored_last}
-use borrow.Author.Rules.{rules}
 use Rattle.distinguish.proofs.write_reading.Goals as goal
 
 pub returns : goal.returns

@@ -6,7 +6,6 @@ use Rattle.bits.specs.Bits.{join}
 use Rattle.distinguish.specs.Telling.{bytes_of}
 use Rattle.model.proofs.Buffers.{put-none}
 use Rattle.distinguish.proofs.Storing.{stored_next, stored_last}
-use borrow.Author.Rules.{rules}
 use Rattle.distinguish.proofs.write_sequence.Goals as goal
 
 pub returns-in-Nothing : goal.returns-in-Nothing

@@ -4,9 +4,7 @@ use mathlib.Core.Path.{sym, ap, ◌∙◌}
 use Rattle.model.specs.Decisions.{refuses}
 use Rattle.model.specs.Layout.{image_size}
 use Rattle.model.specs.Reading.{image_checks, monitor_from, read_image}
-use Rattle.model.proofs.Tests.{not_on, not-off}
 use Rattle.image.proofs.Answers.{refused, answered, wrong-profile, wrong-length, image-rows, image-answer}
-use borrow.Author.Rules.{rules}
 use Rattle.image.proofs.open.Goals as goal
 
 pub returns-then-not-fits : goal.returns-then-not-fits

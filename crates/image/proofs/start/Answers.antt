@@ -4,9 +4,7 @@ use mathlib.Core.Path.{sym, ap, ◌∙◌}
 use Rattle.model.specs.Decisions.{refuses}
 use Rattle.model.specs.Layout.{table_size}
 use Rattle.model.specs.Reading.{table_checks, read_table}
-use Rattle.model.proofs.Tests.{not_on, not-off}
 use Rattle.image.proofs.Answers.{refused, answered, wrong-profile, wrong-length, table-rows, table-answer}
-use borrow.Author.Rules.{rules}
 use Rattle.image.proofs.start.Goals as goal
 
 pub returns-then-not-fits : goal.returns-then-not-fits

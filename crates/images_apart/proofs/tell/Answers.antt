@@ -1,10 +1,7 @@
 -- `images_apart::tell` meets its contract: one image is refused, or the two states are told apart.
 -- Assumes nothing.
 use mathlib.Core.Path.{sym, ◌∙◌}
-use native.Mathlib.Omega.{arith}
-use Rattle.model.proofs.Decisions.{number_small}
 use Rattle.images_apart.proofs.Answers.{opened-says, first-refused, second-refused, told-apart}
-use borrow.Author.Rules.{rules}
 use Rattle.images_apart.proofs.tell.Goals as goal
 
 pub returns-then-refuses : goal.returns-then-refuses

@@ -7,7 +7,6 @@ use Rattle.model.specs.declared.Fields.{Fields}
 use Rattle.decoding.specs.Word.{fields_of_word}
 use Rattle.decoding.proofs.Word.{fields-word}
 use Rattle.journaled.specs.Units.{deletes}
-use borrow.Author.Rules.{rules}
 use Rattle.journaled.proofs.deletes.Goals as goal
 
 pub returns-then-bytes-ne6 : goal.returns-then-bytes-ne6

@@ -1,7 +1,6 @@
 -- `journaled::restore` meets its contract.
 -- Assumes nothing.
 use Rattle.journaled.proofs.Stored.{leave-needs, restored_by}
-use borrow.Author.Rules.{rules}
 use Rattle.journaled.proofs.restore.Goals as goal
 
 pub leave-requires : goal.leave-requires

@@ -8,7 +8,6 @@ use Rattle.journal.specs.Ring.{entry_count}
 use Rattle.journaled.specs.Units.{said_by, taken_unit}
 use Rattle.journaled.proofs.Parts.{part-behind}
 use Rattle.journaled.proofs.Said.{taken_none, taken-some}
-use borrow.Author.Rules.{rules}
 use Rattle.journaled.proofs.take_back.Goals as goal
 
 pub returns-then-entry_count-eq0 : goal.returns-then-entry_count-eq0

@@ -7,12 +7,10 @@ use Rattle.model.specs.declared.Label.TheVariants.{Present}
 use Rattle.model.specs.declared.Request.TheVariants.{ChangeLevel}
 use Rattle.model.specs.Levels.{same_label}
 use Rattle.model.specs.Rules.{not_lowered, already}
-use Rattle.model.proofs.Tests.{not_on, not-off}
 use Rattle.unit.specs.Rows.{rest_row}
 use Rattle.unit.proofs.Stores.{rest-put-back}
 use Rattle.kinds.specs.Carried.{stores}
 use Rattle.kinds.proofs.Answers.{does-refused, does-granted, level-refused, level-lowered, level-last}
-use borrow.Author.Rules.{rules}
 use Rattle.level_changes.proofs.change_level.Goals as goal
 
 pub returns-then-refuses : goal.returns-then-refuses

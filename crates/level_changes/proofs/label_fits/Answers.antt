@@ -5,11 +5,10 @@ use mathlib.Core.Bool.{not}
 use Rattle.model.specs.declared.Decision.TheVariants.{Granted, SimpleBroken, StarBroken, HierarchyBroken}
 use Rattle.model.specs.Tests.{unless}
 use Rattle.model.specs.Rules.{star_all}
-use Rattle.model.proofs.Tests.{not_on, not-off, not-not, pass, stop}
+use Rattle.model.proofs.Tests.{not-not, pass, stop}
 use Rattle.unit.specs.Rows.{objects_in}
 use Rattle.star.proofs.Between.{between-all}
 use Rattle.kinds.specs.Stages.{after_change}
-use borrow.Author.Rules.{rules}
 use Rattle.level_changes.proofs.label_fits.Goals as goal
 use Rattle.level_changes.proofs.label_fits.Goals.{After-breaks_star-broken}
 

@@ -1,7 +1,6 @@
 -- `objects::by_owner` meets its contract.
 -- Assumes nothing.
 use Rattle.model.specs.Rules.{checks}
-use borrow.Author.Rules.{rules}
 use Rattle.objects.proofs.by_owner.Goals as goal
 
 pub returns : goal.returns

@@ -7,7 +7,6 @@ use Rattle.unit.specs.Rows.{state_in}
 use Rattle.unit.specs.Stored.{set_object}
 use Rattle.kinds.specs.Carried.{stores}
 use Rattle.kinds.proofs.Answers.{does-refused, does-granted}
-use borrow.Author.Rules.{rules}
 use Rattle.objects.proofs.create.Goals as goal
 use Rattle.objects.proofs.create.Goals.{After-check-d}
 

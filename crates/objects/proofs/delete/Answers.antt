@@ -15,7 +15,6 @@ use Rattle.model.proofs.Tests.{split, apart, stop}
 use Rattle.unit.specs.Rows.{state_in}
 use Rattle.kinds.specs.Carried.{stores}
 use Rattle.kinds.proofs.Answers.{does-refused, does-granted}
-use borrow.Author.Rules.{rules}
 use Rattle.objects.proofs.delete.Goals as goal
 
 refused-both : (b : Bool) → refuses (unless b NotEnrolled NotLive) ≡ true
@@ -35,9 +34,9 @@ returns-then-refuses c = does-refused (Delete c.args.s c.args.o) c.args.unit.now
 
 pub remove-requires : goal.remove-requires
 remove-requires c = let passed = sym (ap refuses c.by_owner-d.ensures) ∙ sym c.refuses.ensures ∙ c.if-refuses.false in record {
-      unit_len = c.requires.unit_len;
-      o_lt_object_count = (c.requires.s_lt_subject_count.1, deleted-live c.args.s c.args.o (state_in c.args.unit.now) passed);
-    }
+  unit_len = c.requires.unit_len;
+  o_lt_object_count = (c.requires.s_lt_subject_count.1, deleted-live c.args.s c.args.o (state_in c.args.unit.now) passed);
+}
 
 pub returns : goal.returns
 unfolding already stores

@@ -5,7 +5,6 @@ use Rattle.image.proofs.Sizes.{table-begun}
 use Prim.Native.Nat.{ℕ}
 use lib.ListN.{replicate, length-replicate}
 use Rattle.replay.proofs.Printing.{prints-refusal, prints-replies}
-use borrow.Author.Rules.{rules}
 use Rattle.replay.proofs.program.Goals as goal
 
 pub returns-then-refuses : goal.returns-then-refuses

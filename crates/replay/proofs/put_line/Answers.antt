@@ -1,8 +1,6 @@
 -- `replay::put_line` meets its contract.
 -- Assumes nothing.
-use borrow.Author.Rules.{rules}
 use native.Mathlib.Omega.{arith}
-use lib.ListN.{length-set}
 use Rattle.replay.proofs.Putting.{short-line, long-line}
 use Rattle.replay.proofs.put_line.Goals as goal
 

@@ -1,14 +1,6 @@
 -- `replay::put_lines` meets its contract.
 -- Assumes nothing.
-use Prim.Native.Nat.{◌-◌}
-use mathlib.Core.Path.{◌≡◌, ap, ◌∙◌}
-use mathlib.Core.List.{map}
-use native.Mathlib.Omega.{arith}
-use lib.ListN.{length, take}
-use Rattle.bits.specs.Bits.{join}
-use Rattle.model.specs.Program.{line}
-use Rattle.model.specs.Buffers.{put}
-use Rattle.replay.proofs.Putting.{Lining, lining-start, lining-more}
+use Rattle.replay.proofs.Putting.{lining-start, lining-more}
 use Rattle.replay.proofs.put_lines.Goals as goal
 
 pub loop-i-init : goal.loop-i-init

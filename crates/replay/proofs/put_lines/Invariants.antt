@@ -1,14 +1,7 @@
 -- `replay::put_lines` meets its contract.
 -- Assumes nothing.
 use Prim.Native.Nat.{◌-◌}
-use mathlib.Core.Path.{◌≡◌, ap, ◌∙◌}
-use mathlib.Core.List.{map}
-use native.Mathlib.Omega.{arith}
-use lib.ListN.{length, take}
-use Rattle.bits.specs.Bits.{join}
-use Rattle.model.specs.Program.{line}
-use Rattle.model.specs.Buffers.{put}
-use Rattle.replay.proofs.Putting.{Lining, lining-start, lining-more}
+use Rattle.replay.proofs.Putting.{Lining}
 use Rattle.replay.proofs.put_lines.Given as goal
 
 abbrev pub invariant-loop-i : goal.invariant-loop-i

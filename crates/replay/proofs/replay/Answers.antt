@@ -3,7 +3,6 @@
 use mathlib.Core.Path.{sym, ◌∙◌}
 use Rattle.image.proofs.Sizes.{table-begun}
 use Rattle.replay.proofs.Answers.{table-refused, no_room, room}
-use borrow.Author.Rules.{rules}
 use Rattle.replay.proofs.replay.Goals as goal
 
 pub returns-then-refuses : goal.returns-then-refuses

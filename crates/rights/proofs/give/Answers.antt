@@ -7,7 +7,6 @@ use Rattle.model.specs.Rules.{already}
 use Rattle.unit.specs.Stored.{set_rights}
 use Rattle.kinds.specs.Carried.{stores}
 use Rattle.kinds.proofs.Answers.{does-refused, does-granted}
-use borrow.Author.Rules.{rules}
 use Rattle.rights.proofs.give.Goals as goal
 
 pub returns-then-refuses : goal.returns-then-refuses

@@ -1,7 +1,6 @@
 -- `rights::may_give` meets its contract.
 -- Assumes nothing.
 use Rattle.model.specs.Rules.{checks}
-use borrow.Author.Rules.{rules}
 use Rattle.rights.proofs.may_give.Goals as goal
 
 pub returns : goal.returns

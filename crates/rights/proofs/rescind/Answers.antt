@@ -8,7 +8,6 @@ use Rattle.model.specs.Rules.{already, checks}
 use Rattle.unit.specs.Stored.{set_rights, set_held}
 use Rattle.kinds.specs.Carried.{stores}
 use Rattle.kinds.proofs.Answers.{does-refused, does-granted}
-use borrow.Author.Rules.{rules}
 use Rattle.rights.proofs.rescind.Goals as goal
 
 pub returns-then-refuses : goal.returns-then-refuses

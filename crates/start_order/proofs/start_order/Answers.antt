@@ -1,13 +1,11 @@
 -- `start_order::start_order` meets its contract.
 -- Assumes nothing.
-use mathlib.Core.Path.{ap, ◌∙◌, subst}
+use mathlib.Core.Path.{ap, ◌∙◌}
 use Rattle.model.specs.declared.Profile.{Profile}
 use Rattle.model.specs.Program.{pieces}
-use Rattle.unit.specs.Rows.{Rows, state_in}
+use Rattle.unit.specs.Rows.{state_in}
 use Rattle.start_order.specs.Answers.{first_other}
-use Rattle.start_order.specs.Tried.{Tried}
 use Rattle.start_order.proofs.Searching.{counted, answer-many, answer-other, answer-gets}
-use borrow.Author.Rules.{rules}
 use Rattle.start_order.proofs.start_order.Goals as goal
 
 pub returns-then-count-gt-MOST : goal.returns-then-count-gt-MOST

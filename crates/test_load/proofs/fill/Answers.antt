@@ -1,14 +1,8 @@
 -- `test_load::fill` meets its contract.
 -- Assumes nothing.
-use Prim.Native.Nat.{◌+◌, ◌-◌}
-use native.Mathlib.Omega.{arith}
 use mathlib.Core.Path.{ap, ◌∙◌}
-use lib.ListN.{length}
-use borrow.Author.Rules.{rules}
 use Rattle.model.specs.Requests.{pack}
-use Rattle.model.proofs.Packing.{pack-length}
-use Rattle.test_load.specs.Load.{made}
-use Rattle.test_load.proofs.Filling.{zero-refused, Filling, start, in-room, length-kept, further, ended}
+use Rattle.test_load.proofs.Filling.{zero-refused, start, further, ended}
 use Rattle.test_load.proofs.fill.Goals as goal
 
 pub returns-then-seed-eq0 : goal.returns-then-seed-eq0

@@ -1,14 +1,7 @@
 -- `test_load::fill` meets its contract.
 -- Assumes nothing.
-use Prim.Native.Nat.{◌+◌, ◌-◌}
-use native.Mathlib.Omega.{arith}
-use mathlib.Core.Path.{ap, ◌∙◌}
-use lib.ListN.{length}
-use borrow.Author.Rules.{rules}
-use Rattle.model.specs.Requests.{pack}
-use Rattle.model.proofs.Packing.{pack-length}
-use Rattle.test_load.specs.Load.{made}
-use Rattle.test_load.proofs.Filling.{zero-refused, Filling, start, in-room, length-kept, further, ended}
+use Prim.Native.Nat.{◌-◌}
+use Rattle.test_load.proofs.Filling.{Filling}
 use Rattle.test_load.proofs.fill.Given as goal
 
 abbrev pub invariant-loop-i : goal.invariant-loop-i

@@ -5,8 +5,7 @@ use Prim.Native.Nat.{◌-◌, ◌*◌, min}
 use native.Mathlib.Omega.{arith}
 use lib.ListN.{length, take, drop, length-set}
 use Rattle.asking.proofs.Lists.{asked-length}
-use Rattle.turns.proofs.Runs.{Looping, start, further, ended, piece-at, length-pieces}
-use borrow.Author.Rules.{rules}
+use Rattle.turns.proofs.Runs.{start, further, ended, piece-at, length-pieces}
 use Rattle.turns.proofs.run.Goals as goal
 
 pub loop-i-init : goal.loop-i-init

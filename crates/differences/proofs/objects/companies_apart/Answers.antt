@@ -1,7 +1,6 @@
 -- The numbers of the first record, set by its owner.
 -- Assumes nothing.
 use Rattle.differences.specs.Records.{companies_apart}
-use borrow.Author.Rules.{rules}
 use Rattle.differences.proofs.objects.companies_apart.Goals as goal
 
 pub returns : goal.returns

@@ -8,7 +8,6 @@ use Rattle.model.specs.Levels.{same_label}
 use Rattle.model.proofs.Tests.{bool-ext}
 use Rattle.model.proofs.Levels.{same-label, label_same}
 use Rattle.telling.specs.Distinguish.{when, to_label}
-use borrow.Author.Rules.{rules}
 use Rattle.differences.proofs.objects.label_apart.Goals as goal
 
 same-either-way : (a b : Label) → same_label a b ≡ same_label b a

@@ -1,10 +1,8 @@
 -- The owner is that of the record that is live.
 -- Assumes nothing.
 use mathlib.Core.Path.{◌≡◌, ◌∙◌}
-use mathlib.Core.Logic.{⊎_elim}
 use mathlib.Core.Bool.{cond}
 use Rattle.differences.specs.Records.{life_apart}
-use borrow.Author.Rules.{rules}
 use Rattle.differences.proofs.objects.life_apart.Goals as goal
 use Rattle.differences.proofs.objects.life_apart.Goals.{then-a, else-a}
 

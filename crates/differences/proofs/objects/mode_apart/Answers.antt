@@ -1,7 +1,6 @@
 -- One mode in two sets.
 -- Assumes nothing.
 use Rattle.differences.specs.Records.{mode_apart}
-use borrow.Author.Rules.{rules}
 use Rattle.differences.proofs.objects.mode_apart.Goals as goal
 
 pub returns : goal.returns

@@ -1,15 +1,12 @@
 -- The objects below o have the same records in both units.
 -- Assumes nothing.
 use Prim.Native.Nat.{◌-◌, ◌≤◌}
-use native.Mathlib.Omega.{arith}
-use mathlib.Core.Path.{◌≡◌, refl, sym, ap₂, ◌∙◌}
+use mathlib.Core.Path.{◌≡◌}
 use mathlib.Core.List.{[]}
 use Rattle.telling.specs.Distinguish.{search}
 use Rattle.model.specs.State.{object_at}
 use Rattle.unit.specs.Rows.{objects_in}
-use Rattle.differences.specs.Sequences.{requests_of}
-use Rattle.differences.specs.Records.{object_apart, objects_apart}
-use Rattle.differences.proofs.Searching.{search-more, search-first, search-end}
+use Rattle.differences.specs.Records.{object_apart}
 use Rattle.differences.proofs.objects.objects_apart.Given as goal
 
 abbrev pub invariant-loop-o : goal.invariant-loop-o

@@ -1,7 +1,6 @@
 -- A delete by the first owner.
 -- Assumes nothing.
 use Rattle.differences.specs.Records.{owner_apart}
-use borrow.Author.Rules.{rules}
 use Rattle.differences.proofs.objects.owner_apart.Goals as goal
 
 pub returns : goal.returns

@@ -1,12 +1,9 @@
 -- The subjects below s have the same sets.
 -- Assumes nothing.
-use Prim.Native.Nat.{◌-◌, ◌≤◌}
 use native.Mathlib.Omega.{arith}
-use mathlib.Core.Path.{◌≡◌, refl, sym, ◌∙◌}
-use mathlib.Core.List.{[]}
+use mathlib.Core.Path.{refl, sym, ◌∙◌}
 use Rattle.telling.specs.Distinguish.{search}
-use lib.ListN.{get_or}
-use Rattle.differences.specs.Records.{set_apart, row_apart}
+use Rattle.differences.specs.Records.{row_apart}
 use Rattle.differences.proofs.Searching.{search-more, search-first, search-end}
 use Rattle.differences.proofs.objects.row_apart.Goals as goal
 

@@ -1,13 +1,11 @@
 -- The subjects below s have the same sets.
 -- Assumes nothing.
 use Prim.Native.Nat.{◌-◌, ◌≤◌}
-use native.Mathlib.Omega.{arith}
-use mathlib.Core.Path.{◌≡◌, refl, sym, ◌∙◌}
+use mathlib.Core.Path.{◌≡◌}
 use mathlib.Core.List.{[]}
 use Rattle.telling.specs.Distinguish.{search}
 use lib.ListN.{get_or}
-use Rattle.differences.specs.Records.{set_apart, row_apart}
-use Rattle.differences.proofs.Searching.{search-more, search-first, search-end}
+use Rattle.differences.specs.Records.{set_apart}
 use Rattle.differences.proofs.objects.row_apart.Given as goal
 
 abbrev pub invariant-loop-s : goal.invariant-loop-s

@@ -3,7 +3,6 @@
 use mathlib.Core.Path.{ap₂, ◌∙◌}
 use Rattle.telling.specs.Distinguish.{or_else}
 use Rattle.differences.specs.Records.{set_apart}
-use borrow.Author.Rules.{rules}
 use Rattle.differences.proofs.objects.set_apart.Goals as goal
 
 pub returns : goal.returns

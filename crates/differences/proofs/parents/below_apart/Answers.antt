@@ -10,7 +10,6 @@ use Rattle.telling.specs.Distinguish.{differ}
 use Rattle.differences.specs.declared.sequence.Sequence.TheVariants.{Remaking}
 use Rattle.differences.specs.Sequences.{requests_of}
 use Rattle.differences.proofs.TwoParents.{below-told, below_none, below-beyond}
-use borrow.Author.Rules.{rules}
 use Rattle.differences.proofs.parents.below_apart.Goals as goal
 
 pub returns-then-is_live-apart : goal.returns-then-is_live-apart

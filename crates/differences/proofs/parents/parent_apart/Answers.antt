@@ -3,7 +3,6 @@
 use mathlib.Core.Path.{sym, ◌∙◌}
 use Rattle.unit.specs.Rows.{state_in}
 use Rattle.differences.proofs.TwoParents.{parents-same, parent-second, parent-first, by_first, by-second, by-third}
-use borrow.Author.Rules.{rules}
 use Rattle.differences.proofs.parents.parent_apart.Goals as goal
 
 pub returns-then-p-q : goal.returns-then-p-q

@@ -1,9 +1,7 @@
 -- The objects below o have the same parents in both units.
 -- Assumes nothing.
-use Prim.Native.Nat.{◌-◌, ◌≤◌}
 use native.Mathlib.Omega.{arith}
 use mathlib.Core.Path.{◌≡◌, refl, sym, ap₂, ◌∙◌}
-use mathlib.Core.List.{[]}
 use Rattle.telling.specs.Distinguish.{search, to_parent, by_parent}
 use Rattle.unit.specs.Rows.{state_in}
 use Rattle.differences.specs.Sequences.{requests_of}

@@ -1,14 +1,10 @@
 -- The objects below o have the same parents in both units.
 -- Assumes nothing.
 use Prim.Native.Nat.{◌-◌, ◌≤◌}
-use native.Mathlib.Omega.{arith}
-use mathlib.Core.Path.{◌≡◌, refl, sym, ap₂, ◌∙◌}
+use mathlib.Core.Path.{◌≡◌}
 use mathlib.Core.List.{[]}
-use Rattle.telling.specs.Distinguish.{search, to_parent, by_parent}
+use Rattle.telling.specs.Distinguish.{search, by_parent}
 use Rattle.unit.specs.Rows.{state_in}
-use Rattle.differences.specs.Sequences.{requests_of}
-use Rattle.differences.specs.Records.{parents_apart}
-use Rattle.differences.proofs.Searching.{search-more, search-first, search-end}
 use Rattle.differences.proofs.parents.parents_apart.Given as goal
 
 abbrev pub invariant-loop-o : goal.invariant-loop-o

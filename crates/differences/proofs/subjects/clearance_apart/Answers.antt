@@ -1,7 +1,6 @@
 -- The cases of two clearances.
 -- Assumes nothing.
 use Rattle.differences.specs.Records.{clearance_apart}
-use borrow.Author.Rules.{rules}
 use Rattle.differences.proofs.subjects.clearance_apart.Goals as goal
 
 pub returns-in-Absent : goal.returns-in-Absent

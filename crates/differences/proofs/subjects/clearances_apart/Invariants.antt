@@ -1,15 +1,12 @@
 -- The subjects below s have the same clearances in both units.
 -- Assumes nothing.
 use Prim.Native.Nat.{◌-◌, ◌≤◌}
-use native.Mathlib.Omega.{arith}
-use mathlib.Core.Path.{◌≡◌, refl, sym, ap₂, ◌∙◌}
+use mathlib.Core.Path.{◌≡◌}
 use mathlib.Core.List.{[]}
 use Rattle.telling.specs.Distinguish.{search}
 use Rattle.model.specs.State.{clearance_at}
 use Rattle.unit.specs.Rows.{subjects_in}
-use Rattle.differences.specs.Sequences.{requests_of}
-use Rattle.differences.specs.Records.{clearance_apart, clearances_apart}
-use Rattle.differences.proofs.Searching.{search-more, search-first, search-end}
+use Rattle.differences.specs.Records.{clearance_apart}
 use Rattle.differences.proofs.subjects.clearances_apart.Given as goal
 
 abbrev pub invariant-loop-s : goal.invariant-loop-s

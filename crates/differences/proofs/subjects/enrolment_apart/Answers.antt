@@ -1,7 +1,6 @@
 -- One subject in two tables.
 -- Assumes nothing.
 use Rattle.differences.specs.Records.{enrolment_apart}
-use borrow.Author.Rules.{rules}
 use Rattle.differences.proofs.subjects.enrolment_apart.Goals as goal
 
 pub returns : goal.returns

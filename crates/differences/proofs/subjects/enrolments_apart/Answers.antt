@@ -1,9 +1,7 @@
 -- The subjects below s are enrolled in both units or in neither.
 -- Assumes nothing.
-use Prim.Native.Nat.{◌-◌, ◌≤◌}
 use native.Mathlib.Omega.{arith}
 use mathlib.Core.Path.{◌≡◌, refl, sym, ap₂, ◌∙◌}
-use mathlib.Core.List.{[]}
 use Rattle.telling.specs.Distinguish.{search}
 use Rattle.model.specs.State.{clearance_at}
 use Rattle.unit.specs.Rows.{subjects_in}

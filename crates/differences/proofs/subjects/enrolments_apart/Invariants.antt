@@ -1,15 +1,12 @@
 -- The subjects below s are enrolled in both units or in neither.
 -- Assumes nothing.
 use Prim.Native.Nat.{◌-◌, ◌≤◌}
-use native.Mathlib.Omega.{arith}
-use mathlib.Core.Path.{◌≡◌, refl, sym, ap₂, ◌∙◌}
+use mathlib.Core.Path.{◌≡◌}
 use mathlib.Core.List.{[]}
 use Rattle.telling.specs.Distinguish.{search}
 use Rattle.model.specs.State.{clearance_at}
 use Rattle.unit.specs.Rows.{subjects_in}
-use Rattle.differences.specs.Sequences.{requests_of}
-use Rattle.differences.specs.Records.{enrolment_apart, enrolments_apart}
-use Rattle.differences.proofs.Searching.{search-more, search-first, search-end}
+use Rattle.differences.specs.Records.{enrolment_apart}
 use Rattle.differences.proofs.subjects.enrolments_apart.Given as goal
 
 abbrev pub invariant-loop-s : goal.invariant-loop-s

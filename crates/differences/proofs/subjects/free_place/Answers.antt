@@ -1,6 +1,6 @@
 -- After o turns the place is the last free one below o.
 -- Assumes nothing.
-use Prim.Native.Nat.{ℕ, ◌+◌, ◌-◌, ◌≤◌, ◌<◌}
+use Prim.Native.Nat.{ℕ, ◌+◌, ◌<◌}
 use native.Mathlib.Numerals.{add-one}
 use native.Mathlib.Omega.{arith}
 use mathlib.Core.Path.{◌≡◌, refl, sym, ap, ap₂, ◌∙◌}
@@ -13,7 +13,6 @@ use Rattle.model.proofs.Tests.{cond-all}
 use Rattle.unit.specs.Rows.{state_in}
 use Rattle.telling.specs.Distinguish.{free_below}
 use Rattle.differences.specs.Records.{free_place}
-use borrow.Author.Rules.{rules}
 use Rattle.differences.proofs.subjects.free_place.Goals as goal
 
 free_more : (m : Monitor) (o free : ℕ) (live : Bool) (p : Profile) → live ≡ (object m o).live → p ≡ m.profile → free ≡ free_below o m

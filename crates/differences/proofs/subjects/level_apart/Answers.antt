@@ -2,7 +2,6 @@
 -- Assumes nothing.
 use Prim.Native.Nat.{ℕ}
 use mathlib.Core.Path.{◌≡◌, sym, ap, ◌∙◌}
-use borrow.Author.Rules.{rules}
 use Rattle.model.specs.declared.Level.{Level}
 use Rattle.model.specs.declared.Comparison.{Comparison}
 use Rattle.model.specs.Levels.{compare}

@@ -1,13 +1,9 @@
 -- `hierarchy::chains::above` meets its contract.
 -- Assumes nothing.
-use mathlib.Core.Path.{sym, ap, ◌∙◌}
+use mathlib.Core.Path.{sym, ap}
 use mathlib.Core.Bool.{cond}
 use Rattle.model.specs.declared.Object.{Object}
-use Rattle.model.specs.State.{object_at}
-use Rattle.model.proofs.Tests.{cond-true, cond-false}
-use Rattle.unit.specs.Rows.{objects_in}
 use Rattle.hierarchy.proofs.Upward.{none-beyond}
-use borrow.Author.Rules.{rules}
 use Rattle.hierarchy.proofs.chains.above.Goals as goal
 
 pub returns-else-y-lt-OBJECTS : goal.returns-else-y-lt-OBJECTS

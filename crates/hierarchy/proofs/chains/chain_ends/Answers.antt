@@ -1,13 +1,10 @@
 -- `hierarchy::chains::chain_ends` meets its contract.
 -- Assumes nothing.
-use Prim.Native.Nat.{ℕ, suc, ◌-◌}
-use native.Mathlib.Omega.{arith}
-use native.Mathlib.Numerals.{add-one}
-use mathlib.Core.Path.{◌≡◌, sym, ap, ◌∙◌}
-use borrow.Author.Rules.{rules}
+use Prim.Native.Nat.{◌-◌}
+use mathlib.Core.Path.{sym, ap, ◌∙◌}
 use Rattle.model.specs.Hierarchy.{ends}
 use Rattle.unit.specs.Rows.{objects_in}
-use Rattle.hierarchy.proofs.Upward.{ends-going, ends-step, ends_last}
+use Rattle.hierarchy.proofs.Upward.{ends-step, ends_last}
 use Rattle.hierarchy.proofs.chains.chain_ends.Goals as goal
 
 pub loop-left-preserved : goal.loop-left-preserved

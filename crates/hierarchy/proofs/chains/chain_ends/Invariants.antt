@@ -1,13 +1,9 @@
 -- `hierarchy::chains::chain_ends` meets its contract.
 -- Assumes nothing.
-use Prim.Native.Nat.{ℕ, suc, ◌-◌}
-use native.Mathlib.Omega.{arith}
-use native.Mathlib.Numerals.{add-one}
-use mathlib.Core.Path.{◌≡◌, sym, ap, ◌∙◌}
-use borrow.Author.Rules.{rules}
+use Prim.Native.Nat.{suc}
+use mathlib.Core.Path.{◌≡◌}
 use Rattle.model.specs.Hierarchy.{ends}
 use Rattle.unit.specs.Rows.{objects_in}
-use Rattle.hierarchy.proofs.Upward.{ends-going, ends-step, ends_last}
 use Rattle.hierarchy.proofs.chains.chain_ends.Given as goal
 
 abbrev pub invariant-loop-left : goal.invariant-loop-left

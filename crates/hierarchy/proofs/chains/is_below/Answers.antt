@@ -1,13 +1,11 @@
 -- `hierarchy::chains::is_below` meets its contract.
 -- Assumes nothing.
 use Prim.Native.Nat.{◌-◌}
-use native.Mathlib.Omega.{arith}
 use native.Mathlib.Numerals.{add-one}
-use mathlib.Core.Path.{◌≡◌, sym, ap, ◌∙◌}
-use borrow.Author.Rules.{rules}
-use Rattle.model.specs.Hierarchy.{meets, below}
+use mathlib.Core.Path.{sym, ap, ◌∙◌}
+use Rattle.model.specs.Hierarchy.{meets}
 use Rattle.unit.specs.Rows.{objects_in}
-use Rattle.hierarchy.proofs.Upward.{meets-going, meets-step, meets-last}
+use Rattle.hierarchy.proofs.Upward.{meets-step, meets-last}
 use Rattle.hierarchy.proofs.chains.is_below.Goals as goal
 
 pub loop-left-preserved : goal.loop-left-preserved

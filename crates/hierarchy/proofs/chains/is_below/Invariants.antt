@@ -1,13 +1,8 @@
 -- `hierarchy::chains::is_below` meets its contract.
 -- Assumes nothing.
-use Prim.Native.Nat.{◌-◌}
-use native.Mathlib.Omega.{arith}
-use native.Mathlib.Numerals.{add-one}
-use mathlib.Core.Path.{◌≡◌, sym, ap, ◌∙◌}
-use borrow.Author.Rules.{rules}
+use mathlib.Core.Path.{◌≡◌}
 use Rattle.model.specs.Hierarchy.{meets, below}
 use Rattle.unit.specs.Rows.{objects_in}
-use Rattle.hierarchy.proofs.Upward.{meets-going, meets-step, meets-last}
 use Rattle.hierarchy.proofs.chains.is_below.Given as goal
 
 abbrev pub invariant-loop-left : goal.invariant-loop-left

@@ -6,7 +6,6 @@ use Rattle.model.specs.declared.Object.{Object}
 use Rattle.model.specs.Hierarchy.{parent_live}
 use Rattle.unit.specs.Rows.{objects_in}
 use Rattle.hierarchy.proofs.Upward.{none-beyond, parent-live-at}
-use borrow.Author.Rules.{rules}
 use Rattle.hierarchy.proofs.chains.parent_live.Goals as goal
 
 pub returns-then-p-eq0 : goal.returns-then-p-eq0

@@ -1,14 +1,10 @@
 -- `hierarchy::chains::parents_hold` meets its contract.
 -- Assumes nothing.
 use Prim.Native.Nat.{ℕ, ◌-◌, ◌<◌, ◌≤◌}
-use native.Mathlib.Omega.{arith}
-use mathlib.Core.Path.{◌≡◌, sym, ap, ap₂, ◌∙◌}
-use mathlib.Core.Bool.{true, ◌&&◌}
-use borrow.Author.Count.{below_more}
-use Rattle.model.specs.Hierarchy.{parent_live}
-use Rattle.model.proofs.Tests.{not_on, not-off}
+use mathlib.Core.Path.{◌≡◌}
+use mathlib.Core.Bool.{true}
 use Rattle.unit.specs.Rows.{objects_in}
-use Rattle.hierarchy.proofs.Upward.{objects-length, holds_at, all_hold, not-hold}
+use Rattle.hierarchy.proofs.Upward.{holds_at}
 use Rattle.hierarchy.proofs.chains.parents_hold.Given as goal
 
 abbrev pub invariant-loop-i : goal.invariant-loop-i

@@ -9,7 +9,6 @@ use Rattle.model.specs.Hierarchy.{label_under}
 use Rattle.model.specs.State.{object_at}
 use Rattle.unit.specs.Rows.{objects_in}
 use Rattle.hierarchy.proofs.Upward.{label-under-at}
-use borrow.Author.Rules.{rules}
 use Rattle.hierarchy.proofs.labelling.keeps_rule.Goals as goal
 
 pub returns-then-p-eq0 : goal.returns-then-p-eq0

@@ -3,7 +3,6 @@
 use mathlib.Core.Path.{sym, ap}
 use Rattle.model.specs.declared.Object.{Object}
 use Rattle.hierarchy.proofs.Upward.{none-beyond}
-use borrow.Author.Rules.{rules}
 use Rattle.hierarchy.proofs.labelling.label_at.Goals as goal
 
 pub returns : goal.returns

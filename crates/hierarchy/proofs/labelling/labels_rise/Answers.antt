@@ -1,15 +1,8 @@
 -- `hierarchy::labelling::labels_rise` meets its contract.
 -- Assumes nothing.
-use Prim.Native.Nat.{ℕ, ◌-◌, ◌<◌, ◌≤◌}
 use native.Mathlib.Omega.{arith}
-use mathlib.Core.Path.{◌≡◌, sym, ◌∙◌}
-use mathlib.Core.Bool.{Bool, true}
-use mathlib.Core.List.{List}
-use borrow.Author.Count.{below_more}
-use Rattle.model.specs.declared.Object.{Object}
-use Rattle.model.specs.State.{object_at}
-use Rattle.model.specs.Hierarchy.{label_under, labels_rise}
-use Rattle.model.proofs.Tests.{not_on, not-off}
+use mathlib.Core.Path.{sym, ◌∙◌}
+use Rattle.model.specs.Hierarchy.{labels_rise}
 use Rattle.unit.specs.Rows.{objects_in}
 use Rattle.hierarchy.proofs.Upward.{objects-length, all-where, not-all}
 use Rattle.hierarchy.proofs.labelling.labels_rise.Goals as goal

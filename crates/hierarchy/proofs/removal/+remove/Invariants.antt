@@ -1,6 +1,6 @@
 -- `hierarchy::removal::remove`: the recursion ends since the live objects are fewer at each call.
 -- Assumes nothing.
-use Rattle.std.proofs.Common.{ℕ, ◌≡◌, ◌≤◌, length}
+use Rattle.std.proofs.Common.{◌≡◌, ◌≤◌, length}
 use Rattle.model.specs.State.{no_object}
 use Rattle.unit.specs.Rows.{Rows, row_count, objects_in}
 use Rattle.unit.specs.Stored.{set_object}

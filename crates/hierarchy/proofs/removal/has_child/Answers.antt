@@ -1,13 +1,8 @@
 -- `hierarchy::removal::has_child` meets its contract.
 -- Assumes nothing.
-use Prim.Native.Nat.{ℕ, ◌-◌, ◌<◌, ◌≤◌}
 use native.Mathlib.Omega.{arith}
-use mathlib.Core.Path.{◌≡◌, sym, ◌∙◌}
-use mathlib.Core.Bool.{false}
-use borrow.Author.Count.{below_more}
-use Rattle.model.specs.State.{object_at}
+use mathlib.Core.Path.{sym, ◌∙◌}
 use Rattle.unit.specs.Rows.{objects_in}
-use Rattle.hierarchy.specs.Removed.{child_of}
 use Rattle.hierarchy.proofs.Upward.{objects-length, child-found, no-child}
 use Rattle.hierarchy.proofs.removal.has_child.Goals as goal
 

@@ -1,14 +1,11 @@
 -- `hierarchy::removal::has_child` meets its contract.
 -- Assumes nothing.
 use Prim.Native.Nat.{ℕ, ◌-◌, ◌<◌, ◌≤◌}
-use native.Mathlib.Omega.{arith}
-use mathlib.Core.Path.{◌≡◌, sym, ◌∙◌}
+use mathlib.Core.Path.{◌≡◌}
 use mathlib.Core.Bool.{false}
-use borrow.Author.Count.{below_more}
 use Rattle.model.specs.State.{object_at}
 use Rattle.unit.specs.Rows.{objects_in}
 use Rattle.hierarchy.specs.Removed.{child_of}
-use Rattle.hierarchy.proofs.Upward.{objects-length, child-found, no-child}
 use Rattle.hierarchy.proofs.removal.has_child.Given as goal
 
 abbrev pub invariant-loop-c : goal.invariant-loop-c

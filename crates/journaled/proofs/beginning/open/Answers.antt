@@ -1,7 +1,6 @@
 -- `journaled::beginning::open` meets its contract.
 -- Assumes nothing.
 use Rattle.journaled.proofs.Stored.{begun-by}
-use borrow.Author.Rules.{rules}
 use Rattle.journaled.proofs.beginning.open.Goals as goal
 
 pub returns : goal.returns

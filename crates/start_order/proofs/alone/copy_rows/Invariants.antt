@@ -1,11 +1,8 @@
 -- `start_order::alone::copy_rows` meets its contract.
 -- Assumes nothing.
 use Prim.Native.Nat.{◌-◌}
-use native.Mathlib.Omega.{arith}
-use mathlib.Core.Path.{sym, ◌∙◌}
 use Rattle.unit.specs.Rows.{row_count}
-use Rattle.start_order.proofs.Searching.{Copied, copied_more, copied_all}
-use borrow.Author.Rules.{rules}
+use Rattle.start_order.proofs.Searching.{Copied}
 use Rattle.start_order.proofs.alone.copy_rows.Given as goal
 
 abbrev pub invariant-loop-i : goal.invariant-loop-i

@@ -12,7 +12,6 @@ use Rattle.model.specs.declared.Profile.{Profile}
 use Rattle.start_order.specs.declared.wanted.Wanted.{Wanted}
 use Rattle.start_order.specs.Answers.{wanted, Fits, alone}
 use Rattle.start_order.proofs.Trying.{wanted-fits, tried-alone, taken_back}
-use borrow.Author.Rules.{rules}
 use Rattle.start_order.proofs.alone.is_alone.Goals as goal
 
 wants : (b : List ℕ) (p q : Profile) (v w : Wanted) → q ≡ p → v ≡ wanted q b → v ≡ w → wanted p b ≡ w

@@ -1,16 +1,7 @@
 -- `start_order::alone::list_alone` meets its contract.
 -- Assumes nothing.
-use Prim.Native.Nat.{ℕ, ◌-◌}
-use native.Mathlib.Omega.{arith}
-use mathlib.Core.Path.{◌≡◌, refl, ap, ap₂, ◌∙◌}
-use mathlib.Core.List.{List}
-use lib.ListN.{length, length-set}
-use Rattle.bits.specs.Bits.{bit}
-use Rattle.model.specs.Program.{pieces}
-use Rattle.unit.specs.Rows.{Rows, state_in}
-use Rattle.start_order.specs.Answers.{wanted, alone}
-use Rattle.start_order.proofs.Searching.{counted, Listing, listed_more}
-use borrow.Author.Rules.{rules}
+use Prim.Native.Nat.{◌-◌}
+use Rattle.start_order.proofs.Searching.{Listing}
 use Rattle.start_order.proofs.alone.list_alone.Given as goal
 
 abbrev pub invariant-loop-i : goal.invariant-loop-i

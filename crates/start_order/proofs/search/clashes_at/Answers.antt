@@ -1,18 +1,10 @@
 -- `start_order::search::clashes_at` meets its contract.
 -- Assumes nothing.
 use native.Mathlib.Omega.{arith}
-use mathlib.Core.Path.{sym, ap, ◌∙◌, subst}
-use mathlib.Core.Bool.{Bool, ◌&&◌}
-use mathlib.Core.List.{[]}
-use lib.ListN.{get_or}
-use Rattle.model.specs.Program.{pieces}
-use Rattle.unit.specs.Rows.{state_in}
+use mathlib.Core.Path.{sym, subst}
 use Rattle.turns.proofs.Runs.{length-pieces}
-use Rattle.model.specs.declared.Profile.{Profile}
-use Rattle.start_order.specs.Answers.{Fits, wanted, breaks}
+use Rattle.start_order.specs.Answers.{Fits}
 use Rattle.start_order.proofs.Trying.{wanted-fits}
-use Rattle.start_order.proofs.Searching.{listed-on, listed-off}
-use borrow.Author.Rules.{rules}
 use Rattle.start_order.proofs.search.clashes_at.Goals as goal
 
 pub wanted_at-requires : goal.wanted_at-requires

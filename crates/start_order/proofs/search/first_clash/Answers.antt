@@ -1,12 +1,8 @@
 -- `start_order::search::first_clash` meets its contract.
 -- Assumes nothing.
-use Prim.Native.Nat.{◌-◌, ◌≤◌}
-use native.Mathlib.Omega.{arith}
 use Rattle.model.specs.Program.{pieces}
 use Rattle.unit.specs.Rows.{state_in}
-use Rattle.start_order.proofs.First.{NoneBelow, none_more}
-use Rattle.start_order.proofs.Searching.{has_partner, partner-off, clash-found, clash-none}
-use borrow.Author.Rules.{rules}
+use Rattle.start_order.proofs.Searching.{clash-found, clash-none}
 use Rattle.start_order.proofs.search.first_clash.Goals as goal
 
 pub returns-then-j-count : goal.returns-then-j-count

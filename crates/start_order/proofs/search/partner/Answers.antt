@@ -1,6 +1,6 @@
 -- `start_order::search::partner` meets its contract.
 -- Assumes nothing.
-use Prim.Native.Nat.{ℕ, ◌-◌, ◌<◌, ◌≤◌}
+use Prim.Native.Nat.{ℕ, ◌<◌}
 use native.Mathlib.Omega.{arith}
 use mathlib.Core.Path.{◌≡◌, sym, ap, ◌∙◌, subst}
 use mathlib.Core.Bool.{Bool, true, ◌&&◌}
@@ -13,10 +13,9 @@ use Rattle.model.specs.declared.Monitor.{Monitor}
 use Rattle.model.specs.declared.Profile.{Profile}
 use Rattle.start_order.specs.declared.wanted.Wanted.{Wanted}
 use Rattle.start_order.specs.Answers.{Fits, wanted, alone, breaks}
-use Rattle.start_order.proofs.First.{NoneBelow, none_more, found_first, ended-first}
+use Rattle.start_order.proofs.First.{none_more, found_first, ended-first}
 use Rattle.start_order.proofs.Trying.{wanted-fits}
-use Rattle.start_order.proofs.Searching.{is_partner, listed-on, listed-off, refused_none, none_before, partner-at}
-use borrow.Author.Rules.{rules}
+use Rattle.start_order.proofs.Searching.{is_partner, listed-on, listed-off, refused_none, partner-at}
 use Rattle.start_order.proofs.search.partner.Goals as goal
 
 -- whether the piece at j is the partner, of what was found on the piece at i and on both

@@ -7,7 +7,6 @@ use Rattle.model.specs.Requests.{decode_fields, decode}
 use Rattle.decoding.specs.Word.{fields_of_word}
 use Rattle.decoding.proofs.Word.{fields-word}
 use Rattle.start_order.specs.Answers.{wanted_by, wanted}
-use borrow.Author.Rules.{rules}
 use Rattle.start_order.proofs.wanted.access_in.Goals as goal
 
 pub returns-then-b-ne6 : goal.returns-then-b-ne6

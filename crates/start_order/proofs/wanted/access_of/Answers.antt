@@ -5,7 +5,6 @@ use mathlib.Core.Bool.{Bool, ◌&&◌}
 use lib.Dec.{eqb}
 use Rattle.start_order.specs.declared.wanted.Wanted.TheVariants.{Access}
 use Rattle.start_order.proofs.Trying.{fields-get, fields-other}
-use borrow.Author.Rules.{rules}
 use Rattle.start_order.proofs.wanted.access_of.Goals as goal
 
 pub returns-then-well_formed-f : goal.returns-then-well_formed-f

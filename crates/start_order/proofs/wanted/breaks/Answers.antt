@@ -3,7 +3,6 @@
 use mathlib.Core.Path.{sym, ap, ap₂, ◌∙◌, subst}
 use mathlib.Core.Bool.{Bool, not, ◌&&◌}
 use lib.Dec.{eqb}
-use borrow.Author.Rules.{rules}
 use Rattle.model.specs.Companies.{wall_kept}
 use Rattle.model.specs.ModePairs.{entry, kept}
 use Rattle.unit.specs.Rows.{state_in}

@@ -1,7 +1,6 @@
 -- `start_order::wanted::is_access` meets its contract.
 -- Assumes nothing.
 use mathlib.Core.Path.{sym, ap}
-use borrow.Author.Rules.{rules}
 use Rattle.start_order.specs.Answers.{is_access}
 use Rattle.start_order.proofs.wanted.is_access.Goals as goal
 

@@ -4,7 +4,6 @@ use Prim.Native.Nat.{◌-◌, ◌*◌}
 use mathlib.Core.Path.{sym, ap, ◌∙◌}
 use lib.ListN.{take, drop}
 use Rattle.turns.proofs.Runs.{piece-at}
-use borrow.Author.Rules.{rules}
 use Rattle.start_order.proofs.wanted.piece.Goals as goal
 
 pub returns : goal.returns

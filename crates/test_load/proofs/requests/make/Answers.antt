@@ -1,6 +1,5 @@
 -- `test_load::requests::make` meets its contract.
 -- Assumes nothing.
-use borrow.Author.Rules.{rules}
 use Rattle.test_load.proofs.Draws.{seventh, made_of}
 use Rattle.test_load.proofs.requests.make.Goals as goal
 

@@ -1,0 +1,22 @@
+-- `numbers::order_number` meets its contract.
+-- Assumes nothing.
+use mathlib.Core.Path.{sym, ap}
+use Rattle.numbers.specs.Orders.{order_number}
+use borrow.Author.Rules.{rules}
+use Rattle.numbers.proofs.order_number.Goals as goal
+
+pub returns-in-Agree : goal.returns-in-Agree
+unfolding order_number
+returns-in-Agree c = sym (ap order_number c.in-Agree.is)
+
+pub returns-in-Clash : goal.returns-in-Clash
+unfolding order_number
+returns-in-Clash c = sym (ap order_number c.in-Clash.is)
+
+pub returns-in-NoGet : goal.returns-in-NoGet
+unfolding order_number
+returns-in-NoGet c = sym (ap order_number c.in-NoGet.is)
+
+pub returns-in-TooMany : goal.returns-in-TooMany
+unfolding order_number
+returns-in-TooMany c = sym (ap order_number c.in-TooMany.is)
