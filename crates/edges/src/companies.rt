@@ -3,6 +3,7 @@
 use crate::trial::{ask, create, get};
 use encoding::without_level;
 use model::Fields;
+use saying::Output;
 use unit::ROWS;
 
 // Company numbers set by an actor.
@@ -13,35 +14,35 @@ fn numbers(actor: u8, object: u8, needs: u16) -> Fields {
 }
 
 // Object 0 belongs to subject 0, and subjects 0, 1, 2 and 15 are enrolled.
-pub fn setting(one: [[u8; 16]; ROWS]) {
-    ask(one, numbers(0, 0, 65535)); // 0: any four numbers
-    ask(one, numbers(15, 0, 65535)); // 6: enrolled, but not the owner
-    ask(one, numbers(0, 1, 65535)); // 4: not live
-    ask(one, numbers(14, 1, 65535)); // 3: not enrolled
+pub fn setting(out: &mut Output, one: [[u8; 16]; ROWS]) {
+    ask(out, one, numbers(0, 0, 65535)); // 0: any four numbers
+    ask(out, one, numbers(15, 0, 65535)); // 6: enrolled, but not the owner
+    ask(out, one, numbers(0, 1, 65535)); // 4: not live
+    ask(out, one, numbers(14, 1, 65535)); // 3: not enrolled
     let mut with_class = numbers(0, 0, 1);
     with_class.class = 1;
-    ask(one, with_class); // 2: the class
+    ask(out, one, with_class); // 2: the class
     let mut with_other = numbers(0, 0, 1);
     with_other.other = 1;
-    ask(one, with_other); // 2: the other subject
+    ask(out, one, with_other); // 2: the other subject
     let mut with_mode = numbers(0, 0, 1);
     with_mode.mode = 4;
-    ask(one, with_mode); // 2: a mode
+    ask(out, one, with_mode); // 2: a mode
     let mut with_spare = numbers(0, 0, 1);
     with_spare.spare = 1;
-    ask(one, with_spare); // 2: spare
+    ask(out, one, with_spare); // 2: spare
 }
 
 // Subject 0 owns both objects, neither of which has a label, and has e on both; object 0 is of company 1 of the first class, 4096.
-pub fn wall(one: [[u8; 16]; ROWS]) {
-    let first = ask(one, numbers(0, 0, 4096)); // 0
-    ask(first, numbers(0, 0, 4096)); // 1: the same numbers
-    let two = create(first, 0, 1, 4); // 0
-    let held = get(two, 0, 0, 4); // 0: it holds nothing else
-    let competing = ask(held, numbers(0, 1, 8192)); // 0: company 2 of that class, and it holds nothing on object 1
-    get(competing, 0, 1, 4); // 18: e on company 1 and on company 2 of one class
-    let other_class = ask(held, numbers(0, 1, 512)); // 0: company 2 of the second class
-    let both = get(other_class, 0, 1, 4); // 0: in each class one of the two is 0
-    ask(both, numbers(0, 1, 8192)); // 18: it holds e on both
-    ask(both, numbers(0, 1, 4096)); // 0: the same company
+pub fn wall(out: &mut Output, one: [[u8; 16]; ROWS]) {
+    let first = ask(out, one, numbers(0, 0, 4096)); // 0
+    ask(out, first, numbers(0, 0, 4096)); // 1: the same numbers
+    let two = create(out, first, 0, 1, 4); // 0
+    let held = get(out, two, 0, 0, 4); // 0: it holds nothing else
+    let competing = ask(out, held, numbers(0, 1, 8192)); // 0: company 2 of that class, and it holds nothing on object 1
+    get(out, competing, 0, 1, 4); // 18: e on company 1 and on company 2 of one class
+    let other_class = ask(out, held, numbers(0, 1, 512)); // 0: company 2 of the second class
+    let both = get(out, other_class, 0, 1, 4); // 0: in each class one of the two is 0
+    ask(out, both, numbers(0, 1, 8192)); // 18: it holds e on both
+    ask(out, both, numbers(0, 1, 4096)); // 0: the same company
 }

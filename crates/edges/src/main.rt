@@ -8,21 +8,25 @@ mod parents;
 mod requests;
 mod trial;
 
+use saying::Output;
+use std::io;
 use unit::ROWS;
 
-fn main() {
+fn main(rt: HostRuntime) -> io::Result<()> {
+    let mut out = Output::new(rt.stdout());
     let table = saying::enrolment();
     let mut fresh = [[0u8; 16]; ROWS];
     image::start_widest(&mut fresh, &table[0..42]);
-    let one = requests::subjects(fresh);
-    requests::objects(fresh);
-    requests::modes(one);
-    requests::lengths(fresh);
-    let labelled = requests::kinds(one);
-    requests::unused(labelled);
-    requests::levels(labelled);
-    companies::setting(one);
-    companies::wall(one);
-    parents::creating(one);
-    parents::labelling(one);
+    let one = requests::subjects(&mut out, fresh);
+    requests::objects(&mut out, fresh);
+    requests::modes(&mut out, one);
+    requests::lengths(&mut out, fresh);
+    let labelled = requests::kinds(&mut out, one);
+    requests::unused(&mut out, labelled);
+    requests::levels(&mut out, labelled);
+    companies::setting(&mut out, one);
+    companies::wall(&mut out, one);
+    parents::creating(&mut out, one);
+    parents::labelling(&mut out, one);
+    out.finish()
 }

@@ -3,6 +3,7 @@
 use crate::trial::{ask, ask_plain};
 use encoding::without_level;
 use model::Fields;
+use saying::Output;
 use unit::ROWS;
 
 // A create by subject 0, with the needs field.
@@ -20,32 +21,32 @@ fn label(object: u8, class: u8) -> Fields {
 }
 
 // Object 0 belongs to subject 0, and no other object is live.
-pub fn creating(one: [[u8; 16]; ROWS]) {
-    ask(one, create_under(1, 1)); // 0: under object 0
-    ask(one, create_under(1, 64)); // 19: object 63 is not live
-    ask(one, create_under(1, 65)); // 2: there is no object 64
-    ask(one, create_under(1, 65535)); // 2: the same
-    ask(one, create_under(1, 2)); // 19: under itself
-    ask(one, create_under(0, 1)); // 5: it is live, and that comes before its parent
-    ask(one, create_under(0, 64)); // 5: the same
+pub fn creating(out: &mut Output, one: [[u8; 16]; ROWS]) {
+    ask(out, one, create_under(1, 1)); // 0: under object 0
+    ask(out, one, create_under(1, 64)); // 19: object 63 is not live
+    ask(out, one, create_under(1, 65)); // 2: there is no object 64
+    ask(out, one, create_under(1, 65535)); // 2: the same
+    ask(out, one, create_under(1, 2)); // 19: under itself
+    ask(out, one, create_under(0, 1)); // 5: it is live, and that comes before its parent
+    ask(out, one, create_under(0, 64)); // 5: the same
     let mut with_class = create_under(1, 1);
     with_class.class = 1;
-    ask(one, with_class); // 2: the class
+    ask(out, one, with_class); // 2: the class
 }
 
 // Object 1 is under object 0, and object 2 under object 1.
-pub fn labelling(one: [[u8; 16]; ROWS]) {
-    let flat = ask(one, create_under(1, 1)); // 0
-    let meter = ask(flat, create_under(2, 2)); // 0
-    ask(meter, label(1, 0)); // 20: object 0 has no label
-    let riser = ask(meter, label(0, 1)); // 0: nothing is above it, and what is under it has no label
-    ask(riser, label(2, 1)); // 20: object 1 has no label
-    ask(riser, label(1, 0)); // 20: it does not dominate that of object 0
-    let both = ask(riser, label(1, 1)); // 0: the same dominates
-    ask(both, label(0, 2)); // 20: object 1 would not dominate it
-    ask(both, label(1, 2)); // 0: higher
-    ask(both, label(0, 1)); // 1: the same label
-    let gone = ask_plain(both, 6, 0, 0, 1, 0); // 0: object 1 goes, and object 2 with it
-    ask(gone, create_under(2, 0)); // 0: it is not live any more
-    ask(gone, create_under(0, 0)); // 5: object 0 is
+pub fn labelling(out: &mut Output, one: [[u8; 16]; ROWS]) {
+    let flat = ask(out, one, create_under(1, 1)); // 0
+    let meter = ask(out, flat, create_under(2, 2)); // 0
+    ask(out, meter, label(1, 0)); // 20: object 0 has no label
+    let riser = ask(out, meter, label(0, 1)); // 0: nothing is above it, and what is under it has no label
+    ask(out, riser, label(2, 1)); // 20: object 1 has no label
+    ask(out, riser, label(1, 0)); // 20: it does not dominate that of object 0
+    let both = ask(out, riser, label(1, 1)); // 0: the same dominates
+    ask(out, both, label(0, 2)); // 20: object 1 would not dominate it
+    ask(out, both, label(1, 2)); // 0: higher
+    ask(out, both, label(0, 1)); // 1: the same label
+    let gone = ask_plain(out, both, 6, 0, 0, 1, 0); // 0: object 1 goes, and object 2 with it
+    ask(out, gone, create_under(2, 0)); // 0: it is not live any more
+    ask(out, gone, create_under(0, 0)); // 5: object 0 is
 }

@@ -2,7 +2,7 @@
 // gives it, and why.
 ghost use Rattle.std.specs.Prelude.{◌≤◌, length};
 
-use saying::{answer, enrolment, say_bytes, say_set};
+use saying::{Output, answer, enrolment, say_bytes, say_set};
 use unit::ROWS;
 use writing::save;
 
@@ -17,52 +17,52 @@ fn turned(before: [u8; 1459], bit: usize) -> [u8; 1459] {
 }
 
 // The line up to its number.
-fn describe(words: &[u8], length: usize, bit: usize) {
-    say_bytes(words, length);
-    say_set(b", turned over bit ", bit as u64);
+fn describe(out: &mut Output, words: &str, length: usize, bit: usize) {
+    say_bytes(out, words, length);
+    say_set(out, ", turned over bit ", bit as u64);
 }
 
 // Reads so many bytes from the start of the table.
-fn table(length: usize, bit: usize)
+fn table(out: &mut Output, length: usize, bit: usize)
     requires { length ≤ 1459 }
 {
     let bytes = turned(enrolment(), bit);
-    describe(b"table of ", length, bit);
+    describe(out, "table of ", length, bit);
     let mut unit = [[0u8; 16]; ROWS];
-    answer(image::start_widest(&mut unit, &bytes[0..length]));
+    answer(out, image::start_widest(&mut unit, &bytes[0..length]));
 }
 
 // Tables of three lengths, and one with a bit in an absent record.
-pub fn tables() {
-    table(41, 0); // 10: another length
-    table(43, 0); // 10: another length
-    table(42, 294 + 20); // 11: the last bit of subject 14's record, 294 to 314; subject 14 is absent
-    table(42, 0); // 0
+pub fn tables(out: &mut Output) {
+    table(out, 41, 0); // 10: another length
+    table(out, 43, 0); // 10: another length
+    table(out, 42, 294 + 20); // 11: the last bit of subject 14's record, 294 to 314; subject 14 is absent
+    table(out, 42, 0); // 0
 }
 
 // Reads so many bytes from the start of the unit's image, which has a zero byte behind it.
-fn image(unit: &[[u8; 16]; ROWS], length: usize, bit: usize)
+fn image(out: &mut Output, unit: &[[u8; 16]; ROWS], length: usize, bit: usize)
     requires { length ≤ 1459 }
 {
     let mut written = [0u8; 1459];
     save(unit, &mut written);
     let bytes = turned(written, bit);
-    describe(b"image of ", length, bit);
+    describe(out, "image of ", length, bit);
     let mut opened = [[0u8; 16]; ROWS];
-    answer(image::open_widest(&mut opened, &bytes[0..length]));
+    answer(out, image::open_widest(&mut opened, &bytes[0..length]));
 }
 
 // Object 0 is live and owned by subject 0, and no other object is live.
-pub fn images(unit: &[[u8; 16]; ROWS]) {
-    image(unit, 1457, 0); // 10: another length
-    image(unit, 1458, 0); // 0: written and read back
-    image(unit, 1459, 0); // 10: another length
-    image(unit, 1458, 8 * 1458 - 1); // 11: the last bit of all is in the record of object 63, which is not live
-    image(unit, 1274, 0); // 10: the length of an image without company numbers
-    image(unit, 1402, 0); // 10: the length of an image without parents
-    image(unit, 1458, 336 + 26); // 0: the first bit of the company numbers of object 0, which nobody else holds: company 8 of the first class
-    image(unit, 1458, 336 + 177 + 26); // 11: the same of object 1, which is not live
-    image(unit, 1458, 336 + 1); // 12: the first owner bit, behind the live bit, of object 0: the owner becomes 8, who is absent
-    image(unit, 1458, 336 + 170); // 19: the first parent bit of object 0: its parent becomes object 63, which is not live
-    image(unit, 1458, 336 + 176); // 19: the last parent bit: its parent becomes object 0, which is itself
+pub fn images(out: &mut Output, unit: &[[u8; 16]; ROWS]) {
+    image(out, unit, 1457, 0); // 10: another length
+    image(out, unit, 1458, 0); // 0: written and read back
+    image(out, unit, 1459, 0); // 10: another length
+    image(out, unit, 1458, 8 * 1458 - 1); // 11: the last bit of all is in the record of object 63, which is not live
+    image(out, unit, 1274, 0); // 10: the length of an image without company numbers
+    image(out, unit, 1402, 0); // 10: the length of an image without parents
+    image(out, unit, 1458, 336 + 26); // 0: the first bit of the company numbers of object 0, which nobody else holds: company 8 of the first class
+    image(out, unit, 1458, 336 + 177 + 26); // 11: the same of object 1, which is not live
+    image(out, unit, 1458, 336 + 1); // 12: the first owner bit, behind the live bit, of object 0: the owner becomes 8, who is absent
+    image(out, unit, 1458, 336 + 170); // 19: the first parent bit of object 0: its parent becomes object 63, which is not live
+    image(out, unit, 1458, 336 + 176); // 19: the last parent bit: its parent becomes object 0, which is itself
 }

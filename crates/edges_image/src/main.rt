@@ -7,6 +7,8 @@ mod beginnings;
 mod buffers;
 
 use asking::ask;
+use saying::Output;
+use std::io;
 use unit::ROWS;
 
 // Subject 0 creates object 0 with e, labels it (0, 0000) and reads it.
@@ -16,12 +18,14 @@ fn read_one(unit: &mut [[u8; 16]; ROWS]) {
     ask(unit, &[0x10, 0x00, 0x01, 0x00, 0x00, 0x00]);
 }
 
-fn main() {
-    beginnings::tables();
+fn main(rt: HostRuntime) -> io::Result<()> {
+    let mut out = Output::new(rt.stdout());
+    beginnings::tables(&mut out);
     let table = saying::enrolment();
     let mut unit = [[0u8; 16]; ROWS];
     image::start_widest(&mut unit, &table[0..42]);
     read_one(&mut unit);
-    beginnings::images(&unit);
-    buffers::buffers(&unit);
+    beginnings::images(&mut out, &unit);
+    buffers::buffers(&mut out, &unit);
+    out.finish()
 }

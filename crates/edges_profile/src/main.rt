@@ -8,24 +8,28 @@ mod requests;
 mod tables;
 
 use profiles::site;
+use saying::Output;
+use std::io;
 use unit::ROWS;
 
-fn main() {
-    ranges::ranges();
-    io::write_all(1, b"under subjects 4, objects 10, class 3, needs 3\n");
-    tables::tables();
+fn main(rt: HostRuntime) -> io::Result<()> {
+    let mut out = Output::new(rt.stdout());
+    ranges::ranges(&mut out);
+    print!(out; "under subjects 4, objects 10, class 3, needs 3\n");
+    tables::tables(&mut out);
     // subject 0 has class 3 and the needs 0 and 1, subject 3 class 0 and no needs
     let table = tables::with_bytes(0x98, 0x18, 0x01, 0);
     let mut fresh = [[0u8; 16]; ROWS];
     image::start(&mut fresh, site(4, 10, 3, 3), &table);
-    requests::creates(fresh);
+    requests::creates(&mut out, fresh);
     asking::ask(&mut fresh, &[0x50, 0, 0, 0, 0, 0]); // subject 0 creates object 0
-    requests::others(fresh);
-    requests::levels(fresh);
-    requests::companies(fresh);
-    requests::parents(fresh);
-    io::write_all(1, b"after a table that was refused there\n");
+    requests::others(&mut out, fresh);
+    requests::levels(&mut out, fresh);
+    requests::companies(&mut out, fresh);
+    requests::parents(&mut out, fresh);
+    print!(out; "after a table that was refused there\n");
     let mut empty = [[0u8; 16]; ROWS];
     image::start(&mut empty, site(4, 10, 3, 3), &[0u8; 41]);
-    requests::refused(empty);
+    requests::refused(&mut out, empty);
+    out.finish()
 }

@@ -5,7 +5,7 @@ ghost use Rattle.edges_profile.specs.Tables.{with_bytes};
 
 use model::Profile;
 use profiles::site;
-use saying::answer;
+use saying::{Output, answer};
 use unit::ROWS;
 
 // A table whose bytes are 0 but for these. Subject 0's record is bits 0 to 20: enrolled and the class are 80 and 8 for each class in
@@ -23,30 +23,30 @@ pub fn with_bytes(byte0: u8, byte2: u8, byte7: u8, byte10: u8) -> [u8; 42]
 }
 
 // Begins from a table under a profile, and ends the line.
-pub fn start(profile: Profile, table: &[u8]) {
+pub fn start(out: &mut Output, profile: Profile, table: &[u8]) {
     let mut unit = [[0u8; 16]; ROWS];
-    answer(image::start(&mut unit, profile, table));
+    answer(out, image::start(&mut unit, profile, table));
 }
 
 // Begins from such a table.
-fn begin(words: &[u8], byte0: u8, byte2: u8, byte7: u8, byte10: u8) {
-    io::write_all(1, b"table, ");
-    io::write_all(1, words);
+fn begin(out: &mut Output, words: &str, byte0: u8, byte2: u8, byte7: u8, byte10: u8) {
+    print!(out; "table, {words}");
     let table = with_bytes(byte0, byte2, byte7, byte10);
-    start(site(4, 10, 3, 3), &table);
+    start(out, site(4, 10, 3, 3), &table);
 }
 
 // Subjects, classes and needs: the last that is inside and the first that is not. Then two causes at once: 16 is checked after 11.
-pub fn tables() {
-    begin(b"subject 3 enrolled", 0, 0, 0x01, 0); // 0: the last of 4 subjects
-    begin(b"subject 4 enrolled", 0, 0, 0, 0x08); // 11: a bit in a record beyond the profile
-    begin(b"subject 0 with class 3", 0x98, 0, 0, 0); // 0: the highest class
-    begin(b"subject 0 with class 4", 0xa0, 0, 0, 0); // 16: a class above it
-    begin(b"subject 0 with need 1", 0x80, 0x10, 0, 0); // 0: a need in use
-    begin(b"subject 0 with need 2", 0x80, 0x20, 0, 0); // 16: a need that is not in use
-    begin(b"subject 0 with class 4, bit 22", 0xa0, 0x02, 0, 0); // 11: a bit in the record of subject 1, who is absent; 16 later
+pub fn tables(out: &mut Output) {
+    begin(out, "subject 3 enrolled", 0, 0, 0x01, 0); // 0: the last of 4 subjects
+    begin(out, "subject 4 enrolled", 0, 0, 0, 0x08); // 11: a bit in a record beyond the profile
+    begin(out, "subject 0 with class 3", 0x98, 0, 0, 0); // 0: the highest class
+    begin(out, "subject 0 with class 4", 0xa0, 0, 0, 0); // 16: a class above it
+    begin(out, "subject 0 with need 1", 0x80, 0x10, 0, 0); // 0: a need in use
+    begin(out, "subject 0 with need 2", 0x80, 0x20, 0, 0); // 16: a need that is not in use
+    begin(out, "subject 0 with class 4, bit 22", 0xa0, 0x02, 0, 0); // 11: a bit in the record of subject 1, who is absent; 16 later
     begin(
-        b"subject 0 with class 4, subject 4 enrolled",
+        out,
+        "subject 0 with class 4, subject 4 enrolled",
         0xa0,
         0,
         0,

@@ -1,0 +1,36 @@
+-- The bytes that a read gave stand behind those that are there already.
+use Rattle.std.proofs.Common.{◌≡◌, ℕ, ◌+◌, ◌-◌, ◌≤◌, List, ◌++◌, rules, arith, length, take, slice_range, sym, ap, ◌∙◌, subst, le_refl, drop_at, length-take-le}
+use Rattle.std.proofs.lemmas.Slice.{take-put_mid_below}
+use Rattle.std.specs.Io.KnownBytes.{Consumes}
+use Rattle.std.proofs.KnownBytes.{Consumes-trans}
+use borrow.Rule.Slice.PartMut.{put_mid, post_of}
+use lib.Seq.{take-add, take-append-le}
+use Rattle.circmon.proofs.fill.Goals as goal
+
+-- the first a bytes, which are as before, and then those from a to b
+take-split : (a b : ℕ) (old new : List ℕ) → a ≤ b → take a new ≡ take a old → take a old ++ slice_range new a b ≡ take b new
+take-split a b old new h front =
+    let same : a + (b - a) ≡ b = omega arith in
+    ap (λ l. l ++ slice_range new a b) (sym front) ∙ sym (take-add a (b - a) new) ∙ ap (λ n. take n new) same
+
+-- of what was put at a, the first n
+slice_range-put_mid : (a k n : ℕ) (xs ys : List ℕ) → a ≤ length xs → n ≤ length ys → slice_range (put_mid a k xs ys) a (a + n) ≡ take n ys
+slice_range-put_mid a k n xs ys within fits =
+    let same : (a + n) - a ≡ n = omega arith in
+    let after = post_of a k xs in
+    ap (take ((a + n) - a)) (drop_at (take a xs) (ys ++ after) a (length-take-le a xs within)) ∙ ap (λ m. take m (ys ++ after)) same ∙ take-append-le n ys after fits
+
+pub loop-count-preserved : goal.loop-count-preserved
+loop-count-preserved g c =
+    let from = c.loop-count.count in
+    let room = length c.loop-count.buffer - from in
+    let n = c.in_ok-more.more in
+    let within = c.loop-count.invariant.within in
+    let now = put_mid from room c.loop-count.buffer c.read.new.buf in
+    let part = slice_range-put_mid from room n c.loop-count.buffer c.read.new.buf within c.in_ok-more.ensures.bound.0 in
+    let joined = take-split from (from + n) c.loop-count.buffer now (omega arith) (take-put_mid_below _ _ _ _ _ (le_refl _) within) in
+    record {
+      same_length = search rules;
+      within = search rules;
+      bytes = subst (Consumes _ _) (ap (λ l. take from c.loop-count.buffer ++ l) (sym part) ∙ joined) (Consumes-trans _ _ _ _ _ c.loop-count.invariant.bytes c.in_ok-more.ensures.bytes.0);
+    }
