@@ -1,5 +1,5 @@
 //! Proves and builds the static library (`tools/library`) and has a copy of it linked. The copy stands in a folder of
-//! cargo's: `rt ci` removes the archive in target/ of the repository, and cargo would not know that it is to be built again.
+//! cargo's: who removes the archive in target/ of the repository does not tell cargo that it is to be built again.
 
 use std::fs;
 use std::io;
@@ -15,8 +15,9 @@ fn main() {
     }
     let root = folder("CARGO_MANIFEST_DIR").join("../..");
     let copy = folder("OUT_DIR").join(ARCHIVE);
-    for part in ["crates", "crates.txt", "toolchain.txt", "tools"] {
-        println!("cargo:rerun-if-changed={}", root.join(part).display());
+    let parts = ["crates.txt", "toolchain.txt", "tools"].map(|part| root.join(part));
+    for place in sources(&root.join("crates")).expect("the crates can be listed").iter().chain(&parts) {
+        println!("cargo:rerun-if-changed={}", place.display());
     }
     println!("cargo:rerun-if-changed={}", copy.display());
     if let Err(error) = built(&root).and_then(|()| copied(&root.join("target/staticlib").join(ARCHIVE), &copy)) {
@@ -31,6 +32,16 @@ fn main() {
 fn linting() -> bool {
     let wrapper = std::env::var_os("RUSTC_WORKSPACE_WRAPPER").map(PathBuf::from);
     wrapper.is_some_and(|it| it.file_stem().is_some_and(|name| name == "clippy-driver"))
+}
+
+/// The folders of the crates with what is proved. What `rt` keeps beside them, in out/, changes with each proof.
+fn sources(crates: &Path) -> io::Result<Vec<PathBuf>> {
+    let mut found = vec![];
+    for entry in fs::read_dir(crates)? {
+        let folder = entry?.path();
+        found.extend(["src", "specs", "proofs"].map(|part| folder.join(part)).into_iter().filter(|it| it.is_dir()));
+    }
+    Ok(found)
 }
 
 /// A folder that cargo names to build scripts.

@@ -62,7 +62,7 @@ A profile has no bytes, and circmon runs under the widest one, which a script wi
 another is not written. Nor is one with 'take back': taking back is no request and has no bytes.
 
 Example: circtool asm examples/marked-run.circ | target/bin/circmon
-('rt check circmon', in the root of the repository, proves and builds the program circmon.)
+('tools/program circmon', in the root of the repository, proves and builds the program circmon.)
 
 Exit status: 0 fine; 2 usage, a file that cannot be read, or errors in the script, each with its line and column.
 ";

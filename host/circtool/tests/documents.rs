@@ -49,7 +49,7 @@ fn commands(text: &str) -> Vec<Shown> {
 
 /// Commands in indented lines, without the comment behind them.
 fn indented_commands(text: &str) -> Vec<&str> {
-    let programs = ["./", ".ci/", "rt ", "cargo ", "cc ", "cd ", "circtool ", "target/"];
+    let programs = ["./", ".ci/", "tools/", "rt ", "cargo ", "cc ", "cd ", "circtool ", "target/"];
     let lines = text.lines().filter_map(|line| line.strip_prefix("    "));
     let commands = lines.filter(|line| programs.iter().any(|program| line.starts_with(program)));
     commands.map(|line| line.split(" #").next().unwrap_or(line).trim_end()).collect()
@@ -112,7 +112,7 @@ fn every_document_in_a_fresh_clone() {
     documents.sort();
     for document in documents {
         // who begins with this page has the command, and nothing else that was built
-        clone.without_target();
+        clone.without_built();
         shown += check(&format!("docs/{}", document.to_str().unwrap()), &clone);
     }
     assert!(shown >= 30, "README.md and docs/ show {shown} commands");

@@ -1,90 +1,195 @@
-//! `./circtool`, from anywhere, and `tools/library` below it: what is said while the library is proved, where a proof fails,
-//! and where a program or the pinned toolchain is missing. Here `rt` is a script that prints what a test wants.
+//! `./circtool`, from anywhere, and `tools/library` and `tools/program` below it: what is said while the library is proved, where
+//! a proof fails, and where a program or the pinned toolchain is missing. Here `rt` is a script that prints what a test wants.
 
 mod shared;
 
 use shared::clone::script;
-use shared::{ended, err, folder, out, root, shell};
+use shared::{apart, ended, err, out, root, shell, Apart};
 use std::fs;
 use std::os::unix::fs::symlink;
 use std::path::{Path, PathBuf};
 use std::process::{Command, Output, Stdio};
 
-/// A folder with the scripts and with four crates, on three of which `capi` stands.
-fn scene(name: &str) -> PathBuf {
-    let folder = folder(name);
+/// A folder with the scripts, with four crates, three of which are `capi` and those that it stands on, and the program `show`.
+fn scene(name: &str) -> Apart {
+    let folder = apart(name);
     fs::create_dir(folder.join("tools")).unwrap();
     fs::create_dir(folder.join("programs")).unwrap();
-    for file in ["circtool", "toolchain.txt", "tools/library", "tools/toolchain.sh"] {
+    for file in ["circtool", "toolchain.txt", "tools/library", "tools/program", "tools/toolchain.sh"] {
         script(&folder.join(file), &fs::read_to_string(root().join(file)).unwrap());
     }
-    fs::write(folder.join("crates.txt"), "# crates\nlow:\nmiddle: low\nother: low\ncapi: middle low\nside: other\n")
-        .unwrap();
+    let crates = "# crates\nlow:\nmiddle: low\nother: low\ncapi staticlib: middle low # side\nside: other\nshow: low\n";
+    fs::write(folder.join("crates.txt"), crates).unwrap();
+    for part in ["capi/src", "low/src", "show/src"] {
+        fs::create_dir_all(folder.join("crates").join(part)).unwrap();
+    }
+    fs::write(folder.join("crates/show/src/main.rt"), "").unwrap();
     folder
 }
 
 /// Writes `rt`, which answers its words by these lines of the shell.
-fn toolchain(folder: &Path, check: &str, staticlib: &str) {
+fn toolchain(folder: &Path, all: &str, lib: &str) {
+    answers(folder, &format!("all) {all} ;;\nlib) {lib} ;;"));
+}
+
+/// The same, by branches of the shell for its first word.
+fn answers(folder: &Path, branches: &str) {
     let version = fs::read_to_string(folder.join("toolchain.txt")).unwrap();
-    let text = format!(
-        "#!/usr/bin/env bash\ncase $1 in\nversion) echo '{}' ;;\ncheck) {check} ;;\nstaticlib) {staticlib} ;;\nesac\n",
-        version.trim_end()
-    );
+    let text =
+        format!("#!/usr/bin/env bash\ncase $1 in\nversion) echo '{}' ;;\n{branches}\nesac\n", version.trim_end());
     script(&folder.join("programs/rt"), &text);
 }
 
 /// Calls a program of the scene with its programs first on the path.
 fn call(folder: &Path, program: &str) -> Output {
+    call_with(folder, program, &[])
+}
+
+fn call_with(folder: &Path, program: &str, words: &[&str]) -> Output {
     let path = format!("{}:{}", folder.join("programs").display(), std::env::var("PATH").unwrap());
     let mut command = Command::new(folder.join(program));
-    command.env("PATH", path).current_dir("/").stdin(Stdio::null()).output().unwrap()
+    command.args(words).env("PATH", path).current_dir("/").stdin(Stdio::null()).output().unwrap()
 }
+
+/// What `rt` prints for a library that is proved.
+const LOW_PROVED: &str =
+    "echo '== low'; echo 'fn low::f: proved'; echo 'statements core: modules loaded=9 checked=0'; \
+     echo 'crate low: modules loaded=0 checked=40'; echo 'logic=proved functions=1 sum=00'";
+/// `rt lib`, which writes the archive.
+const ARCHIVE: &str = "mkdir -p out && echo archive > out/libcapi.a";
 
 #[test]
 fn each_crate_that_is_proved_is_counted() {
     let folder = scene("progress");
-    let check = "shift; echo \"$*\" > asked; echo 'fn low::f: proved'; echo 'rt: low proved (8 s)'; echo 'struct middle::S: proved'; \
-                 echo 'rt: middle proved (unchanged since it was last proved)'; echo 'rt: ok, 2 crates proved'";
-    toolchain(&folder, check, "pwd");
+    let all = format!(
+        "pwd >> asked; echo \"${{*%%[0-9]*}}\" >> asked; mkdir -p ../middle/out/rlib; touch ../middle/out/rlib/stamp; \
+         echo 'logic /kit: libraries=16'; echo 'only=0 proved=0'; {LOW_PROVED}; echo '== middle'; \
+         echo 'rt: middle: begins with what a check kept in /other/crates/middle'; echo '== capi'; \
+         echo 'checked capi::f, 1 of 1'; echo 'fn capi::f: proved'; echo 'logic=proved functions=1 sum=00'; \
+         echo '== summary'; echo 'low: ok'; echo 'middle: ok'; echo 'capi: ok'; echo '3 of 3 crates ok'"
+    );
+    toolchain(&folder, &all, &format!("pwd; {ARCHIVE}"));
     let output = call(&folder, "tools/library");
     ended(&output, 0);
     assert_eq!(
         err(&output),
         "circmon: proving the library, 3 crates; the first time this takes some minutes\n\
-         circmon: proved 1 of 3, 2 left: low (8 s)\n\
+         circmon: proved 1 of 3, 2 left: low\n\
          circmon: proved 2 of 3, 1 left: middle (unchanged since it was last proved)\n\
          circmon: proving the last of 3, capi, and building target/staticlib/libcapi.a\n"
     );
     assert_eq!(out(&output), "");
-    assert_eq!(fs::read_to_string(folder.join("asked")).unwrap(), "low middle\n");
+    let asked = fs::read_to_string(folder.join("crates/capi/asked")).unwrap();
+    assert_eq!(asked, format!("{}\nall check --jobs \n", folder.join("crates/capi").display()));
+    assert_eq!(fs::read_to_string(folder.join("target/staticlib/libcapi.a")).unwrap(), "archive\n");
 }
 
 #[test]
 fn a_failed_proof_shows_what_rt_said() {
     let folder = scene("failed-proof");
-    let check = "echo 'fn low::f: proved'; echo 'rt: low proved (8 s)'; echo 'error: fn middle::g: not proved'; \
-                 echo '  the goal is 1 < 0' >&2; echo 'rt: middle NOT PROVED (exit 1, 3 s)'; echo 'rt: FAILED: middle'; exit 1";
-    toolchain(&folder, check, "true");
+    fs::create_dir_all(folder.join("target/staticlib")).unwrap();
+    fs::write(folder.join("target/staticlib/libcapi.a"), "earlier\n").unwrap();
+    let all = format!(
+        "{LOW_PROVED}; echo '== middle'; echo 'rt: chose --jobs 2 for middle'; echo 'error: fn middle::g: not proved'; \
+         echo '  the goal is 1 < 0' >&2; echo 'fn middle::h: proved'; echo 'crate middle: modules loaded=0 checked=4'; \
+         echo 'logic=not-proved'; echo '== summary'; echo 'low: ok'; echo 'middle: failed (1)'; \
+         echo 'capi: not run, since middle failed'; echo '1 of 3 crates ok'; exit 1"
+    );
+    toolchain(&folder, &all, ARCHIVE);
     let output = call(&folder, "tools/library");
     ended(&output, 1);
     let said = err(&output);
-    let (_, behind) = said.split_once("circmon: proved 1 of 3, 2 left: low (8 s)\n").unwrap();
+    let (_, behind) = said.split_once("circmon: proved 1 of 3, 2 left: low\n").unwrap();
     assert_eq!(
         behind,
-        "error: fn middle::g: not proved\n  the goal is 1 < 0\nrt: middle NOT PROVED (exit 1, 3 s)\nrt: FAILED: middle\n\
-         circmon: 'rt check' failed: the library is not proved\n"
+        "== middle\nerror: fn middle::g: not proved\n  the goal is 1 < 0\nlogic=not-proved\n\
+         == summary\nmiddle: failed (1)\ncapi: not run, since middle failed\n1 of 3 crates ok\n\
+         circmon: 'rt all check' in crates/capi failed: the library is not proved\n"
     );
     toolchain(&folder, "true", "echo 'error: fn capi::f: not proved'; exit 1");
     let output = call(&folder, "tools/library");
     ended(&output, 1);
-    let end = "error: fn capi::f: not proved\ncircmon: 'rt staticlib capi' failed: the library is not proved\n";
+    let end = "error: fn capi::f: not proved\ncircmon: 'rt lib' in crates/capi failed: the library is not proved\n";
     assert!(err(&output).ends_with(end), "{}", err(&output));
+    // what was built before is still there
+    assert_eq!(fs::read_to_string(folder.join("target/staticlib/libcapi.a")).unwrap(), "earlier\n");
+    assert_eq!(fs::read_dir(folder.join("target/staticlib")).unwrap().count(), 1);
+}
+
+#[test]
+fn a_library_whose_check_was_killed_is_not_counted() {
+    let folder = scene("killed");
+    let all = format!(
+        "{LOW_PROVED}; echo '== middle'; echo '== summary'; echo 'low: ok'; echo 'middle: failed (-9)'; \
+         echo '1 of 3 crates ok'; exit 1"
+    );
+    toolchain(&folder, &all, ARCHIVE);
+    let output = call(&folder, "tools/library");
+    ended(&output, 1);
+    let said = err(&output);
+    let (_, behind) = said.split_once("circmon: proved 1 of 3, 2 left: low\n").unwrap();
+    assert_eq!(
+        behind,
+        "== summary\nmiddle: failed (-9)\n1 of 3 crates ok\n\
+         circmon: 'rt all check' in crates/capi failed: the library is not proved\n"
+    );
+}
+
+#[test]
+fn a_program_is_proved_and_then_copied() {
+    let folder = scene("program");
+    let built = folder.join("target/bin/show");
+    fs::write(folder.join("crates/show/stdin"), "its input\n").unwrap();
+    let run = |remark: &str, line: &str| format!("run) {remark}; mkdir -p out; cat > out/given; {line} ;;");
+    let running = "echo 'rt: running out/show; to give it other input, run that file yourself' >&2; echo 12";
+    answers(&folder, &run("echo 'fn show::main: proved' >&2", &format!("echo one > out/show; {running}")));
+    let output = call_with(&folder, "tools/program", &["show"]);
+    ended(&output, 0);
+    assert_eq!((out(&output), err(&output)), (String::new(), String::new()));
+    assert_eq!(fs::read_to_string(folder.join("crates/show/out/given")).unwrap(), "its input\n");
+    assert_eq!(fs::read_to_string(&built).unwrap(), "one\n");
+    let not_proved = "echo two > out/show; echo 'fn show::main: not proved' >&2; exit 1";
+    answers(&folder, &run("echo 'fn show::f: proved' >&2", not_proved));
+    let output = call_with(&folder, "tools/program", &["show"]);
+    ended(&output, 1);
+    let said = "fn show::main: not proved\ncircmon: 'rt run' in crates/show failed: the program is not proved\n";
+    assert_eq!((out(&output), err(&output)), (String::new(), said.to_string()));
+    answers(&folder, &run("true", &format!("echo three > out/show; {running}; exit 3")));
+    let output = call_with(&folder, "tools/program", &["show"]);
+    ended(&output, 1);
+    let end = "circmon: 'rt run' in crates/show failed: the program is proved, and ended with status 3\n";
+    assert!(err(&output).ends_with(end), "{}", err(&output));
+    // what was built before is still there
+    assert_eq!(fs::read_to_string(&built).unwrap(), "one\n");
+    assert_eq!(fs::read_dir(folder.join("target/bin")).unwrap().count(), 1);
+}
+
+#[test]
+fn what_is_no_program_is_named() {
+    let folder = scene("no-program");
+    answers(&folder, "*) touch asked ;;");
+    let usage = "circmon: usage: tools/program NAME, the name of a program in crates.txt\n";
+    let low = "circmon: there is no program low: crates/low/src/main.rt is not there\n";
+    let none = "circmon: there is no program none: crates/none/src/main.rt is not there\n";
+    for (words, said) in [
+        (&[][..], usage),
+        (&["show", "show"], usage),
+        (&["../show"], usage),
+        (&[""], usage),
+        (&["low"], low),
+        (&["none"], none),
+    ] {
+        let output = call_with(&folder, "tools/program", words);
+        ended(&output, 2);
+        assert_eq!((out(&output), err(&output)), (String::new(), said.to_string()), "{words:?}");
+    }
+    assert!(!folder.join("asked").exists() && !folder.join("target").exists());
 }
 
 #[test]
 fn another_version_of_the_toolchain_is_a_warning_that_names_both() {
     let folder = scene("version");
-    toolchain(&folder, "true", "true");
+    toolchain(&folder, "true", ARCHIVE);
     assert!(!err(&call(&folder, "tools/library")).contains("warning"));
     fs::write(folder.join("toolchain.txt"), "kit-0 logic 00\n").unwrap();
     let output = call(&folder, "tools/library");
@@ -131,7 +236,7 @@ fn a_missing_program_is_one_line_each() {
 
 #[test]
 fn the_command_runs_through_links_with_cdpath_and_from_any_folder() {
-    let folder = folder("from-anywhere");
+    let folder = apart("from-anywhere");
     let command = root().join("circtool");
     symlink(&command, folder.join("link")).unwrap();
     symlink("link", folder.join("second")).unwrap();

@@ -2,7 +2,7 @@
 
 mod shared;
 
-use shared::{circtool, ended, err, folder, out, shell};
+use shared::{apart, circtool, ended, err, folder, out, shell};
 use std::fs;
 use std::os::unix::fs::{symlink, FileTypeExt, PermissionsExt};
 use std::path::Path;
@@ -39,7 +39,7 @@ fn a_full_disk_leaves_the_image_that_was_there() {
 
 #[test]
 fn links_permissions_and_pipes_are_kept() {
-    let folder = folder("kept-place");
+    let folder = apart("kept-place");
     let (image, link) = (folder.join("a.img"), folder.join("link.img"));
     fs::write(&image, "old").unwrap();
     fs::set_permissions(&image, fs::Permissions::from_mode(0o640)).unwrap();
@@ -59,7 +59,7 @@ fn links_permissions_and_pipes_are_kept() {
 
 #[test]
 fn the_input_is_recognised_by_every_name_and_as_standard_input() {
-    let folder = folder("input-itself");
+    let folder = apart("input-itself");
     let script = folder.join("a.circ");
     fs::write(&script, SCRIPT).unwrap();
     fs::hard_link(&script, folder.join("hard.circ")).unwrap();

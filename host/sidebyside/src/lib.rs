@@ -230,16 +230,10 @@ pub fn rows_with_subjects(random: &mut Random) -> Rows {
 pub fn program() -> &'static Path {
     static PROGRAM: OnceLock<PathBuf> = OnceLock::new();
     PROGRAM.get_or_init(|| {
-        let target = root().join("target");
-        let binary = target.join("bin/circmon");
-        if !binary.exists() {
-            // rt takes a program that it has proved for up to date, and does not look whether it is still there
-            let _ = std::fs::remove_file(target.join("stamp/circmon"));
-        }
-        let output =
-            Command::new("rt").args(["check", "circmon"]).current_dir(root()).output().expect("rt is on the path");
-        assert!(output.status.success(), "rt check circmon: {}", String::from_utf8_lossy(&output.stdout));
-        binary
+        let mut command = Command::new(root().join("tools/program"));
+        let output = command.arg("circmon").stdin(Stdio::null()).output().expect("a script of the repository");
+        assert!(output.status.success(), "tools/program circmon: {}", String::from_utf8_lossy(&output.stderr));
+        root().join("target/bin/circmon")
     })
 }
 

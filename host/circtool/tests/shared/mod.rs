@@ -10,6 +10,7 @@ use circtool::wall::{Breach, Rule};
 use load::{Random, Shape};
 use reference::Monitor;
 use sidebyside::fed;
+use std::ops::Deref;
 use std::path::{Path, PathBuf};
 use std::process::{Command, Output};
 
@@ -21,6 +22,31 @@ pub fn folder(name: &str) -> PathBuf {
     let _ = std::fs::remove_dir_all(&folder);
     std::fs::create_dir_all(&folder).unwrap();
     folder
+}
+
+/// A folder outside the repository, which is removed in the end. `rt` stops at links in the repository, and at files by whose
+/// names it would take a folder below for a repository.
+pub struct Apart(PathBuf);
+
+/// A folder of its own for one test, empty and outside the repository.
+pub fn apart(name: &str) -> Apart {
+    let folder = std::env::temp_dir().join(format!("circmon-{name}-{}", std::process::id())).join(name);
+    std::fs::create_dir_all(&folder).unwrap();
+    Apart(folder)
+}
+
+impl Deref for Apart {
+    type Target = Path;
+
+    fn deref(&self) -> &Path {
+        &self.0
+    }
+}
+
+impl Drop for Apart {
+    fn drop(&mut self) {
+        let _ = std::fs::remove_dir_all(self.0.parent().unwrap());
+    }
 }
 
 pub fn examples() -> Vec<PathBuf> {
