@@ -1,9 +1,7 @@
 -- `capi::circmon_begin` meets its contract.
 -- Assumes nothing.
-use mathlib.Core.Path.{sym, ap, ◌∙◌}
-use Rattle.model.specs.Decisions.{refuses}
+use mathlib.Core.Path.{sym, ◌∙◌}
 use Rattle.capi.proofs.Boundary.{begin-refused, begin-written}
-use borrow.Author.Rules.{rules}
 use Rattle.capi.proofs.circmon_begin.Goals as goal
 
 pub returns-then-refuses : goal.returns-then-refuses

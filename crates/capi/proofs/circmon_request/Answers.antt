@@ -1,10 +1,7 @@
 -- `capi::circmon_request` meets its contract.
 -- Assumes nothing.
 use mathlib.Core.Path.{sym, ◌∙◌}
-use native.Mathlib.Omega.{arith}
-use Rattle.model.proofs.Decisions.{number_small}
 use Rattle.capi.proofs.Boundary.{request-refused, request-carried}
-use borrow.Author.Rules.{rules}
 use Rattle.capi.proofs.circmon_request.Goals as goal
 
 pub returns-then-refuses : goal.returns-then-refuses

@@ -5,7 +5,6 @@ use Rattle.model.specs.Program.{pieces}
 use Rattle.journaled.proofs.Parts.{monitor-says}
 use Rattle.start_order.specs.Answers.{start_order}
 use Rattle.numbers.specs.Orders.{order_number}
-use borrow.Author.Rules.{rules}
 use Rattle.capi.proofs.clash.circmon_clash.Goals as goal
 
 pub returns : goal.returns

@@ -3,10 +3,9 @@
 use mathlib.Core.Path.{sym, ap, ◌∙◌}
 use Rattle.model.specs.declared.Profile.{Profile}
 use Rattle.model.specs.Profiles.{profile_fits}
-use Rattle.model.proofs.Tests.{not_on, not-off, cond-true, cond-false}
+use Rattle.model.proofs.Tests.{cond-true, cond-false}
 use Rattle.images_apart.specs.Apart.{distinguish_number, distinguish_bytes}
 use Rattle.capi.specs.SiteAnswers.{apart_number, apart_bytes}
-use borrow.Author.Rules.{rules}
 use Rattle.capi.proofs.sites.circmon_distinguish_in.Goals as goal
 
 pub returns-then-not-fits : goal.returns-then-not-fits

@@ -5,7 +5,6 @@ use Rattle.model.specs.declared.Monitor.{Monitor}
 use Rattle.model.specs.Decisions.{number}
 use Rattle.page.specs.Page.{paging, paged}
 use Rattle.journaled.proofs.Parts.{monitor-says}
-use borrow.Author.Rules.{rules}
 use Rattle.capi.proofs.units.circmon_page.Goals as goal
 
 pub returns : goal.returns

@@ -5,7 +5,6 @@ use Rattle.model.specs.declared.Monitor.{Monitor}
 use Rattle.model.specs.Decisions.{number}
 use Rattle.model.specs.Writing.{written}
 use Rattle.journaled.proofs.Parts.{monitor-says}
-use borrow.Author.Rules.{rules}
 use Rattle.capi.proofs.units.circmon_save.Goals as goal
 
 pub returns : goal.returns
