@@ -1,11 +1,10 @@
 -- A rehearsal ends as change request §12 says, in as many rounds as it says, and its monitor is that after the flat list of requests presented.
 -- Assumes nothing.
-use Prim.Native.Nat.{ℕ, zero, suc, ◌+◌, ◌<◌, ◌≤◌}
+use Prim.Native.Nat.{ℕ, zero, suc, ◌<◌, ◌≤◌}
 use native.Mathlib.Omega.{arith}
 use mathlib.Core.Path.{◌≡◌, refl, sym, ap, ◌∙◌, subst}
-use mathlib.Core.Logic.{◌⊎◌, inl, inr, ⊎_elim, ◌↔◌, ◌≢◌}
-use mathlib.Core.Bool.{Bool, true, false, cond}
-use mathlib.Core.List.{List, [], ◌∷◌, ◌++◌}
+use mathlib.Core.Logic.{⊎_elim, ◌↔◌, ◌≢◌}
+use mathlib.Core.List.{List, [], ◌∷◌}
 use lib.Dec.{eqb}
 use borrow.Author.Tests.{eqb-true, eqb-false, eq-eqb, ne_eqb}
 use Rattle.model.specs.declared.Monitor.{Monitor}
@@ -15,7 +14,6 @@ use Rattle.model.specs.Layout.{image_of}
 use Rattle.model.proofs.Tests.{split, cond-true, cond-false}
 use Rattle.model.proofs.Lists.{after-append}
 use Rattle.orders.specs.Sums.{sum_over}
-use Rattle.orders.specs.Orders.{Each}
 use Rattle.images.proofs.Reached.{reached-after}
 use Rattle.task_list.specs.declared.Task.{Task}
 use Rattle.rehearsal.specs.Rounds.{presented, round_monitor, round_tasks, work_left, Rehearsal, ended, after_round, rounds_of, rehearsal}

@@ -1,5 +1,3 @@
 -- Theorems on rehearsals.
 pub mod Turns
 pub mod Ending
-pub mod Actors
-pub mod Refusals

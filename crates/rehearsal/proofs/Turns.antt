@@ -1,17 +1,16 @@
 -- The turn of a task and a round: the monitor after them, and how much work is left.
 -- Assumes nothing.
-use Prim.Native.Nat.{ℕ, zero, suc, ◌+◌, ◌-◌, ◌<◌, ◌≤◌}
+use Prim.Native.Nat.{ℕ, suc, ◌-◌, ◌<◌}
 use native.Mathlib.Omega.{arith}
 use mathlib.Core.Path.{◌≡◌, refl, sym, ap, ap₂, ◌∙◌}
 use mathlib.Core.Logic.{◌⊎◌, inl, inr, ⊎_elim}
-use mathlib.Core.Bool.{Bool, true, false, cond, ◌||◌}
-use mathlib.Core.List.{List, [], ◌∷◌, ◌++◌}
-use lib.ListN.{length}
+use mathlib.Core.Bool.{true, false}
+use mathlib.Core.List.{List, [], ◌∷◌}
 use lib.Dec.{eqb, ltb}
-use borrow.Author.Tests.{ltb-true, ltb-false, lt-ltb, eqb-true}
+use borrow.Author.Tests.{ltb-true, lt-ltb, eqb-true}
 use Rattle.model.specs.declared.Monitor.{Monitor}
-use Rattle.model.specs.Runs.{respond, reply, after}
-use Rattle.model.proofs.Tests.{split, apart, cond-true, cond-false, or_cases}
+use Rattle.model.specs.Runs.{reply, after}
+use Rattle.model.proofs.Tests.{split, cond-true, cond-false, or_cases}
 use Rattle.model.proofs.Lists.{after-append}
 use Rattle.orders.specs.Sums.{sum_over}
 use Rattle.effects.proofs.Demand2.{refusal-leaves-state}

@@ -1,6 +1,6 @@
 -- How a rehearsal goes, once more and without a bound on its rounds, in the words of change request §12.
 -- Assumes nothing.
-use Rattle.std.specs.Prelude.{ℕ, suc, ◌≡◌, ◌≢◌, List}
+use Rattle.std.specs.Prelude.{ℕ, ◌≡◌, ◌≢◌, List}
 use Rattle.model.specs.declared.Monitor.{Monitor}
 use Rattle.orders.specs.Orders.{Each}
 use Rattle.task_list.specs.declared.Task.{Task}

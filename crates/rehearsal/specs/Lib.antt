@@ -1,6 +1,3 @@
--- Rehearsal of a plant (change request §12): rounds, what is refused and what the lent buffer holds; how a rehearsal goes, without a bound on its
--- rounds; and the causes of a refusal.
+-- Rehearsal of a plant (change request §12): rounds, and how a rehearsal goes, without a bound on its rounds.
 pub mod Rounds
-pub mod Rehearsing
 pub mod Course
-pub mod Causes

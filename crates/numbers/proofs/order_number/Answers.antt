@@ -2,7 +2,6 @@
 -- Assumes nothing.
 use mathlib.Core.Path.{sym, ap}
 use Rattle.numbers.specs.Orders.{order_number}
-use borrow.Author.Rules.{rules}
 use Rattle.numbers.proofs.order_number.Goals as goal
 
 pub returns-in-Agree : goal.returns-in-Agree
