@@ -1,4 +1,4 @@
-/* circmon: a Bell-LaPadula reference monitor, for C11 and C++11. Link with libcapi.a, which `rt staticlib capi` writes to
+/* circmon: a Bell-LaPadula reference monitor, for C11 and C++11. Link with libcapi.a, which `tools/library` writes to
  * target/staticlib.
  *
  * Each function is proved to meet its contract for every content of every buffer, where a pointer comes with the length of
