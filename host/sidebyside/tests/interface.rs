@@ -90,12 +90,12 @@ fn bits_in_rust(before: &str, behind: &str) -> Option<Option<u8>> {
     before.ends_with("pub fn ").then(|| returned(behind, ';'))
 }
 
-/// `#[no_mangle] pub extern "C" fn circmon_read(..) -> u8 `
+/// `#[unsafe(no_mangle)] pub extern "C" fn circmon_read(..) -> u8 `
 fn bits_in_rattle(before: &str, behind: &str) -> Option<Option<u8>> {
     before.ends_with(EXPORTED).then(|| returned(behind, ' '))
 }
 
-const EXPORTED: &str = "#[no_mangle] pub extern \"C\" fn ";
+const EXPORTED: &str = "#[unsafe(no_mangle)] pub extern \"C\" fn ";
 
 /// ` -> u8`, and then this character.
 fn returned(behind: &str, end: char) -> Option<u8> {
@@ -172,7 +172,7 @@ fn library() -> Functions {
     for entry in std::fs::read_dir(folder).unwrap().map(Result::unwrap) {
         let text = plain(&std::fs::read_to_string(entry.path()).unwrap(), &[("//", "\n")]);
         let exported = text.matches(&format!("{EXPORTED}circmon_")).count();
-        assert_eq!(text.matches("#[no_mangle]").count(), exported);
+        assert_eq!(text.matches("no_mangle").count(), exported);
         functions.extend(declared(&text, bits_in_rattle, in_rattle));
     }
     functions

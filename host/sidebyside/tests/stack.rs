@@ -20,9 +20,11 @@ fn documented() -> Rows {
     rows.map(|(name, bytes)| (name.replace('`', ""), bytes.replace(',', "").parse().unwrap())).collect()
 }
 
+/// Functions of the C library are bound when the program starts: bound at the first call, they would need stack of the loader's there.
+const WORDS: [&str; 3] = ["-O1", "-pthread", "-Wl,-z,now"];
+
 fn measured() -> Rows {
-    let output =
-        Command::new(compiled_here("stack", env!("CARGO_TARGET_TMPDIR"), &["-O1", "-pthread"])).output().unwrap();
+    let output = Command::new(compiled_here("stack", env!("CARGO_TARGET_TMPDIR"), &WORDS)).output().unwrap();
     let text = String::from_utf8(output.stdout).unwrap();
     println!("{text}");
     let row = |line: &str| {
