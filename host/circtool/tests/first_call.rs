@@ -63,7 +63,8 @@ fn each_crate_that_is_proved_is_counted() {
     let folder = scene("progress");
     let all = format!(
         "pwd >> asked; echo \"${{*%%[0-9]*}}\" >> asked; mkdir -p ../middle/out/rlib; touch ../middle/out/rlib/stamp; \
-         echo 'logic /kit: libraries=16'; echo 'only=0 proved=0'; {LOW_PROVED}; echo '== middle'; \
+         echo 'rt: waiting for another rt to finish in /crates/low' >&2; echo 'logic /kit: libraries=16'; \
+         echo 'only=0 proved=0'; {LOW_PROVED}; echo '== middle'; \
          echo 'rt: middle: begins with what a check kept in /other/crates/middle'; echo '== capi'; \
          echo 'checked capi::f, 1 of 1'; echo 'fn capi::f: proved'; echo 'logic=proved functions=1 sum=00'; \
          echo '== summary'; echo 'low: ok'; echo 'middle: ok'; echo 'capi: ok'; echo '3 of 3 crates ok'"
@@ -74,6 +75,7 @@ fn each_crate_that_is_proved_is_counted() {
     assert_eq!(
         err(&output),
         "circmon: proving the library, 3 crates; the first time this takes some minutes\n\
+         circmon: waiting for another rt to finish in /crates/low\n\
          circmon: proved 1 of 3, 2 left: low\n\
          circmon: proved 2 of 3, 1 left: middle (unchanged since it was last proved)\n\
          circmon: proving the last of 3, capi, and building target/staticlib/libcapi.a\n"
