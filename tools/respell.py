@@ -1,7 +1,7 @@
 #!/usr/bin/env python3
 """Brings the names of definitions and lemmas to Rattle's spelling: words in snake case, a capital only where a fact or a type is named.
 
-usage: python3 tools/respell.py [--names]     at the top of the repository, once, after /opt/rattle/port/port.py
+usage: python3 tools/respell.py [--names]     at the top of the repository, once, after the kit's port.py
 
 Functions of src/, exported names, strings, inputs and outputs keep their names. Written are:
 - every name that begins small and has a capital inside (stateIn, toBits-join): state_in, to_bits-join;

@@ -86,6 +86,16 @@ fn each_crate_that_is_proved_is_counted() {
     assert_eq!(fs::read_to_string(folder.join("target/staticlib/libcapi.a")).unwrap(), "archive\n");
 }
 
+/// What `tools/library` says behind the first crate that is proved, where `rt all` answers by this line and the library fails.
+fn said_behind_low(folder: &Path, all: &str) -> String {
+    toolchain(folder, all, ARCHIVE);
+    let output = call(folder, "tools/library");
+    ended(&output, 1);
+    let said = err(&output);
+    let (_, behind) = said.split_once("circmon: proved 1 of 3, 2 left: low\n").unwrap();
+    behind.to_string()
+}
+
 #[test]
 fn a_failed_proof_shows_what_rt_said() {
     let folder = scene("failed-proof");
@@ -97,13 +107,8 @@ fn a_failed_proof_shows_what_rt_said() {
          echo 'logic=not-proved'; echo '== summary'; echo 'low: ok'; echo 'middle: failed (1)'; \
          echo 'capi: not run, since middle failed'; echo '1 of 3 crates ok'; exit 1"
     );
-    toolchain(&folder, &all, ARCHIVE);
-    let output = call(&folder, "tools/library");
-    ended(&output, 1);
-    let said = err(&output);
-    let (_, behind) = said.split_once("circmon: proved 1 of 3, 2 left: low\n").unwrap();
     assert_eq!(
-        behind,
+        said_behind_low(&folder, &all),
         "== middle\nerror: fn middle::g: not proved\n  the goal is 1 < 0\nlogic=not-proved\n\
          == summary\nmiddle: failed (1)\ncapi: not run, since middle failed\n1 of 3 crates ok\n\
          circmon: 'rt all check' in crates/capi failed: the library is not proved\n"
@@ -125,13 +130,8 @@ fn a_library_whose_check_was_killed_is_not_counted() {
         "{LOW_PROVED}; echo '== middle'; echo '== summary'; echo 'low: ok'; echo 'middle: failed (-9)'; \
          echo '1 of 3 crates ok'; exit 1"
     );
-    toolchain(&folder, &all, ARCHIVE);
-    let output = call(&folder, "tools/library");
-    ended(&output, 1);
-    let said = err(&output);
-    let (_, behind) = said.split_once("circmon: proved 1 of 3, 2 left: low\n").unwrap();
     assert_eq!(
-        behind,
+        said_behind_low(&folder, &all),
         "== summary\nmiddle: failed (-9)\n1 of 3 crates ok\n\
          circmon: 'rt all check' in crates/capi failed: the library is not proved\n"
     );
