@@ -1,3 +1,4 @@
 -- Theorems on rehearsals.
 pub mod Turns
 pub mod Ending
+pub mod Actors

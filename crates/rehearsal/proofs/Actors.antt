@@ -1,19 +1,19 @@
 -- "A request is presented with its task's subject as actor": the five bits of the actor are replaced, and no other bit.
 -- Assumes nothing.
 use Prim.Native.Nat.{ℕ, ◌^◌, ◌<◌}
-use native.Mathlib.Omega.{arith}
 use mathlib.Core.Path.{◌≡◌, refl, sym, ap, ◌∙◌}
-use mathlib.Core.Bool.{Bool, cond}
+use mathlib.Core.Bool.{Bool}
 use mathlib.Core.List.{List, ◌++◌}
 use lib.ListN.{length, take, drop}
 use lib.Dec.{eqb}
 use borrow.Author.Tests.{eq-eqb}
 use Rattle.bits.specs.Bits.{Bytes, to_bits, bytes_to_bits}
+use Rattle.bits.specs.Laws.{bytes_to_bits-bits_to_bytes}
 use Rattle.model.specs.declared.Profile.{Profile}
 use Rattle.model.specs.declared.Fields.{Fields}
-use Rattle.model.specs.Requests.{request_size, actor_offset, actor_width, other_offset, fields, pack, packed_bits, decode_fields, decode}
+use Rattle.model.specs.Requests.{request_size, actor_width, fields, pack, packed_bits, decode_fields, decode}
 use Rattle.model.proofs.Tests.{cond-true}
-use Rattle.model.proofs.Packing.{FieldsFit, fields_fit, pack-length, pack-bytes, packed-bits, fields-packed, packed-fields}
+use Rattle.model.proofs.Packing.{fields_fit, pack-length, pack-bytes, fields-packed, packed-fields}
 use Rattle.rehearsal.specs.Rounds.{acted_by, with_actor}
 
 pub acted-length : (s : ℕ) (b : List ℕ) → length (with_actor s b) ≡ request_size
@@ -61,7 +61,8 @@ acted-twice s t b h = ap (λ (f : Fields). pack (acted_by s f)) (fields-acted t 
 -- "kind 4 bits, actor 5": bits 4 to 8 are the subject, and every bit before and behind them is that of the request
 pub other-bits-left : (s : ℕ) (b : List ℕ) → Bytes b → length b ≡ request_size
     → bytes_to_bits (with_actor s b) ≡ take 4 (bytes_to_bits b) ++ (to_bits 5 s ++ drop 9 (bytes_to_bits b))
-unfolding with_actor to_bits
+unfolding with_actor pack to_bits
 other-bits-left s b hb e =
-    let row : packed_bits (fields b) ≡ bytes_to_bits b = sym (packed-bits (fields b)) ∙ ap bytes_to_bits (packed-fields b hb e) in
-    packed-bits (acted_by s (fields b)) ∙ ap (λ (l : List Bool). take 4 l ++ (to_bits 5 s ++ drop 9 l)) row
+    let packed = λ (f : Fields). bytes_to_bits-bits_to_bytes 6 (packed_bits f) refl in
+    let row : packed_bits (fields b) ≡ bytes_to_bits b = sym (packed (fields b)) ∙ ap bytes_to_bits (packed-fields b hb e) in
+    packed (acted_by s (fields b)) ∙ ap (λ (l : List Bool). take 4 l ++ (to_bits 5 s ++ drop 9 l)) row
