@@ -2,21 +2,16 @@
 
 #![tactic(auto)]
 
-ghost use Rattle.std.specs.Prelude.{◌≡◌, ◌&&◌};
-ghost use Rattle.model.specs.Tests.{implies, unless};
+ghost use Rattle.std.specs.Prelude.{◌≡◌, ◌&&◌, cond};
+ghost use Rattle.model.specs.Tests.{implies};
 ghost use Rattle.model.specs.Levels.{subset, at_least, answered, compare, equal_or_above, dominates, present, same_label};
-ghost use Rattle.model.specs.Decisions.{number, refuses};
+ghost use Rattle.model.specs.Decisions.{checked_number};
+ghost use Rattle.model.specs.declared.Decision.TheVariants.{Already, Granted};
 ghost use Rattle.model.specs.Rules.{not_lowered};
 
 use model::{Comparison, Decision, Label, Level};
 
 // ---- tests
-
-pub fn both(a: bool, b: bool) -> bool
-    ensures { result ≡ (a && b) }
-{
-    a & b
-}
 
 pub fn implies(a: bool, b: bool) -> bool
     ensures { result ≡ implies a b }
@@ -24,11 +19,11 @@ pub fn implies(a: bool, b: bool) -> bool
     !a | b
 }
 
-// A check that fails gives its answer; where it passes, what the later checks gave stands.
-pub fn check(passes: bool, d: Decision, later: Decision) -> Decision
-    ensures { result ≡ unless passes d later }
+// A check that fails refuses with its answer.
+pub fn ensure(passes: bool, d: Decision) -> Result<(), Decision>
+    ensures { result ≡ cond passes (Ok tt) (Err d) }
 {
-    if passes { later } else { d }
+    if passes { Ok(()) } else { Err(d) }
 }
 
 // ---- labels
@@ -74,84 +69,58 @@ pub fn compare(a: Level, b: Level) -> Comparison
 fn equal_or_above(c: Comparison) -> bool
     ensures { result ≡ equal_or_above c }
 {
-    match c {
-        Comparison::Equal => true,
-        Comparison::Above => true,
-        Comparison::Below => false,
-        Comparison::Apart => false,
-    }
+    matches!(c, Comparison::Equal | Comparison::Above)
 }
 
 pub fn dominates(a: Label, b: Label) -> bool
     ensures { result ≡ dominates a b }
 {
-    match a {
-        Label::Absent => false,
-        Label::Present(x) => match b {
-            Label::Absent => false,
-            Label::Present(y) => equal_or_above(compare(x, y)),
-        },
+    match (a, b) {
+        (Some(x), Some(y)) => equal_or_above(compare(x, y)),
+        _ => false,
     }
 }
 
+// An absent label is not class 0 without needs.
 pub fn is_present(l: Label) -> bool
     ensures { result ≡ present l }
 {
-    match l {
-        Label::Absent => false, // not class 0 without needs
-        Label::Present(_) => true,
-    }
+    l.is_some()
 }
 
 // The label is there and is the level v.
 pub fn is_level(l: Label, v: Level) -> bool
-    ensures { result ≡ same_label l (Label.Present v) }
+    ensures { result ≡ same_label l (Some v) }
 {
-    match l {
-        Label::Absent => false,
-        Label::Present(x) => (x.class == v.class) & (x.needs == v.needs),
-    }
+    l == Some(v)
 }
 
 // Whether the level may follow the label of an object: it dominates the label, or there is none yet.
 pub fn not_lowered(old: Label, new: Level) -> bool
-    ensures { result ≡ not_lowered old (Label.Present new) }
+    ensures { result ≡ not_lowered old (Some new) }
 {
-    implies(is_present(old), dominates(Label::Present(new), old))
+    implies(is_present(old), dominates(Some(new), old))
 }
 
 // ---- answers
 
-pub fn number(d: Decision) -> u8
-    ensures { result ≡ number d }
+// The answer where nothing was refused: whether the state was so already.
+pub fn done(was_so: bool) -> Decision
+    ensures { result ≡ cond was_so Already Granted }
 {
-    match d {
-        Decision::Granted => 0,
-        Decision::Already => 1,
-        Decision::MalformedRequest => 2,
-        Decision::NotEnrolled => 3,
-        Decision::NotLive => 4,
-        Decision::AlreadyLive => 5,
-        Decision::NoRight => 6,
-        Decision::NoLabel => 7,
-        Decision::SimpleBroken => 8,
-        Decision::StarBroken => 9,
-        Decision::WrongLength => 10,
-        Decision::StrayBits => 11,
-        Decision::AbsentSubject => 12,
-        Decision::ShortBuffer => 13,
-        Decision::LabelLowered => 14,
-        Decision::ZeroSeed => 15,
-        Decision::OutsideProfile => 16,
-        Decision::EmptyJournal => 17,
-        Decision::WallBroken => 18,
-        Decision::ParentNotLive => 19,
-        Decision::HierarchyBroken => 20,
+    if was_so {
+        Decision::Already
+    } else {
+        Decision::Granted
     }
 }
 
-pub fn refuses(d: Decision) -> bool
-    ensures { result ≡ refuses d }
+// The number of an answer: 0 where nothing was refused.
+pub fn number(answer: Result<(), Decision>) -> u8
+    ensures { result ≡ checked_number answer }
 {
-    2 <= number(d)
+    match answer {
+        Ok(()) => 0,
+        Err(d) => u8::from(d),
+    }
 }

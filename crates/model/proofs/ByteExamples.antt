@@ -7,11 +7,10 @@ use mathlib.Core.List.{List, [], ◌∷◌, map}
 use lib.ListN.{take}
 use Rattle.bits.specs.Bits.{odd, to_bits, from_bits, bytes_to_bits, field, cut}
 use Rattle.model.specs.declared.Level.{Level}
-use Rattle.model.specs.declared.Label.TheVariants.{Present}
+use Rattle.std.specs.Prelude.{Some}
 use Rattle.model.specs.declared.Object.{Object}
 use Rattle.model.specs.declared.Mode.TheVariants.{Read, Write, Append, Execute}
 use Rattle.model.specs.declared.Request.TheVariants.{Get, Release, Give, Rescind, Create, Delete, ChangeLevel, SetCompanies}
-use Rattle.model.specs.declared.Decoded.TheVariants.{Says}
 use Rattle.model.specs.Tests.{implies}
 use Rattle.model.specs.Levels.{need}
 use Rattle.model.specs.State.{widest, no_object, with_owner, with_label, with_companies, with_parent, with_rows}
@@ -43,7 +42,7 @@ pub every-kind : map (decode widest)
     ∷ (0x72 ∷ 0x81 ∷ 0x50 ∷ 0xB1 ∷ 0x23 ∷ 0x40 ∷ [])
     ∷ (0x82 ∷ 0x81 ∷ 0x50 ∷ 0x01 ∷ 0x23 ∷ 0x40 ∷ [])
     ∷ [])
-    ≡ map Says
+    ≡ map Some
     (Get 5 0 Read
     ∷ Release 5 42 Write
     ∷ Give 5 9 42 Append
@@ -74,7 +73,7 @@ every-size = (refl, refl, refl, refl, refl, refl)
 -- 15 has r, a and e and holds e; object 41 is its parent
 abbrev trace : Object
 trace =
-    with_owner (with_parent (with_rows (with_companies (with_label no_object (Present (level 9 0x1234))) 0x50C3)
+    with_owner (with_parent (with_rows (with_companies (with_label no_object (Some (level 9 0x1234))) 0x50C3)
     (12 ∷ 6 ∷ 0 ∷ 0 ∷ 0 ∷ 15 ∷ 0 ∷ 0 ∷ 0 ∷ 0 ∷ 0 ∷ 0 ∷ 0 ∷ 0 ∷ 0 ∷ 11 ∷ [])
     (8 ∷ 2 ∷ 0 ∷ 0 ∷ 0 ∷ 4 ∷ 0 ∷ 0 ∷ 0 ∷ 0 ∷ 0 ∷ 0 ∷ 0 ∷ 0 ∷ 0 ∷ 1 ∷ [])) 42) 5
 

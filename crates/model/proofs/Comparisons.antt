@@ -8,11 +8,10 @@ use mathlib.Core.List.{[], ◌∷◌, map}
 use lib.ListN.{replicate}
 use lib.Dec.{leb}
 use Rattle.model.specs.declared.Level.{Level}
-use Rattle.model.specs.declared.Label.{Label}
-use Rattle.model.specs.declared.Label.TheVariants.{Absent, Present}
+use Rattle.model.specs.Levels.{Label, LevelDominates, subset, at_least, answered, compare, equal_or_above, level_dominates, dominates}
+use Rattle.std.specs.Prelude.{Some, None}
 use Rattle.model.specs.declared.Comparison.{Comparison}
 use Rattle.model.specs.declared.Comparison.TheVariants.{Equal, Above, Below, Apart}
-use Rattle.model.specs.Levels.{LevelDominates, subset, at_least, answered, compare, equal_or_above, level_dominates, dominates}
 use Rattle.model.proofs.Tests.{split, apart}
 use Rattle.model.proofs.Levels.{answered-first, at-least-decides, at-least-refl, at-least-antisym, level-at-least}
 
@@ -99,7 +98,7 @@ module _ (a b : Level) where
 -- ---- "Every check that uses the comparison follows the new meaning"
 
 -- of two levels the test behind the checks passes exactly where the answer is equal or above
-pub dominates-by-answer : (a b : Level) → dominates (Present a) (Present b) ≡ equal_or_above (compare a b)
+pub dominates-by-answer : (a b : Level) → dominates (Some a) (Some b) ≡ equal_or_above (compare a b)
 unfolding dominates level_dominates
 dominates-by-answer a b = refl
 
@@ -110,16 +109,16 @@ abbrev level_before : Level → Level → Bool
 level_before a b = leb b.class a.class && subset 16 b.needs a.needs
 
 abbrev dominates_before : Label → Label → Bool
-dominates_before Absent b = false
-dominates_before (Present a) Absent = false
-dominates_before (Present a) (Present b) = level_before a b
+dominates_before None b = false
+dominates_before (Some a) None = false
+dominates_before (Some a) (Some b) = level_before a b
 
 -- the test behind the checks says of all labels what it said then
 pub dominates-as-before : (a b : Label) → dominates a b ≡ dominates_before a b
 unfolding dominates
-dominates-as-before Absent b = refl
-dominates-as-before (Present a) Absent = refl
-dominates-as-before (Present a) (Present b) = level-at-least a b
+dominates-as-before None b = refl
+dominates-as-before (Some a) None = refl
+dominates-as-before (Some a) (Some b) = level-at-least a b
 
 -- ---- the answers, computed
 

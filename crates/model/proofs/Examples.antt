@@ -5,15 +5,14 @@ use mathlib.Core.Path.{◌≡◌, refl}
 use mathlib.Core.Bool.{true, false}
 use mathlib.Core.List.{◌∷◌}
 use lib.ListN.{replicate}
-use Rattle.model.specs.declared.Label.{Label}
-use Rattle.model.specs.declared.Label.TheVariants.{Absent, Present}
+use Rattle.model.specs.Levels.{Label, dominates, level_dominates, compare}
+use Rattle.std.specs.Prelude.{Some, None}
 use Rattle.model.specs.declared.Object.{Object}
 use Rattle.model.specs.declared.Monitor.{Monitor}
 use Rattle.model.specs.declared.Mode.TheVariants.{Read, Write, Append, Execute}
 use Rattle.model.specs.declared.Request.TheVariants.{Get, Give, Rescind, Delete, ChangeLevel}
 use Rattle.model.specs.declared.Decision.TheVariants.{Granted, NotLive, NoRight, NoLabel, SimpleBroken}
 use Rattle.model.specs.Tests.{implies, unless}
-use Rattle.model.specs.Levels.{dominates, level_dominates, compare}
 use Rattle.model.specs.Modes.{has, add, remove}
 use Rattle.model.specs.Companies.{company, compatible, confined}
 use Rattle.model.specs.State.{no_object, nobody, object, rights_of, held_by, with_owner, with_label, with_rows, with_object, fresh, widest}
@@ -22,7 +21,7 @@ use Rattle.model.specs.Hierarchy.{parent_live, label_under, labels_rise}
 use Rattle.model.specs.Rules.{created, not_lowered, changed, checks, simple_all, star_pair, star_from, star_for, wall_pair, wall_from, wall_for}
 
 abbrev level : ℕ → ℕ → Label
-level class needs = Present (record { class = class; needs = needs })
+level class needs = Some (record { class = class; needs = needs })
 
 -- subject 0 has (1, 0001), subject 1 (3, 0003); object 0 belongs to subject 1, who has r, w, a and e on it; subject 0 has r and e
 abbrev state : Label → ℕ → ℕ → Monitor
@@ -35,11 +34,11 @@ abbrev low : ℕ → Object
 low held = with_rows (with_label (with_owner no_object 1) (level 0 0)) (replicate 16 15) (0 ∷ held ∷ replicate 14 0)
 
 -- an absent label is not class 0 with no needs: r, w and a are refused, e is not
-pub unlabelled-closed : (checks (Get 1 0 Read) (state Absent 0 0) ≡ NoLabel) × (checks (Get 1 0 Append) (state Absent 0 0) ≡ NoLabel)
+pub unlabelled-closed : (checks (Get 1 0 Read) (state None 0 0) ≡ NoLabel) × (checks (Get 1 0 Append) (state None 0 0) ≡ NoLabel)
 unfolding checks changed has add implies unless star_for star_from star_pair wall_for wall_from wall_pair compatible confined company dominates labels_rise label_under parent_live
 unlabelled-closed = (refl, refl)
 
-pub execute-needs-no-label : checks (Get 1 0 Execute) (state Absent 0 0) ≡ Granted
+pub execute-needs-no-label : checks (Get 1 0 Execute) (state None 0 0) ≡ Granted
 unfolding checks changed has add implies unless star_for star_from star_pair wall_for wall_from wall_pair compatible confined company dominates labels_rise label_under parent_live
 execute-needs-no-label = refl
 
@@ -54,9 +53,9 @@ unfolding checks changed has add implies unless star_for star_from star_pair wal
 apart-is-refused = (refl, refl)
 
 -- give and rescind need ownership and the right itself; the right alone, or ownership alone, is not enough
-pub give-needs-both : (checks (Give 0 1 0 Read) (state Absent 0 0) ≡ NoRight)
-    × (checks (Give 1 0 1 Execute) (with_object (state Absent 0 0) 1 (created 1 (creation false 0))) ≡ NoRight)
-    × (checks (Give 1 0 1 Read) (with_object (state Absent 0 0) 1 (created 1 (creation false 0))) ≡ Granted)
+pub give-needs-both : (checks (Give 0 1 0 Read) (state None 0 0) ≡ NoRight)
+    × (checks (Give 1 0 1 Execute) (with_object (state None 0 0) 1 (created 1 (creation false 0))) ≡ NoRight)
+    × (checks (Give 1 0 1 Read) (with_object (state None 0 0) 1 (created 1 (creation false 0))) ≡ Granted)
 unfolding checks has unless labels_rise label_under parent_live
 give-needs-both = (refl, refl, refl)
 
@@ -87,6 +86,6 @@ unfolding star_for star_from star_pair wall_for wall_from wall_pair compatible c
 star-one-way = (refl, refl)
 
 -- life comes before right, right before label
-pub checks-in-order : (checks (Get 0 1 Write) (state Absent 0 0) ≡ NotLive) × (checks (Get 0 0 Write) (state Absent 0 0) ≡ NoRight)
+pub checks-in-order : (checks (Get 0 1 Write) (state None 0 0) ≡ NotLive) × (checks (Get 0 0 Write) (state None 0 0) ≡ NoRight)
 unfolding checks changed has add implies unless star_for star_from star_pair wall_for wall_from wall_pair compatible confined company dominates labels_rise label_under parent_live
 checks-in-order = (refl, refl)

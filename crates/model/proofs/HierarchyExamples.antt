@@ -6,13 +6,11 @@ use mathlib.Core.Bool.{true, false}
 use mathlib.Core.List.{List, [], ◌∷◌, map}
 use lib.ListN.{set}
 use Rattle.bits.specs.Bits.{odd, to_bits, from_bits, bytes_to_bits, field}
-use Rattle.model.specs.declared.Label.{Label}
-use Rattle.model.specs.declared.Label.TheVariants.{Absent, Present}
+use Rattle.model.specs.Levels.{Label, compare, level_dominates, dominates}
+use Rattle.std.specs.Prelude.{Some, None}
 use Rattle.model.specs.declared.Object.{Object}
 use Rattle.model.specs.declared.Request.TheVariants.{Create, Delete}
-use Rattle.model.specs.declared.Decoded.TheVariants.{Malformed, Says}
 use Rattle.model.specs.Tests.{implies}
-use Rattle.model.specs.Levels.{compare, level_dominates, dominates}
 use Rattle.model.specs.State.{widest, no_object, with_owner, with_parent, with_label}
 use Rattle.model.specs.Profiles.{site}
 use Rattle.model.specs.Hierarchy.{meets, ends, below, without, without_below, has_child, parent_live, parents_hold, label_under, labels_rise}
@@ -84,7 +82,7 @@ parent_live-house = refl
 -- ---- 20
 
 abbrev class : ℕ → Label
-class c = Present (record { class = c; needs = 0 })
+class c = Some (record { class = c; needs = 0 })
 
 -- a parent with the first label and a child with the second
 abbrev family : Label → Label → List Object
@@ -92,9 +90,9 @@ family a b = with_label (under 0) a ∷ with_label (under 1) b ∷ []
 
 -- "A labelled child has a labelled parent whose label it dominates": the same, above, below; without a label there, and here
 pub labels-of-family : (labels_rise (family (class 1) (class 1)) ≡ true) × (labels_rise (family (class 1) (class 2)) ≡ true) × (labels_rise (family (class 2) (class 1)) ≡ false)
-    × (labels_rise (family Absent (class 0)) ≡ false) × (labels_rise (family (class 3) Absent) ≡ true) × (labels_rise (family Absent Absent) ≡ true)
-    × (labels_rise (family (class 1) (Present (record { class = 1; needs = 5 }))) ≡ true)
-    × (labels_rise (family (Present (record { class = 1; needs = 1 })) (class 15)) ≡ false)
+    × (labels_rise (family None (class 0)) ≡ false) × (labels_rise (family (class 3) None) ≡ true) × (labels_rise (family None None) ≡ true)
+    × (labels_rise (family (class 1) (Some (record { class = 1; needs = 5 }))) ≡ true)
+    × (labels_rise (family (Some (record { class = 1; needs = 1 })) (class 15)) ≡ false)
 unfolding labels_rise label_under implies dominates level_dominates compare
 labels-of-family = (refl, refl, refl, refl, refl, refl, refl, refl)
 
@@ -105,11 +103,11 @@ abbrev asks : ℕ → List ℕ
 asks n = 0x52 ∷ 0x80 ∷ 0x10 ∷ 0x00 ∷ n ∷ 0x00 ∷ []
 
 -- 64 and 80; under a profile with three objects and no need in use 0, 3 and 4; 65; and 16 in a delete, which has no parent
-pub parents-decoded : (decode widest (asks 4) ≡ Says (Create 5 2 (creation false 64))) × (decode widest (asks 5) ≡ Malformed)
-    × (decode (site 16 3 15 0) (0x52 ∷ 0x80 ∷ 0x10 ∷ 0x00 ∷ 0x00 ∷ 0x00 ∷ []) ≡ Says (Create 5 2 (creation false 0)))
-    × (decode (site 16 3 15 0) (0x52 ∷ 0x80 ∷ 0x10 ∷ 0x00 ∷ 0x00 ∷ 0x30 ∷ []) ≡ Says (Create 5 2 (creation false 3)))
-    × (decode (site 16 3 15 0) (0x52 ∷ 0x80 ∷ 0x10 ∷ 0x00 ∷ 0x00 ∷ 0x40 ∷ []) ≡ Malformed)
-    × (decode widest (0x52 ∷ 0x80 ∷ 0x10 ∷ 0x00 ∷ 0x04 ∷ 0x10 ∷ []) ≡ Malformed)
-    × (decode widest (0x62 ∷ 0x80 ∷ 0x10 ∷ 0x00 ∷ 0x01 ∷ 0x00 ∷ []) ≡ Malformed)
+pub parents-decoded : (decode widest (asks 4) ≡ Some (Create 5 2 (creation false 64))) × (decode widest (asks 5) ≡ None)
+    × (decode (site 16 3 15 0) (0x52 ∷ 0x80 ∷ 0x10 ∷ 0x00 ∷ 0x00 ∷ 0x00 ∷ []) ≡ Some (Create 5 2 (creation false 0)))
+    × (decode (site 16 3 15 0) (0x52 ∷ 0x80 ∷ 0x10 ∷ 0x00 ∷ 0x00 ∷ 0x30 ∷ []) ≡ Some (Create 5 2 (creation false 3)))
+    × (decode (site 16 3 15 0) (0x52 ∷ 0x80 ∷ 0x10 ∷ 0x00 ∷ 0x00 ∷ 0x40 ∷ []) ≡ None)
+    × (decode widest (0x52 ∷ 0x80 ∷ 0x10 ∷ 0x00 ∷ 0x04 ∷ 0x10 ∷ []) ≡ None)
+    × (decode widest (0x62 ∷ 0x80 ∷ 0x10 ∷ 0x00 ∷ 0x01 ∷ 0x00 ∷ []) ≡ None)
 unfolding decode decode_fields fields field bytes_to_bits to_bits odd from_bits well_formed fields_formed within mode_allowed unused_zero parent_within implies request
 parents-decoded = (refl, refl, refl, refl, refl, refl, refl)

@@ -8,7 +8,7 @@ use mathlib.Core.List.{List, [], ◌∷◌}
 use lib.ListN.{length, get_or, replicate, length-take}
 use lib.Seq.{get_or-take}
 use Rattle.bits.specs.Bits.{odd, to_bits, from_bits, bytes_to_bits, field}
-use Rattle.model.specs.declared.Label.TheVariants.{Present}
+use Rattle.std.specs.Prelude.{Some}
 use Rattle.model.specs.declared.Object.{Object}
 use Rattle.model.specs.Tests.{implies, unless}
 use Rattle.model.specs.Levels.{compare, level_dominates, dominates, same_label}
@@ -40,7 +40,7 @@ entered-earlier e d l i h = get_or-take 31 l i d h
 -- ---- a run: subject 1, with (3, 0003), creates object 1, labels it (0, 0000), and deletes it
 
 abbrev begun : Journaled
-begun = without_entries (fresh widest (nobody ∷ record { clearance = Present (record { class = 3; needs = 3 }) } ∷ replicate 14 nobody))
+begun = without_entries (fresh widest (nobody ∷ record { clearance = Some (record { class = 3; needs = 3 }) } ∷ replicate 14 nobody))
 
 abbrev create : Act
 create = asks (0x50 ∷ 0x80 ∷ 0x08 ∷ 0 ∷ 0 ∷ 0 ∷ [])
@@ -56,7 +56,7 @@ abbrev new : Object
 new = created 1 (creation false 0)
 
 abbrev labelled : Object
-labelled = with_label new (Present (record { class = 0; needs = 0 }))
+labelled = with_label new (Some (record { class = 0; needs = 0 }))
 
 abbrev about : Object → Entry
 about ob = record { place = 1; was = ob }

@@ -11,9 +11,8 @@ use lib.Pow.{shr-shr}
 use borrow.Author.Tests.{le-leb, leb-true, eqb-true, eq-eqb}
 use Rattle.bits.specs.Bits.{odd}
 use Rattle.model.specs.declared.Level.{Level}
-use Rattle.model.specs.declared.Label.{Label}
-use Rattle.model.specs.declared.Label.TheVariants.{Absent, Present}
-use Rattle.model.specs.Levels.{need, LevelDominates, Dominates, subset, at_least, answered, compare, equal_or_above, level_dominates, dominates, present, same_label}
+use Rattle.model.specs.Levels.{Label, need, LevelDominates, Dominates, subset, at_least, answered, compare, equal_or_above, level_dominates, dominates, present, same_label}
+use Rattle.std.specs.Prelude.{Some, None}
 use Rattle.model.proofs.Tests.{and_left, and_right, and_both, clash}
 
 -- ---- the test over needs
@@ -85,9 +84,9 @@ level-decides a b = (
 -- the test that the checks use decides what the scope says
 pub dominates-decides : (a b : Label) → (dominates a b ≡ true) ↔ Dominates a b
 unfolding dominates Dominates
-dominates-decides Absent b = (λ e. clash (sym e), λ d. absurd d)
-dominates-decides (Present a) Absent = (λ e. clash (sym e), λ d. absurd d)
-dominates-decides (Present a) (Present b) = level-decides a b
+dominates-decides None b = (λ e. clash (sym e), λ d. absurd d)
+dominates-decides (Some a) None = (λ e. clash (sym e), λ d. absurd d)
+dominates-decides (Some a) (Some b) = level-decides a b
 
 -- ---- the order of levels
 
@@ -102,22 +101,22 @@ pub level-refl : (a : Level) → level_dominates a a ≡ true
 level-refl a = level-at-least a a ∙ at-least-refl a
 
 -- what dominates is there, and what is there dominates itself
-pub dominates-refl : (a : Label) → a ≢ Absent → Dominates a a
+pub dominates-refl : (a : Label) → a ≢ None → Dominates a a
 unfolding Dominates
-dominates-refl Absent h = absurd (h refl)
-dominates-refl (Present a) h = record { class = omega arith; needs = λ k below n. n }
+dominates-refl None h = absurd (h refl)
+dominates-refl (Some a) h = record { class = omega arith; needs = λ k below n. n }
 
-pub dominates-there : (a b : Label) → Dominates a b → a ≢ Absent
+pub dominates-there : (a b : Label) → Dominates a b → a ≢ None
 unfolding Dominates
-dominates-there Absent b d e = d
-dominates-there (Present a) b d e = clash (ap present e)
+dominates-there None b d e = d
+dominates-there (Some a) b d e = clash (ap present e)
 
 pub dominates-trans : (a b c : Label) → Dominates a b → Dominates b c → Dominates a c
 unfolding Dominates
-dominates-trans Absent b c d e = d
-dominates-trans (Present x) Absent c d e = absurd d
-dominates-trans (Present x) (Present y) Absent d e = e
-dominates-trans (Present x) (Present y) (Present z) d e =
+dominates-trans None b c d e = d
+dominates-trans (Some x) None c d e = absurd d
+dominates-trans (Some x) (Some y) None d e = e
+dominates-trans (Some x) (Some y) (Some z) d e =
     record { class = omega (arith, d.class, e.class); needs = λ k below n. d.needs k below (e.needs k below n) }
 
 subset-antisym : (k n j : ℕ) → n < 2 ^ k → j < 2 ^ k → subset k n j ≡ true → subset k j n ≡ true → n ≡ j
@@ -144,23 +143,23 @@ at-least-antisym a b p q e f =
 
 pub same-label : (a b : Label) → same_label a b ≡ true → a ≡ b
 unfolding same_label
-same-label Absent Absent e = refl
-same-label Absent (Present b) e = clash (sym e)
-same-label (Present a) Absent e = clash (sym e)
-same-label (Present a) (Present b) e =
+same-label None None e = refl
+same-label None (Some b) e = clash (sym e)
+same-label (Some a) None e = clash (sym e)
+same-label (Some a) (Some b) e =
     let p : a.class ≡ b.class = eqb-true _ _ (and_left (eqb a.class b.class) _ e) in
     let q : a.needs ≡ b.needs = eqb-true _ _ (and_right (eqb a.class b.class) _ e) in
-    λ i. Present (record { class = p i; needs = q i })
+    λ i. Some (record { class = p i; needs = q i })
 
 itself : (a : Label) → same_label a a ≡ true
 unfolding same_label
-itself Absent = refl
-itself (Present a) = and_both (eq-eqb a.class a.class refl) (eq-eqb a.needs a.needs refl)
+itself None = refl
+itself (Some a) = and_both (eq-eqb a.class a.class refl) (eq-eqb a.needs a.needs refl)
 
 pub label_same : (a b : Label) → a ≡ b → same_label a b ≡ true
 label_same a b e = subst (λ (c : Label). same_label a c ≡ true) e (itself a)
 
 -- what is not there is absent
-pub absent : (l : Label) → present l ≡ false → l ≡ Absent
-absent Absent e = refl
-absent (Present v) e = clash e
+pub absent : (l : Label) → present l ≡ false → l ≡ None
+absent None e = refl
+absent (Some v) e = clash e

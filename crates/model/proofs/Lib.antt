@@ -2,6 +2,7 @@
 pub mod Tests
 pub mod Decisions
 pub mod Checks
+pub mod Checked
 pub mod Modes
 pub mod Levels
 pub mod Comparisons

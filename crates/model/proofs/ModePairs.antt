@@ -3,13 +3,12 @@
 use mathlib.Core.Path.{◌≡◌, refl, sym, ap₂, ◌∙◌}
 use mathlib.Core.Logic.{◌↔◌, ◌≢◌}
 use mathlib.Core.Bool.{Bool, true, false, ◌&&◌, ◌||◌, beq}
-use Rattle.model.specs.declared.Label.{Label}
-use Rattle.model.specs.declared.Label.TheVariants.{Absent, Present}
+use Rattle.model.specs.Levels.{Label, Dominates, compare, level_dominates, dominates}
+use Rattle.std.specs.Prelude.{Some, None}
 use Rattle.model.specs.declared.Mode.{Mode}
 use Rattle.model.specs.declared.Mode.TheVariants.{Read, Write, Append, Execute}
 use Rattle.model.specs.declared.Monitor.{Monitor}
 use Rattle.model.specs.Tests.{implies}
-use Rattle.model.specs.Levels.{Dominates, compare, level_dominates, dominates}
 use Rattle.model.specs.Modes.{observes, alters, needs_label}
 use Rattle.model.specs.Properties.{Star}
 use Rattle.model.specs.ModePairs.{Asked, neither, wanted, held, both, entry, Kept, StarAsks, Tabled, asks_wanted, asks_held, kept}
@@ -21,10 +20,10 @@ use Rattle.model.proofs.Levels.{dominates-decides, dominates-refl}
 
 -- two labels of which one alone dominates the other
 abbrev low : Label
-low = Present (record { class = 0; needs = 0 })
+low = Some (record { class = 0; needs = 0 })
 
 abbrev high : Label
-high = Present (record { class = 1; needs = 0 })
+high = Some (record { class = 1; needs = 0 })
 
 high-low : Dominates high low
 unfolding dominates level_dominates compare
@@ -158,7 +157,7 @@ pub turned : (x y : Mode) (p q : Label) → Kept (entry x y) p q → Kept (entry
 turned x y p q k = let d = (entry-star x y p q).0 k in (entry-star y x q p).1 (d.1, d.0)
 
 -- two accesses to one object, labelled where one of them needs it, ask nothing
-pub same_object : (x y : Mode) (l : Label) → (needs_label x ≡ true → l ≢ Absent) → Kept (entry x y) l l
+pub same_object : (x y : Mode) (l : Label) → (needs_label x ≡ true → l ≢ None) → Kept (entry x y) l l
 same_object x y l h =
     (entry-star x y l l).1 (λ o a. dominates-refl l (h (or_left (observes x) (alters x) o)), λ o a. dominates-refl l (h (or_right (observes x) (alters x) a)))
 

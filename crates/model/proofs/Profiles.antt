@@ -10,15 +10,14 @@ use lib.ListN.{length}
 use lib.Dec.{leb, ltb}
 use borrow.Author.Tests.{lt-ltb, ltb-true, le-leb, leb-true}
 use Rattle.model.specs.declared.Level.{Level}
-use Rattle.model.specs.declared.Label.{Label}
-use Rattle.model.specs.declared.Label.TheVariants.{Absent, Present}
+use Rattle.model.specs.Levels.{Label, need, subset, present}
+use Rattle.std.specs.Prelude.{Some, None}
 use Rattle.model.specs.declared.Subject.{Subject}
 use Rattle.model.specs.declared.Object.{Object}
 use Rattle.model.specs.declared.Profile.{Profile}
 use Rattle.model.specs.declared.Monitor.{Monitor}
 use Rattle.model.specs.Tests.{all_below}
 use Rattle.bits.specs.Bits.{odd}
-use Rattle.model.specs.Levels.{need, subset, present}
 use Rattle.model.specs.State.{subject_count, object_count, widest, nobody, no_object, clearance, enrolled, object}
 use Rattle.model.specs.Profiles.{ProfileFits, profile_fits, level_inside, LabelInside, label_inside, subject_inside, object_inside, absent_beyond, clearance_inside, object_label_inside, levels_inside, Inside}
 use Rattle.model.proofs.Tests.{split, apart, and_left, and_right, and_both, or_cases, or_left, or_right, not_on, below_out, below_in, beyond, le-or-lt}
@@ -47,14 +46,14 @@ profile-decides p = (
 
 pub label-inside-decides : (p : Profile) (l : Label) → (label_inside p l ≡ true) ↔ LabelInside p l
 unfolding label_inside
-label-inside-decides p Absent = (λ e. tt, λ u. refl)
-label-inside-decides p (Present l) = at-least-decides p.highest l
+label-inside-decides p None = (λ e. tt, λ u. refl)
+label-inside-decides p (Some l) = at-least-decides p.highest l
 
 -- ---- a state that keeps to its profile, and the tests of it
 
 module _ (m : Monitor) (subjects : length m.subjects ≡ subject_count) (objects : length m.objects ≡ object_count) where
   -- nothing stands past the end of the two lists
-  nobody-past : (s : ℕ) → 16 ≤ s → clearance m s ≡ Absent
+  nobody-past : (s : ℕ) → 16 ≤ s → clearance m s ≡ None
   nobody-past s h = ap (λ (x : Subject). x.clearance) (beyond m.subjects s nobody (omega (arith, h, subjects)))
 
   none-past : (o : ℕ) → 64 ≤ o → object m o ≡ no_object

@@ -9,8 +9,8 @@ use lib.ListN.{length, get_or, replicate, take, drop, length-append, length-drop
 use lib.Seq.{take_at, drop_at, take_all, length-take-le, drop-drop}
 use Rattle.bits.specs.Bits.{to_bits, odd, from_bits, cut, all_zero}
 use Rattle.bits.specs.Laws.{length-to_bits, from_bits-to_bits, to_bits-from_bits-at, all_zero-is}
-use Rattle.model.specs.declared.Label.{Label}
-use Rattle.model.specs.declared.Label.TheVariants.{Absent, Present}
+use Rattle.model.specs.Levels.{Label}
+use Rattle.std.specs.Prelude.{Some, None}
 use Rattle.model.specs.declared.Subject.{Subject}
 use Rattle.model.specs.declared.Object.{Object}
 use Rattle.model.specs.Companies.{companies_width}
@@ -24,24 +24,24 @@ use Rattle.model.proofs.Equal.{object-ext}
 
 pub label-length : (a : Label) → length (label_bits a) ≡ label_width
 unfolding label_bits
-label-length Absent = refl
-label-length (Present l) = ap suc (length-append (to_bits class_width l.class) (to_bits needs_width l.needs) ∙ omega (arith, length-to_bits class_width l.class, length-to_bits needs_width l.needs))
+label-length None = refl
+label-length (Some l) = ap suc (length-append (to_bits class_width l.class) (to_bits needs_width l.needs) ∙ omega (arith, length-to_bits class_width l.class, length-to_bits needs_width l.needs))
 
 pub label-read : (a : Label) → LabelFits a → label_from (label_bits a) ≡ a
 unfolding label_bits label_from
-label-read Absent f = refl
-label-read (Present v) f =
+label-read None f = refl
+label-read (Some v) f =
     let c : from_bits (take class_width (to_bits class_width v.class ++ to_bits needs_width v.needs)) ≡ v.class =
     ap from_bits (take_at (to_bits class_width v.class) (to_bits needs_width v.needs) class_width (length-to_bits class_width v.class)) ∙ from_bits-to_bits class_width f.0 in
     let n : from_bits (take needs_width (drop class_width (to_bits class_width v.class ++ to_bits needs_width v.needs))) ≡ v.needs =
     ap (λ (b : List Bool). from_bits (take needs_width b)) (drop_at (to_bits class_width v.class) (to_bits needs_width v.needs) class_width (length-to_bits class_width v.class))
     ∙ ap from_bits (take_all needs_width (to_bits needs_width v.needs) (omega (arith, length-to_bits needs_width v.needs))) ∙ from_bits-to_bits needs_width f.1 in
-    λ i. Present (record { class = c i; needs = n i })
+    λ i. Some (record { class = c i; needs = n i })
 
 pub label-form : (a : Label) → label_form (label_bits a) ≡ true
 unfolding label_bits label_form all_zero
-label-form Absent = refl
-label-form (Present v) = refl
+label-form None = refl
+label-form (Some v) = refl
 
 -- a part of a list of bits, put back
 pub parts : (w k : ℕ) (b : List Bool) → length b ≡ w + k → take w b ++ take k (drop w b) ≡ b

@@ -15,9 +15,8 @@ use Rattle.model.specs.declared.Profile.{Profile}
 use Rattle.model.specs.declared.Fields.{Fields}
 use Rattle.model.specs.declared.Request.{Request}
 use Rattle.model.specs.declared.Request.TheVariants.{Get, Release, Give, Rescind, Create, Delete, ChangeLevel, SetCompanies}
-use Rattle.model.specs.declared.Decoded.{Decoded}
-use Rattle.model.specs.declared.Decoded.TheVariants.{Malformed, Says}
-use Rattle.model.specs.Requests.{request_size, fields, mode_number, mode_of, mode_allowed, unused_zero, parent_within, fields_formed, well_formed, request, creation, decode_fields, decode, fields_of, pack, encode, InRange, Within}
+use Rattle.model.specs.Requests.{Decoded, request_size, fields, mode_number, mode_of, mode_allowed, unused_zero, parent_within, fields_formed, well_formed, request, creation, decode_fields, decode, fields_of, pack, encode, InRange, Within}
+use Rattle.std.specs.Prelude.{Some, None}
 use Rattle.model.proofs.Tests.{and_left, and_right, and_both, or_cases, split, clash, apart, cond-true, cond-false, cond-all}
 use Rattle.model.proofs.Within.{formed-of, within_of, well-formed, parent-within, within-parent, request-within, fields_of-within}
 use Rattle.model.proofs.Packing.{FieldsFit, fields_fit, pack-length, fields-packed, packed-fields}
@@ -173,7 +172,7 @@ request-in f F e =
 -- ---- decoding
 
 -- what a byte string that is not malformed says: its length, its fields, the request
-pub decode-says : (p : Profile) (b : List ℕ) (q : Request) → decode p b ≡ Says q → (length b ≡ request_size) × (well_formed p (fields b) ≡ true) × (request (fields b) ≡ q)
+pub decode-says : (p : Profile) (b : List ℕ) (q : Request) → decode p b ≡ Some q → (length b ≡ request_size) × (well_formed p (fields b) ≡ true) × (request (fields b) ≡ q)
 unfolding decode decode_fields
 decode-says p b q e =
     split (eqb (length b) 6)
@@ -183,37 +182,37 @@ decode-says p b q e =
     (λ w. says-not (sym (cond-false _ _ _ w) ∙ e))
   where
     said : Decoded → Request
-    said Malformed = q
-    said (Says r) = r
+    said None = q
+    said (Some r) = r
 
-    says-inj : {r : Request} → Says r ≡ Says q → r ≡ q
+    says-inj : {r : Request} → Some r ≡ Some q → r ≡ q
     says-inj p = ap said p
 
     is_says : Decoded → Bool
-    is_says Malformed = false
-    is_says (Says r) = true
+    is_says None = false
+    is_says (Some r) = true
 
-    says-not : {P : Type 0} → Malformed ≡ Says q → P
+    says-not : {P : Type 0} → None ≡ Some q → P
     says-not p = clash (sym (ap is_says p))
 
-pub says-decode : (p : Profile) (b : List ℕ) → length b ≡ request_size → well_formed p (fields b) ≡ true → decode p b ≡ Says (request (fields b))
+pub says-decode : (p : Profile) (b : List ℕ) → length b ≡ request_size → well_formed p (fields b) ≡ true → decode p b ≡ Some (request (fields b))
 unfolding decode decode_fields
 says-decode p b l w = cond-true _ _ _ (eq-eqb (length b) 6 l) ∙ cond-true _ _ _ w
 
 -- under every profile
-pub decode-range : (p : Profile) (b : List ℕ) (q : Request) → decode p b ≡ Says q → InRange q
+pub decode-range : (p : Profile) (b : List ℕ) (q : Request) → decode p b ≡ Some q → InRange q
 decode-range p b q e =
     let d = decode-says p b q e in
     subst InRange d.2 (request-in (fields b) (fields_fit b) (formed-of p (fields b) d.1))
 
 -- and inside it
-pub decode-within : (p : Profile) (b : List ℕ) (q : Request) → decode p b ≡ Says q → Within p q
+pub decode-within : (p : Profile) (b : List ℕ) (q : Request) → decode p b ≡ Some q → Within p q
 decode-within p b q e =
     let d = decode-says p b q e in
     subst (Within p) d.2 (request-within p (fields b) (within_of p (fields b) d.1))
 
 -- a request that decodes encodes back to its bytes
-pub decode-encode : (p : Profile) (b : List ℕ) (q : Request) → Bytes b → decode p b ≡ Says q → encode q ≡ b
+pub decode-encode : (p : Profile) (b : List ℕ) (q : Request) → Bytes b → decode p b ≡ Some q → encode q ≡ b
 decode-encode p b q hb e =
     let d = decode-says p b q e in
     let f = fields b in
@@ -278,7 +277,7 @@ request-back (ChangeLevel s o l) = refl
 request-back (SetCompanies s o n) = refl
 
 -- six bytes say each request in range and inside the profile
-pub encode-decode : (p : Profile) (q : Request) → InRange q → Within p q → decode p (encode q) ≡ Says q
+pub encode-decode : (p : Profile) (q : Request) → InRange q → Within p q → decode p (encode q) ≡ Some q
 encode-decode p q r v =
     let f = fields-packed (fields_of q) (fields_of-fit q r) in
-    says-decode p (encode q) (pack-length (fields_of q)) (ap (well_formed p) f ∙ well-formed p (fields_of q) (fields_of-formed q r) (fields_of-within p q v)) ∙ ap (λ (g : Fields). Says (request g)) f ∙ ap Says (request-back q)
+    says-decode p (encode q) (pack-length (fields_of q)) (ap (well_formed p) f ∙ well-formed p (fields_of q) (fields_of-formed q r) (fields_of-within p q v)) ∙ ap (λ (g : Fields). Some (request g)) f ∙ ap Some (request-back q)

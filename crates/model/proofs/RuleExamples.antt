@@ -4,8 +4,8 @@ use Prim.Native.Nat.{ℕ}
 use mathlib.Core.Path.{◌≡◌, refl}
 use mathlib.Core.List.{◌∷◌}
 use lib.ListN.{replicate}
-use Rattle.model.specs.declared.Label.{Label}
-use Rattle.model.specs.declared.Label.TheVariants.{Present}
+use Rattle.model.specs.Levels.{Label, dominates, level_dominates, compare}
+use Rattle.std.specs.Prelude.{Some}
 use Rattle.model.specs.declared.Object.{Object}
 use Rattle.model.specs.declared.Monitor.{Monitor}
 use Rattle.model.specs.declared.Mode.{Mode}
@@ -14,7 +14,6 @@ use Rattle.model.specs.declared.Request.TheVariants.{Get}
 use Rattle.model.specs.declared.Decision.{Decision}
 use Rattle.model.specs.declared.Decision.TheVariants.{Granted, SimpleBroken, StarBroken}
 use Rattle.model.specs.Tests.{implies, unless}
-use Rattle.model.specs.Levels.{dominates, level_dominates, compare}
 use Rattle.model.specs.Modes.{has, add}
 use Rattle.model.specs.Companies.{company, compatible, confined}
 use Rattle.model.specs.State.{no_object, nobody, with_owner, with_label, with_rows, with_object, fresh, widest}
@@ -22,7 +21,7 @@ use Rattle.model.specs.Hierarchy.{parent_live, label_under, labels_rise}
 use Rattle.model.specs.Rules.{changed, checks, star_pair, star_from, star_for, wall_pair, wall_from, wall_for}
 
 abbrev level : ℕ → ℕ → Label
-level class needs = Present (record { class = class; needs = needs })
+level class needs = Some (record { class = class; needs = needs })
 
 -- an object on which everybody has every right, and subject 1 holds the set
 abbrev shared : Label → ℕ → Object

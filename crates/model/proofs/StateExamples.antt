@@ -4,7 +4,7 @@ use Prim.Native.Nat.{ℕ}
 use mathlib.Core.Path.{◌≡◌, refl, ap}
 use mathlib.Core.Bool.{false}
 use mathlib.Core.List.{List, [], ◌∷◌, map}
-use Rattle.model.specs.declared.Label.TheVariants.{Absent}
+use Rattle.std.specs.Prelude.{None}
 use Rattle.model.specs.declared.Subject.{Subject}
 use Rattle.model.specs.declared.Profile.{Profile}
 use Rattle.model.specs.declared.Object.{Object}
@@ -24,7 +24,7 @@ pub every-number : map number
 every-number = refl
 
 -- "An object that isn't live has no owner, label, right or access", nor a company number or a parent
-pub no-object-has-nothing : (no_object.live ≡ false) × (no_object.label ≡ Absent) × (no_object.companies ≡ 0) × (no_object.parent ≡ 0) × ((s : ℕ) → rights_of no_object s ≡ 0) × ((s : ℕ) → held_by no_object s ≡ 0)
+pub no-object-has-nothing : (no_object.live ≡ false) × (no_object.label ≡ None) × (no_object.companies ≡ 0) × (no_object.parent ≡ 0) × ((s : ℕ) → rights_of no_object s ≡ 0) × ((s : ℕ) → held_by no_object s ≡ 0)
 no-object-has-nothing = (refl, refl, refl, refl, replicate-at 0 16, replicate-at 0 16)
 
 -- "begun fresh from an enrolment table with no live object"

@@ -5,7 +5,7 @@ use mathlib.Core.Path.{◌≡◌, refl, ap, ◌∙◌}
 use mathlib.Core.Logic.{◌↔◌, ◌≢◌, ◌⊎◌, ⊎_elim, inl, inr}
 use mathlib.Core.Bool.{true}
 use Rattle.model.specs.declared.Level.{Level}
-use Rattle.model.specs.declared.Label.TheVariants.{Absent, Present}
+use Rattle.std.specs.Prelude.{Some, None}
 use Rattle.model.specs.declared.Object.{Object}
 use Rattle.model.specs.declared.Mode.{Mode}
 use Rattle.model.specs.declared.Monitor.{Monitor}
@@ -20,7 +20,7 @@ use Rattle.model.proofs.Modes.{same_mode, same-mode, modes-out, has-none}
 use Rattle.model.proofs.ModePairs.{pairs-out, turned, same_object, star-table}
 
 -- where both objects are labelled, the star property asks what the entry asks, and nothing else
-pub two-accesses : (m : Monitor) (s p q : ℕ) (x y : Mode) → Two m s p q x y → (object m p).label ≢ Absent → (object m q).label ≢ Absent
+pub two-accesses : (m : Monitor) (s p q : ℕ) (x y : Mode) → Two m s p q x y → (object m p).label ≢ None → (object m q).label ≢ None
     → Star m ↔ Kept (entry x y) (object m p).label (object m q).label
 two-accesses m s p q x y T hp hq = (
   λ S. (star-table m).0 S s p q x y T.first T.second,
@@ -50,7 +50,7 @@ its-mode x = modes-out (λ x. has x (weight x)) refl x
 
 -- an object of subject 0 with this label, to which it has this right and this access
 abbrev pub held_object : Level → Mode → Object
-held_object l x = with_held (with_rights (with_label (with_owner no_object 0) (Present l)) 0 (weight x)) 0 (weight x)
+held_object l x = with_held (with_rights (with_label (with_owner no_object 0) (Some l)) 0 (weight x)) 0 (weight x)
 
 -- subject 0 has access x to object 0 and access y to object 1
 abbrev pub two_held : Mode → Mode → Level → Level → Monitor
@@ -79,6 +79,6 @@ two-held x y a b =
     }
 
 -- "each of its sixteen entries": for every two modes and every two levels
-pub entry-met : (x y : Mode) (a b : Level) → Star (two_held x y a b) ↔ Kept (entry x y) (Present a) (Present b)
+pub entry-met : (x y : Mode) (a b : Level) → Star (two_held x y a b) ↔ Kept (entry x y) (Some a) (Some b)
 entry-met x y a b =
     two-accesses (two_held x y a b) 0 0 1 x y (two-held x y a b) (λ e. clash (ap present e)) (λ e. clash (ap present e))

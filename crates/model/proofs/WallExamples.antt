@@ -5,8 +5,8 @@ use mathlib.Core.Path.{◌≡◌, refl}
 use mathlib.Core.Bool.{true}
 use mathlib.Core.List.{List, [], ◌∷◌, map}
 use lib.ListN.{replicate}
-use Rattle.model.specs.declared.Label.{Label}
-use Rattle.model.specs.declared.Label.TheVariants.{Absent, Present}
+use Rattle.model.specs.Levels.{Label, dominates, level_dominates, compare}
+use Rattle.std.specs.Prelude.{Some, None}
 use Rattle.model.specs.declared.Object.{Object}
 use Rattle.model.specs.declared.Monitor.{Monitor}
 use Rattle.model.specs.declared.Mode.{Mode}
@@ -15,7 +15,6 @@ use Rattle.model.specs.declared.Request.TheVariants.{Get, SetCompanies}
 use Rattle.model.specs.declared.Decision.{Decision}
 use Rattle.model.specs.declared.Decision.TheVariants.{Granted, Already, NotEnrolled, NotLive, NoRight, StarBroken, WallBroken}
 use Rattle.model.specs.Tests.{implies, unless}
-use Rattle.model.specs.Levels.{dominates, level_dominates, compare}
 use Rattle.model.specs.Modes.{has, add}
 use Rattle.model.specs.Companies.{company, compatible, confined}
 use Rattle.model.specs.State.{no_object, nobody, with_owner, with_label, with_companies, with_rows, with_object, fresh, widest}
@@ -24,7 +23,7 @@ use Rattle.model.specs.Hierarchy.{parent_live, label_under, labels_rise}
 use Rattle.model.specs.Rules.{created, changed, already, checks, answer, step, star_pair, star_from, star_for, wall_pair, wall_from, wall_for, wall_all}
 
 abbrev level : ℕ → Label
-level class = Present (record { class = class; needs = 0 })
+level class = Some (record { class = class; needs = 0 })
 
 -- an object of subject 1 with company numbers, on which everybody has every right, and subject 1 holds a set
 abbrev marked : Label → ℕ → ℕ → Object
@@ -99,7 +98,7 @@ star-before-wall = (refl, refl)
 
 -- subject s sets the numbers of object 1, of which subject 1 is the owner; it holds e on both objects, which are of company 1
 abbrev sets : ℕ → ℕ → ℕ → Decision
-sets s o n = checks (SetCompanies s o n) (with_object (two Absent 0x1000 1 Absent 0) 1 (marked Absent 0x1000 1))
+sets s o n = checks (SetCompanies s o n) (with_object (two None 0x1000 1 None 0) 1 (marked None 0x1000 1))
 
 -- "checks 4, 6 (owner) and the wall over all subjects in the state after it"; an unlabelled object may have numbers
 pub owner-sets : (sets 1 1 0x1234 ≡ Granted) × (sets 1 1 0 ≡ Granted) × (sets 0 1 0 ≡ NoRight) × (sets 1 2 0 ≡ NotLive) × (sets 2 1 0 ≡ NotEnrolled)
@@ -118,7 +117,7 @@ all-subjects-count = refl
 -- "they are 0 at creation"; the numbers become those; the same again is 1; nothing else of the record changes
 pub numbers-set : ((created 1 (creation true 0)).companies ≡ 0)
     × (changed (SetCompanies 1 1 0x1234) (marked (level 2) 0x1000 8) ≡ marked (level 2) 0x1234 8)
-    × ((step (SetCompanies 1 1 0x1000) (two Absent 0x1000 1 Absent 0x1000)).decision ≡ Already)
-    × ((step (SetCompanies 1 1 0x1001) (two Absent 0x1000 1 Absent 0x1000)).decision ≡ Granted)
+    × ((step (SetCompanies 1 1 0x1000) (two None 0x1000 1 None 0x1000)).decision ≡ Already)
+    × ((step (SetCompanies 1 1 0x1001) (two None 0x1000 1 None 0x1000)).decision ≡ Granted)
 unfolding checks changed already answer step has add implies unless wall_all wall_for wall_from wall_pair compatible confined company labels_rise label_under parent_live
 numbers-set = (refl, refl, refl, refl)

@@ -1,6 +1,6 @@
 -- The number of each answer ("Reply 0", "Reply 1" and "Refused causes" in the scope).
 -- Assumes nothing.
-use Rattle.std.specs.Prelude.{ℕ, Bool, leb}
+use Rattle.std.specs.Prelude.{ℕ, Bool, cond, leb, Result, Ok, Err}
 use Rattle.model.specs.declared.Decision.{Decision}
 use Rattle.model.specs.declared.Decision.TheVariants.{Granted, Already, MalformedRequest, NotEnrolled, NotLive, AlreadyLive, NoRight, NoLabel, SimpleBroken, StarBroken, WrongLength, StrayBits, AbsentSubject, ShortBuffer, LabelLowered, ZeroSeed, OutsideProfile, EmptyJournal, WallBroken, ParentNotLive, HierarchyBroken}
 
@@ -51,3 +51,12 @@ number HierarchyBroken = 20
 -- every number from 2 on is a refusal
 abbrev pub refuses : Decision → Bool
 refuses d = leb 2 (number d)
+
+-- an answer as code hands it on: nothing where it is no refusal, else the refusal
+unfoldable pub checked : Decision → Result (Unit {0}) Decision
+checked d = cond (refuses d) (Err d) (Ok tt)
+
+-- and its number: 0 where nothing was refused
+abbrev pub checked_number : Result (Unit {0}) Decision → ℕ
+checked_number (Ok x) = 0
+checked_number (Err d) = number d

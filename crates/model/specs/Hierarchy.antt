@@ -2,10 +2,9 @@
 -- Assumes nothing.
 use Rattle.std.specs.Prelude.{ℕ, zero, suc, ◌≡◌, Bool, true, false, cond, ◌&&◌, ◌||◌, List, [], ◌∷◌, eqb}
 use Rattle.model.specs.declared.Object.{Object}
-use Rattle.model.specs.declared.Label.{Label}
+use Rattle.model.specs.Levels.{Label, Dominates, dominates, present}
 use Rattle.model.specs.declared.Monitor.{Monitor}
 use Rattle.model.specs.Tests.{all_below, all_of, implies}
-use Rattle.model.specs.Levels.{Dominates, dominates, present}
 use Rattle.model.specs.State.{object_count, no_object, object_at, object}
 
 -- the parent of object o, "number plus one or 0"; what is not live is under nothing

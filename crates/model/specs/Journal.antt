@@ -1,18 +1,16 @@
 -- The journal and taking back (change request §9). The journal stands beside the monitor, not in it.
 -- Assumes nothing.
-use Rattle.std.specs.Prelude.{ℕ, Bool, false, cond, List, [], ◌∷◌, take, eqb}
+use Rattle.std.specs.Prelude.{ℕ, Bool, false, cond, List, [], ◌∷◌, take, eqb, Some, None}
 use Rattle.model.specs.declared.Object.{Object}
 use Rattle.model.specs.declared.Monitor.{Monitor}
 use Rattle.model.specs.declared.Request.{Request}
 use Rattle.model.specs.declared.Request.TheVariants.{Get, Release, Give, Rescind, Create, Delete, ChangeLevel, SetCompanies}
-use Rattle.model.specs.declared.Decoded.{Decoded}
-use Rattle.model.specs.declared.Decoded.TheVariants.{Malformed, Says}
+use Rattle.model.specs.Requests.{Decoded, decode}
 use Rattle.model.specs.declared.Decision.{Decision}
 use Rattle.model.specs.declared.Decision.TheVariants.{Granted, EmptyJournal}
 use Rattle.model.specs.State.{object, with_object}
 use Rattle.model.specs.Hierarchy.{has_child}
 use Rattle.model.specs.Decisions.{number}
-use Rattle.model.specs.Requests.{decode}
 use Rattle.model.specs.Rules.{target, step}
 use Rattle.model.specs.Runs.{respond, reply}
 
@@ -55,8 +53,8 @@ takes_children (SetCompanies s o n) m = false
 
 -- "keeps, for each reply 0, the object's record as it was"; "A deletion that took children empties the journal" (change request §11)
 abbrev pub journal_after : Decoded → Monitor → List Entry → List Entry
-journal_after Malformed m journal = journal
-journal_after (Says q) m journal =
+journal_after None m journal = journal
+journal_after (Some q) m journal =
     cond (eqb (number (step q m).decision) 0) (cond (takes_children q m) [] (entered (entry_of q m) journal)) journal
 
 -- a byte string as a request

@@ -1,9 +1,8 @@
 -- The layout of table and image ("Image and table" in the scope): every size and offset once, and the bits of each record.
 -- Assumes nothing.
-use Rattle.std.specs.Prelude.{ℕ, ◌+◌, ◌*◌, ◌/◌, Bool, true, false, List, [], ◌∷◌, ◌++◌, map, replicate}
+use Rattle.std.specs.Prelude.{ℕ, ◌+◌, ◌*◌, ◌/◌, Bool, true, false, List, [], ◌∷◌, ◌++◌, map, replicate, Some, None}
 use Rattle.bits.specs.Bits.{to_bits, bits_to_bytes, join}
-use Rattle.model.specs.declared.Label.{Label}
-use Rattle.model.specs.declared.Label.TheVariants.{Absent, Present}
+use Rattle.model.specs.Levels.{Label}
 use Rattle.model.specs.declared.Subject.{Subject}
 use Rattle.model.specs.declared.Object.{Object}
 use Rattle.model.specs.declared.Monitor.{Monitor}
@@ -69,8 +68,8 @@ image_size = table_size + objects_size
 
 -- present 1, class 4, needs 16; "What is absent .. has all its other bits 0"
 unfoldable pub label_bits : Label → List Bool
-label_bits Absent = replicate label_width false
-label_bits (Present l) = true ∷ (to_bits class_width l.class ++ to_bits needs_width l.needs)
+label_bits None = replicate label_width false
+label_bits (Some l) = true ∷ (to_bits class_width l.class ++ to_bits needs_width l.needs)
 
 -- "a subject's table record"
 abbrev pub subject_bits : Subject → List Bool

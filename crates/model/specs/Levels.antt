@@ -1,12 +1,14 @@
 -- Labels ("Labels" in the scope): levels, absence, and dominance; the four answers of a comparison (change request §2).
 -- Assumes nothing.
-use Rattle.std.specs.Prelude.{ℕ, zero, suc, ◌/◌, ◌%◌, ◌^◌, ◌≤◌, ◌<◌, ◌≡◌, Bool, true, false, ◌&&◌, leb, eqb}
+use Rattle.std.specs.Prelude.{ℕ, zero, suc, ◌/◌, ◌%◌, ◌^◌, ◌≤◌, ◌<◌, ◌≡◌, Bool, true, false, ◌&&◌, leb, eqb, Option, Some, None}
 use Rattle.bits.specs.Bits.{odd}
 use Rattle.model.specs.declared.Level.{Level}
-use Rattle.model.specs.declared.Label.{Label}
-use Rattle.model.specs.declared.Label.TheVariants.{Absent, Present}
 use Rattle.model.specs.declared.Comparison.{Comparison}
 use Rattle.model.specs.declared.Comparison.TheVariants.{Equal, Above, Below, Apart}
+
+-- "a clearance (a label), or absent", "a label or none": a level, or none, which "differs from class 0 with the empty set"
+abbrev pub Label : Type 0
+Label = Option Level
 
 -- "held as 16 bits where need k weighs 2^k": need k is in the set n
 unfoldable pub need : ℕ → ℕ → Bool
@@ -19,9 +21,9 @@ pub record LevelDominates (a b : Level) : Type 0 where
 
 -- "An absent label is none of these": it does not dominate and is not dominated
 unfoldable pub Dominates : Label → Label → Type 0
-Dominates Absent b = ⊥
-Dominates (Present a) Absent = ⊥
-Dominates (Present a) (Present b) = LevelDominates a b
+Dominates None b = ⊥
+Dominates (Some a) None = ⊥
+Dominates (Some a) (Some b) = LevelDominates a b
 
 -- the test of k needs, from need 0 on: each of b is in a
 abbrev pub subset : ℕ → ℕ → ℕ → Bool
@@ -56,18 +58,18 @@ level_dominates a b = equal_or_above (compare a b)
 
 -- the test that decides Dominates
 unfoldable pub dominates : Label → Label → Bool
-dominates Absent b = false
-dominates (Present a) Absent = false
-dominates (Present a) (Present b) = level_dominates a b
+dominates None b = false
+dominates (Some a) None = false
+dominates (Some a) (Some b) = level_dominates a b
 
 -- a label or a clearance is there
 abbrev pub present : Label → Bool
-present Absent = false
-present (Present l) = true
+present None = false
+present (Some l) = true
 
 -- the test that two labels are the same; absent is the same as absent only
 unfoldable pub same_label : Label → Label → Bool
-same_label Absent Absent = true
-same_label Absent (Present b) = false
-same_label (Present a) Absent = false
-same_label (Present a) (Present b) = eqb a.class b.class && eqb a.needs b.needs
+same_label None None = true
+same_label None (Some b) = false
+same_label (Some a) None = false
+same_label (Some a) (Some b) = eqb a.class b.class && eqb a.needs b.needs

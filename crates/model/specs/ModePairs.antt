@@ -1,12 +1,11 @@
 -- Mode pairs: what the star property asks of two accesses of one subject, as a table (change request §4).
 -- Assumes nothing.
 use Rattle.std.specs.Prelude.{ℕ, ◌≡◌, ◌⊎◌, Bool, true, false, ◌&&◌}
-use Rattle.model.specs.declared.Label.{Label}
+use Rattle.model.specs.Levels.{Label, Dominates, dominates}
 use Rattle.model.specs.declared.Mode.{Mode}
 use Rattle.model.specs.declared.Mode.TheVariants.{Read, Write, Append, Execute}
 use Rattle.model.specs.declared.Monitor.{Monitor}
 use Rattle.model.specs.Tests.{implies}
-use Rattle.model.specs.Levels.{Dominates, dominates}
 use Rattle.model.specs.Modes.{observes, alters}
 use Rattle.model.specs.State.{object}
 use Rattle.model.specs.Properties.{Holds}

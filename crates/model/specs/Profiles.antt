@@ -1,13 +1,11 @@
 -- A site profile (change request §8): its ranges, what is inside it, and a state that keeps to it.
 -- Assumes nothing.
-use Rattle.std.specs.Prelude.{ℕ, ◌≤◌, ◌<◌, ◌≡◌, Bool, true, not, ◌&&◌, ◌||◌, leb, ltb}
+use Rattle.std.specs.Prelude.{ℕ, ◌≤◌, ◌<◌, ◌≡◌, Bool, true, not, ◌&&◌, ◌||◌, leb, ltb, Some, None}
 use Rattle.model.specs.declared.Level.{Level}
-use Rattle.model.specs.declared.Label.{Label}
-use Rattle.model.specs.declared.Label.TheVariants.{Absent, Present}
+use Rattle.model.specs.Levels.{Label, LevelDominates, at_least}
 use Rattle.model.specs.declared.Profile.{Profile}
 use Rattle.model.specs.declared.Monitor.{Monitor}
 use Rattle.model.specs.Tests.{all_below}
-use Rattle.model.specs.Levels.{LevelDominates, at_least}
 use Rattle.model.specs.State.{subject_count, object_count, clearance, enrolled, object}
 
 -- "the subjects in use (1 to 16), objects in use (1 to 64), highest class (0 to 15)"; every set of sixteen needs is in range
@@ -38,12 +36,12 @@ level_inside p l = at_least p.highest l
 
 -- "a clearance or label outside its profile"; an absent one has no class and no need
 abbrev pub LabelInside : Profile → Label → Type 0
-LabelInside p Absent = Unit {0}
-LabelInside p (Present l) = LevelInside p l
+LabelInside p None = Unit {0}
+LabelInside p (Some l) = LevelInside p l
 
 unfoldable pub label_inside : Profile → Label → Bool
-label_inside p Absent = true
-label_inside p (Present l) = level_inside p l
+label_inside p None = true
+label_inside p (Some l) = level_inside p l
 
 -- "a record beyond the profile is absent": the record of subject s, that of object o, all of them
 abbrev pub subject_inside : Monitor → ℕ → Bool

@@ -1,9 +1,8 @@
 -- Reading a table and an image: what the bits say, their form, and the checks in order.
 -- Assumes nothing.
-use Rattle.std.specs.Prelude.{ℕ, ◌+◌, Bool, true, cond, ◌&&◌, ◌||◌, List, [], ◌∷◌, map, length, take, drop, eqb}
+use Rattle.std.specs.Prelude.{ℕ, ◌+◌, Bool, true, cond, ◌&&◌, ◌||◌, List, [], ◌∷◌, map, length, take, drop, eqb, Some, None}
 use Rattle.bits.specs.Bits.{from_bits, bytes_to_bits, cut, first, all_zero}
-use Rattle.model.specs.declared.Label.{Label}
-use Rattle.model.specs.declared.Label.TheVariants.{Absent, Present}
+use Rattle.model.specs.Levels.{Label, subset, present}
 use Rattle.model.specs.declared.Subject.{Subject}
 use Rattle.model.specs.declared.Object.{Object}
 use Rattle.model.specs.declared.Profile.{Profile}
@@ -12,7 +11,6 @@ use Rattle.model.specs.declared.Decision.{Decision}
 use Rattle.model.specs.declared.Decision.TheVariants.{NoRight, NoLabel, SimpleBroken, StarBroken, WrongLength, StrayBits, AbsentSubject, OutsideProfile, WallBroken, ParentNotLive, HierarchyBroken}
 use Rattle.model.specs.declared.Response.{Response}
 use Rattle.model.specs.Tests.{all_below, all_of, implies, first_failing}
-use Rattle.model.specs.Levels.{subset, present}
 use Rattle.model.specs.Modes.{any_needs_label}
 use Rattle.model.specs.Companies.{companies_width}
 use Rattle.model.specs.State.{subject_count, object_count, class_width, needs_width, no_object, clearance_at, rights_of, held_by, fresh, empty_monitor}
@@ -30,7 +28,7 @@ field_of b i w = from_bits (take w (drop i b))
 
 -- present 1, class 4, needs 16
 unfoldable pub label_from : List Bool → Label
-label_from b = cond (first b) (Present (record { class = field_of b 1 class_width; needs = field_of b (1 + class_width) needs_width })) Absent
+label_from b = cond (first b) (Some (record { class = field_of b 1 class_width; needs = field_of b (1 + class_width) needs_width })) None
 
 abbrev pub subject_from : List Bool → Subject
 subject_from b = record { clearance = label_from b }

@@ -1,6 +1,6 @@
 -- A request's six bytes ("Requests" in the scope): its fields, the rules for unused ones, what it says, and how it is packed.
 -- Assumes nothing.
-use Rattle.std.specs.Prelude.{ℕ, ◌+◌, ◌<◌, ◌≤◌, Bool, cond, ◌&&◌, ◌||◌, List, ◌++◌, length, leb, ltb, eqb}
+use Rattle.std.specs.Prelude.{ℕ, ◌+◌, ◌<◌, ◌≤◌, Bool, cond, ◌&&◌, ◌||◌, List, ◌++◌, length, leb, ltb, eqb, Option, Some, None}
 use Rattle.bits.specs.Bits.{field, to_bits, bits_to_bytes}
 use Rattle.model.specs.declared.Mode.{Mode}
 use Rattle.model.specs.declared.Mode.TheVariants.{Read, Write, Append, Execute}
@@ -10,8 +10,6 @@ use Rattle.model.specs.declared.Fields.{Fields}
 use Rattle.model.specs.declared.Creation.{Creation}
 use Rattle.model.specs.declared.Request.{Request}
 use Rattle.model.specs.declared.Request.TheVariants.{Get, Release, Give, Rescind, Create, Delete, ChangeLevel, SetCompanies}
-use Rattle.model.specs.declared.Decoded.{Decoded}
-use Rattle.model.specs.declared.Decoded.TheVariants.{Malformed, Says}
 use Rattle.model.specs.Tests.{implies}
 use Rattle.model.specs.State.{subject_count, object_count, class_width, needs_width, LevelFits}
 use Rattle.model.specs.Profiles.{level_inside, LevelInside}
@@ -150,12 +148,16 @@ request f =
     (cond (eqb f.kind 7) (ChangeLevel f.actor f.object (level_of f))
     (SetCompanies f.actor f.object f.needs)))))))
 
+-- what bytes say: a request, or none where they are malformed
+abbrev pub Decoded : Type 0
+Decoded = Option Request
+
 unfoldable pub decode_fields : Profile → Fields → Decoded
-decode_fields p f = cond (well_formed p f) (Says (request f)) Malformed
+decode_fields p f = cond (well_formed p f) (Some (request f)) None
 
 -- what a byte string of any length says to a monitor of a profile
 unfoldable pub decode : Profile → List ℕ → Decoded
-decode p b = cond (eqb (length b) request_size) (decode_fields p (fields b)) Malformed
+decode p b = cond (eqb (length b) request_size) (decode_fields p (fields b)) None
 
 -- ---- the other way: the bytes of a request
 

@@ -1,9 +1,8 @@
 -- The eight rules ("Requests" in the scope, the last in change request §10): the checks of each kind in order, the record after it, what a
 -- delete takes along, and when the state was so already.
 -- Assumes nothing.
-use Rattle.std.specs.Prelude.{ℕ, Bool, false, cond, not, ◌&&◌, List, [], ◌∷◌, set, eqb}
-use Rattle.model.specs.declared.Label.{Label}
-use Rattle.model.specs.declared.Label.TheVariants.{Present}
+use Rattle.std.specs.Prelude.{ℕ, Bool, false, cond, not, ◌&&◌, List, [], ◌∷◌, set, eqb, Some}
+use Rattle.model.specs.Levels.{Label, dominates, present, same_label}
 use Rattle.model.specs.declared.Subject.{Subject}
 use Rattle.model.specs.declared.Object.{Object}
 use Rattle.model.specs.declared.Monitor.{Monitor}
@@ -15,7 +14,6 @@ use Rattle.model.specs.declared.Decision.{Decision}
 use Rattle.model.specs.declared.Decision.TheVariants.{Granted, Already, NotEnrolled, NotLive, AlreadyLive, NoRight, NoLabel, SimpleBroken, StarBroken, LabelLowered, WallBroken, ParentNotLive, HierarchyBroken}
 use Rattle.model.specs.declared.Response.{Response}
 use Rattle.model.specs.Tests.{all_below, all_of, implies, first_failing}
-use Rattle.model.specs.Levels.{dominates, present, same_label}
 use Rattle.model.specs.Modes.{has, add, remove, observes, needs_label, any_observes, any_alters, any_held}
 use Rattle.model.specs.Companies.{compatible, confined}
 use Rattle.model.specs.State.{subject_count, no_object, clearance_at, clearance, enrolled, object, rights_of, held_by, with_owner, with_rights, with_held, with_label, with_companies, with_parent}
@@ -95,7 +93,7 @@ changed (Create s o c) ob = created s c
 -- "no longer live, its rights and accesses gone"
 changed (Delete s o) ob = no_object
 -- "the label becomes class and needs"
-changed (ChangeLevel s o l) ob = with_label ob (Present l)
+changed (ChangeLevel s o l) ob = with_label ob (Some l)
 -- "lets the owner set them", the company numbers (change request §10)
 changed (SetCompanies s o n) ob = with_companies ob n
 
@@ -127,7 +125,7 @@ already (Give s t o x) ob = has x (rights_of ob t)
 already (Rescind s t o x) ob = not (has x (rights_of ob t)) && not (has x (held_by ob t))
 already (Create s o c) ob = false
 already (Delete s o) ob = false
-already (ChangeLevel s o l) ob = same_label ob.label (Present l)
+already (ChangeLevel s o l) ob = same_label ob.label (Some l)
 already (SetCompanies s o n) ob = eqb ob.companies n
 
 -- ---- the checks of each kind, "in the order 2, 3, then 4 or 5, then 6, 7, 8, 9", with 14 between 6 and 8, 18 or 20 behind 9, and 19 behind 5; 2
@@ -191,7 +189,7 @@ check_list (ChangeLevel s o l) m =
     (enrolled m s, NotEnrolled)
     ∷ ((object m o).live, NotLive)
     ∷ (owns s (object m o), NoRight)
-    ∷ (not_lowered (object m o).label (Present l), LabelLowered)
+    ∷ (not_lowered (object m o).label (Some l), LabelLowered)
     ∷ (simple_all m.subjects (changed (ChangeLevel s o l) (object m o)), SimpleBroken)
     ∷ (star_all (afterwards (ChangeLevel s o l) m).objects, StarBroken)
     ∷ (labels_rise (afterwards (ChangeLevel s o l) m).objects, HierarchyBroken)

@@ -1,18 +1,16 @@
 -- Requests as byte strings of any length and content, and lists of them.
 -- Assumes nothing.
-use Rattle.std.specs.Prelude.{ℕ, List, [], ◌∷◌}
+use Rattle.std.specs.Prelude.{ℕ, List, [], ◌∷◌, Some, None}
 use Rattle.model.specs.declared.Monitor.{Monitor}
-use Rattle.model.specs.declared.Decoded.{Decoded}
-use Rattle.model.specs.declared.Decoded.TheVariants.{Malformed, Says}
+use Rattle.model.specs.Requests.{Decoded, decode}
 use Rattle.model.specs.declared.Decision.TheVariants.{MalformedRequest}
 use Rattle.model.specs.declared.Response.{Response}
 use Rattle.model.specs.Decisions.{number}
-use Rattle.model.specs.Requests.{decode}
 use Rattle.model.specs.Rules.{step}
 
 abbrev pub carry_out : Decoded → Monitor → Response
-carry_out Malformed m = record { decision = MalformedRequest; monitor = m }
-carry_out (Says q) m = step q m
+carry_out None m = record { decision = MalformedRequest; monitor = m }
+carry_out (Some q) m = step q m
 
 -- the response to a byte string, which is read under the profile of the monitor
 unfoldable pub respond : List ℕ → Monitor → Response

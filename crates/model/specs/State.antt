@@ -1,14 +1,12 @@
 -- The state ("State" in the scope): what is read of it, what is stored into it, and what well formed means.
 -- Assumes nothing.
-use Rattle.std.specs.Prelude.{ℕ, ◌<◌, ◌≡◌, Bool, true, false, List, length, get_or, set, replicate}
+use Rattle.std.specs.Prelude.{ℕ, ◌<◌, ◌≡◌, Bool, true, false, List, length, get_or, set, replicate, Some, None}
 use Rattle.model.specs.declared.Level.{Level}
-use Rattle.model.specs.declared.Label.{Label}
-use Rattle.model.specs.declared.Label.TheVariants.{Absent, Present}
+use Rattle.model.specs.Levels.{Label, present}
 use Rattle.model.specs.declared.Subject.{Subject}
 use Rattle.model.specs.declared.Object.{Object}
 use Rattle.model.specs.declared.Profile.{Profile}
 use Rattle.model.specs.declared.Monitor.{Monitor}
-use Rattle.model.specs.Levels.{present}
 
 -- "Sixteen subjects", "Sixty-four objects"
 abbrev pub subject_count : ℕ
@@ -34,11 +32,11 @@ no_modes = replicate subject_count 0
 
 -- "An object that isn't live has no owner, label, right or access", nor a company number or a parent
 abbrev pub no_object : Object
-no_object = record { live = false; owner = 0; label = Absent; companies = 0; rights = no_modes; held = no_modes; parent = 0 }
+no_object = record { live = false; owner = 0; label = None; companies = 0; rights = no_modes; held = no_modes; parent = 0 }
 
 -- "absent": a subject that is not enrolled
 abbrev pub nobody : Subject
-nobody = record { clearance = Absent }
+nobody = record { clearance = None }
 
 -- the clearance of subject s, the record of object o; past the end nobody and no object
 abbrev pub clearance_at : List Subject → ℕ → Label
@@ -107,8 +105,8 @@ abbrev pub LevelFits : Level → Type 0
 LevelFits l = (l.class < 16) × (l.needs < 65536)
 
 abbrev pub LabelFits : Label → Type 0
-LabelFits Absent = Unit {0}
-LabelFits (Present l) = LevelFits l
+LabelFits None = Unit {0}
+LabelFits (Some l) = LevelFits l
 
 -- the record of an object by itself
 pub record ObjectShape (ob : Object) : Type 0 where

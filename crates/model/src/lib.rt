@@ -4,23 +4,20 @@
 
 ghost use Rattle.std.specs.Prelude.{◌≡◌};
 ghost use Rattle.model.specs.State.{widest, no_object, fresh};
+ghost use Rattle.model.specs.Decisions.{number};
 
 // A class, 0 to 15, and a set of needs-to-know, 0 to 15, where need k weighs 2^k.
-#[derive(Clone, Copy)]
+#[derive(Clone, Copy, PartialEq, Eq)]
 pub struct Level {
     pub class: u8,
     pub needs: u16,
 }
 
 // The label of an object, or none; the clearance of a subject, or absent. Absent is no level: it differs from class 0 with no needs.
-#[derive(Clone, Copy)]
-pub enum Label {
-    Absent,
-    Present(Level),
-}
+pub type Label = Option<Level>;
 
 // How one level compares with another: the same; above, only the first dominates; below, only the second does; apart, neither.
-#[derive(Clone, Copy)]
+#[derive(Clone, Copy, PartialEq, Eq)]
 pub enum Comparison {
     Equal,
     Above,
@@ -34,7 +31,7 @@ pub struct Subject {
     pub clearance: Label,
 }
 
-#[derive(Clone, Copy)]
+#[derive(Clone, Copy, PartialEq, Eq)]
 pub enum Mode {
     Read,
     Write,
@@ -62,7 +59,7 @@ pub fn no_object() -> Object
     Object {
         live: false,
         owner: 0,
-        label: Label::Absent,
+        label: None,
         companies: 0,
         rights: [0u8; 16],
         held: [0u8; 16],
@@ -170,15 +167,8 @@ pub enum Request {
     SetCompanies(u8, u8, u16),
 }
 
-// What a byte string says.
-#[derive(Clone, Copy)]
-pub enum Decoded {
-    Malformed,
-    Says(Request),
-}
-
 // Every answer of the monitor, in the order of its number (specs/Decisions.antt).
-#[derive(Clone, Copy)]
+#[derive(Clone, Copy, PartialEq, Eq)]
 pub enum Decision {
     Granted,
     Already,
@@ -201,6 +191,36 @@ pub enum Decision {
     WallBroken,
     ParentNotLive,
     HierarchyBroken,
+}
+
+impl From<Decision> for u8 {
+    ghost from_gives = { λ d n. n ≡ number d };
+
+    fn from(d: Decision) -> u8 {
+        match d {
+            Decision::Granted => 0,
+            Decision::Already => 1,
+            Decision::MalformedRequest => 2,
+            Decision::NotEnrolled => 3,
+            Decision::NotLive => 4,
+            Decision::AlreadyLive => 5,
+            Decision::NoRight => 6,
+            Decision::NoLabel => 7,
+            Decision::SimpleBroken => 8,
+            Decision::StarBroken => 9,
+            Decision::WrongLength => 10,
+            Decision::StrayBits => 11,
+            Decision::AbsentSubject => 12,
+            Decision::ShortBuffer => 13,
+            Decision::LabelLowered => 14,
+            Decision::ZeroSeed => 15,
+            Decision::OutsideProfile => 16,
+            Decision::EmptyJournal => 17,
+            Decision::WallBroken => 18,
+            Decision::ParentNotLive => 19,
+            Decision::HierarchyBroken => 20,
+        }
+    }
 }
 
 // The answer to a request or to a beginning, and the monitor after it.

@@ -1,12 +1,17 @@
--- `labels::is_level` meets its contract.
+-- `labels::is_level` meets its contract: equal levels have equal classes and equal needs.
 -- Assumes nothing.
-use Rattle.model.specs.Levels.{same_label}
+use Rattle.std.specs.Prelude.{Some, None, ◌≡◌}
+use mathlib.Core.Path.{refl, ◌∙◌}
+use Rattle.std.specs.Option.{option_eq}
+use Rattle.model.specs.contracts.LevelPartialEq.TheImpl.{eq-value}
+use Rattle.model.specs.declared.Level.{Level}
+use Rattle.model.specs.Levels.{Label, same_label}
 use Rattle.labels.proofs.is_level.Goals as goal
 
-pub returns-in-Absent : goal.returns-in-Absent
+equal-levels : (l : Label) (v : Level) → option_eq eq-value.it l (Some v) ≡ same_label l (Some v)
 unfolding same_label
-returns-in-Absent c = rw c.in-Absent.is
+equal-levels None v = refl
+equal-levels (Some x) v = refl
 
-pub returns-in-Present : goal.returns-in-Present
-unfolding same_label
-returns-in-Present c = rw c.in-Present.is
+pub returns : goal.returns
+returns c = c.eq.ensures ∙ equal-levels c.args.l c.args.v
