@@ -6,17 +6,20 @@ use native.Mathlib.Omega.{arith}
 use mathlib.Core.Path.{◌≡◌, refl, sym, ap, ap₂, ◌∙◌}
 use mathlib.Core.Logic.{⊎_elim}
 use mathlib.Core.List.{List, [], ◌∷◌}
-use lib.ListN.{length, take, length-replicate, get_or-replicate}
+use lib.ListN.{length, take, replicate, length-replicate, get_or-replicate}
 use lib.Seq.{take_all}
-use Rattle.model.specs.State.{object_count, no_object}
+use Rattle.model.specs.State.{subject_count, object_count, no_object}
 use Rattle.model.specs.Journal.{Entry, journal_size, entered}
 use Rattle.model.proofs.Tests.{le-or-lt}
 use Rattle.unit.specs.Rows.{Rows, object_of, tabulate}
 use Rattle.unit.proofs.Tabulated.{tabulate-length, tabulate-same}
 use Rattle.journal.specs.Ring.{journal_rows, next_slot, entry_count, entry_in, slot_of, journal_in}
 use Rattle.journal.specs.Stored.{set_slot, entered_rows, left_rows, no_entries, Whole}
-use Rattle.journal.proofs.Rings.{zeros}
 use Rattle.journal.proofs.Entries.{whole-ring, ring-next, ring-count, ring-entry, slot_whole, slot_same, slot-other}
+
+-- a row of a journal without entries
+abbrev zeros : List ℕ
+zeros = replicate subject_count 0
 
 -- the first of a tabulated list
 take-tabulate : {A : Type 0} (k n : ℕ) (f : ℕ → A) → k ≤ n → take k (tabulate n f) ≡ tabulate k f

@@ -1,5 +1,4 @@
 -- Laws of a journal as rows, in the order in which the files stand on each other.
-pub mod Rings
 pub mod Entries
 pub mod Journals
 pub mod RingExamples

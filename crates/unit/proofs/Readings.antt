@@ -63,3 +63,6 @@ module _ (u : Rows) (s : ℕ) (h : s < 16) where
 
   pub read-enrolled : eqb (byte_at (row_at u (clearance_row s)) 2) 1 ≡ enrolled (state_in u) s
   read-enrolled = present-in (row_at u (clearance_row s)) ∙ ap present read-clearance
+
+-- what a function reads of the rows, for the tactics
+pub ruleset readings = (read_live, read-owner, read-owner-byte, read-label, read-companies, read-parent, read-rights, read-held-row, read_held, read-clearance, read-enrolled)

@@ -5,8 +5,8 @@ use mathlib.Core.Path.{◌≡◌, refl}
 use mathlib.Core.Bool.{false}
 use mathlib.Core.List.{[], ◌∷◌, ◌++◌}
 use lib.ListN.{replicate}
-use Rattle.model.specs.declared.Label.{Label}
-use Rattle.model.specs.declared.Label.TheVariants.{Absent, Present}
+use Rattle.model.specs.Levels.{Label}
+use Rattle.std.specs.Prelude.{Some, None}
 use Rattle.model.specs.declared.Object.{Object}
 use Rattle.model.specs.declared.Monitor.{Monitor}
 use Rattle.model.specs.State.{no_modes, no_object, nobody, fresh, with_owner, with_label, with_companies, with_parent, with_rows, with_object}
@@ -14,7 +14,7 @@ use Rattle.unit.specs.Rows.{Rows, label_in, profile_in, object_of, tabulate, sta
 use Rattle.unit.specs.Stored.{label_bytes, row_of, monitor_row, unit_of}
 
 abbrev level : ℕ → ℕ → Label
-level class needs = Present (record { class = class; needs = needs })
+level class needs = Some (record { class = class; needs = needs })
 
 -- object 2: live, owned by subject 5, labelled (9, 1234), with the companies 5, 0, 12 and 3; subject 0 has r and w and holds r, 5 has all and holds w, 15 has a and e and holds e; object 63 is its parent
 abbrev trace : Object
@@ -70,8 +70,8 @@ rows-read = refl
 
 -- "so where the byte is 1 and in no other case": 2 is neither live nor a label; "the bytes without a meaning are not looked at"; "a number
 -- is what its byte is"
-pub other-contents : (object_of no_modes no_modes (2 ∷ 5 ∷ 2 ∷ 9 ∷ 0x12 ∷ 0x34 ∷ 0x50 ∷ 0xC3 ∷ 200 ∷ replicate 7 9) ≡ record { live = false; owner = 5; label = Absent; companies = 0x50C3; rights = no_modes; held = no_modes; parent = 200 })
-    × (label_in (0 ∷ 0 ∷ 255 ∷ 9 ∷ 0x12 ∷ 0x34 ∷ replicate 10 0) ≡ Absent)
+pub other-contents : (object_of no_modes no_modes (2 ∷ 5 ∷ 2 ∷ 9 ∷ 0x12 ∷ 0x34 ∷ 0x50 ∷ 0xC3 ∷ 200 ∷ replicate 7 9) ≡ record { live = false; owner = 5; label = None; companies = 0x50C3; rights = no_modes; held = no_modes; parent = 200 })
+    × (label_in (0 ∷ 0 ∷ 255 ∷ 9 ∷ 0x12 ∷ 0x34 ∷ replicate 10 0) ≡ None)
     × (label_in (7 ∷ 8 ∷ 1 ∷ 200 ∷ 0x12 ∷ 0x34 ∷ replicate 10 9) ≡ level 200 0x1234)
     × (profile_in (200 ∷ 0 ∷ 7 ∷ 99 ∷ 0x12 ∷ 0x34 ∷ replicate 10 9) ≡ record { subjects = 200; objects = 0; highest = record { class = 99; needs = 0x1234 } })
 unfolding object_of label_in profile_in

@@ -11,8 +11,8 @@ use lib.ListN.{length, set, length-set}
 use lib.Dec.{eqb}
 use lib.Seq.{get_or-set_same, get_or-set_other, set-set, set-get_or}
 use Rattle.bits.specs.Bits.{bit}
-use Rattle.model.specs.declared.Label.{Label}
-use Rattle.model.specs.declared.Label.TheVariants.{Absent, Present}
+use Rattle.model.specs.Levels.{Label}
+use Rattle.std.specs.Prelude.{Some, None}
 use Rattle.model.specs.declared.Object.{Object}
 use Rattle.model.specs.declared.Profile.{Profile}
 use Rattle.model.specs.State.{nobody, no_object, object, with_rights, with_held, with_label, with_companies, with_object}
@@ -26,8 +26,8 @@ use Rattle.unit.proofs.Readings.{read-object}
 
 pub label-back : (a b : ℕ) (l : Label) (n p : ℕ) → label_in (row_of a b l n p) ≡ l
 unfolding label_in label_bytes row_of
-label-back a b Absent n p = refl
-label-back a b (Present l) n p = ap (λ k. Present (record { class = l.class; needs = k })) (div-add-mod' l.needs 256)
+label-back a b None n p = refl
+label-back a b (Some l) n p = ap (λ k. Some (record { class = l.class; needs = k })) (div-add-mod' l.needs 256)
 
 pub profile-back : (p : Profile) → profile_in (profile_of p) ≡ p
 unfolding profile_in label_bytes row_of

@@ -1,10 +1,9 @@
 -- The rows of a monitor in a unit: 209 rows of sixteen bytes. Rows 0 to 63 are the rights of the objects, the next 64 the accesses held, the next 64 the rest of
 -- each record, the next sixteen the clearances, the last one the profile. Every content says a monitor.
 -- Assumes nothing.
-use Rattle.std.specs.Prelude.{ℕ, zero, suc, ◌+◌, ◌*◌, cond, List, [], ◌∷◌, get_or, eqb}
+use Rattle.std.specs.Prelude.{ℕ, zero, suc, ◌+◌, ◌*◌, cond, List, [], ◌∷◌, get_or, eqb, Some, None}
 use Rattle.model.specs.declared.Level.{Level}
-use Rattle.model.specs.declared.Label.{Label}
-use Rattle.model.specs.declared.Label.TheVariants.{Absent, Present}
+use Rattle.model.specs.Levels.{Label}
 use Rattle.model.specs.declared.Subject.{Subject}
 use Rattle.model.specs.declared.Object.{Object}
 use Rattle.model.specs.declared.Profile.{Profile}
@@ -43,7 +42,7 @@ level_in row = record { class = byte_at row 3; needs = byte_at row 4 * 256 + byt
 
 -- byte 2 is 1: a label; else none
 unfoldable pub label_in : List ℕ → Label
-label_in row = cond (eqb (byte_at row 2) 1) (Present (level_in row)) Absent
+label_in row = cond (eqb (byte_at row 2) 1) (Some (level_in row)) None
 
 -- byte 0: the subjects in use; byte 1: the objects in use; the highest class and the needs in use stand where a level does
 unfoldable pub profile_in : List ℕ → Profile

@@ -1,9 +1,8 @@
 -- What is stored into the rows, and the rows of a whole monitor.
 -- Assumes nothing.
-use Rattle.std.specs.Prelude.{ℕ, ◌+◌, ◌-◌, ◌*◌, ◌/◌, ◌%◌, ◌<◌, ◌≤◌, ◌≡◌, cond, List, ◌∷◌, length, set, replicate, ltb}
+use Rattle.std.specs.Prelude.{ℕ, ◌+◌, ◌-◌, ◌*◌, ◌/◌, ◌%◌, ◌<◌, ◌≤◌, ◌≡◌, cond, List, ◌∷◌, length, set, replicate, ltb, Some, None}
 use Rattle.bits.specs.Bits.{bit}
-use Rattle.model.specs.declared.Label.{Label}
-use Rattle.model.specs.declared.Label.TheVariants.{Absent, Present}
+use Rattle.model.specs.Levels.{Label}
 use Rattle.model.specs.declared.Object.{Object}
 use Rattle.model.specs.declared.Profile.{Profile}
 use Rattle.model.specs.declared.Monitor.{Monitor}
@@ -13,8 +12,8 @@ use Rattle.unit.specs.Rows.{Rows, row_count, held_row, rest_row, clearance_row, 
 
 -- the bytes of a label: 1, the class and the needs in two bytes; of none four times 0
 unfoldable pub label_bytes : Label → LabelBytes
-label_bytes Absent = record { present = 0; class = 0; high = 0; low = 0 }
-label_bytes (Present l) = record { present = 1; class = l.class; high = l.needs / 256; low = l.needs % 256 }
+label_bytes None = record { present = 0; class = 0; high = 0; low = 0 }
+label_bytes (Some l) = record { present = 1; class = l.class; high = l.needs / 256; low = l.needs % 256 }
 
 -- two bytes, a label, a number in two bytes and one in one byte behind them, and seven bytes 0
 unfoldable pub row_of : ℕ → ℕ → Label → ℕ → ℕ → List ℕ
@@ -31,7 +30,7 @@ clearance_of l = row_of 0 0 l 0 0
 
 -- the row of a profile
 abbrev pub profile_of : Profile → List ℕ
-profile_of p = row_of p.subjects p.objects (Present p.highest) 0 0
+profile_of p = row_of p.subjects p.objects (Some p.highest) 0 0
 
 -- the set of subject s in the row of rights of object o, and in that of the accesses held, becomes n
 abbrev pub set_rights : Rows → ℕ → ℕ → ℕ → Rows

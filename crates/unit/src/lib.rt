@@ -11,5 +11,5 @@ pub use parts::{
     owner_of, parent_of, profile_of, rest_of, rights_of, set_companies, set_held, set_label,
     set_rest, set_rights, set_rows,
 };
-pub use rows::{HELD, REST, ROWS, flag, row_of};
+pub use rows::{HELD, REST, ROWS, Rows, row_of};
 pub use whole::{fill, object_in, object_of, set_object};

@@ -1,7 +1,6 @@
 // Where the rows of a unit stand, and what one row of bytes says: a label in bytes 2 to 5, two numbers before it, one in two bytes and one
 // in one byte behind it.
-ghost use Rattle.std.specs.Prelude.{◌≡◌, ◌+◌, ◌*◌, ◌/◌, ◌%◌};
-ghost use Rattle.bits.specs.Bits.{bit};
+ghost use Rattle.std.specs.Prelude.{◌≡◌};
 ghost use Rattle.unit.specs.Rows.{level_in, label_in, companies_in, profile_in};
 ghost use Rattle.unit.specs.Stored.{label_bytes, row_of, profile_of};
 
@@ -18,40 +17,16 @@ pub const PROFILE: usize = 3 * Monitor::OBJECTS + Monitor::SUBJECTS;
 
 pub const ROWS: usize = 3 * Monitor::OBJECTS + Monitor::SUBJECTS + 1;
 
-fn word(high: u8, low: u8) -> u16
-    ensures { result ≡ high * 256 + low }
-{
-    (high as u16) * 256 + (low as u16)
-}
-
-fn high_byte(n: u16) -> u8
-    ensures { result ≡ n / 256 }
-{
-    (n / 256) as u8
-}
-
-fn low_byte(n: u16) -> u8
-    ensures { result ≡ n % 256 }
-{
-    (n % 256) as u8
-}
-
-pub fn flag(b: bool) -> u8
-    ensures { result ≡ bit b }
-{
-    if b { 1 } else { 0 }
-}
+// The rows of a unit, as they lie in memory.
+pub type Rows = [[u8; 16]; ROWS];
 
 // The level that a row says where it has one.
 fn level_in(row: [u8; 16]) -> Level
     ensures { result ≡ level_in row }
 {
-    let class = row[3];
-    let high = row[4];
-    let low = row[5];
     Level {
-        class,
-        needs: word(high, low),
+        class: row[3],
+        needs: u16::from_be_bytes([row[4], row[5]]),
     }
 }
 
@@ -60,9 +35,9 @@ pub fn label_in(row: [u8; 16]) -> Label
     ensures { result ≡ label_in row }
 {
     if row[2] == 1 {
-        Label::Present(level_in(row))
+        Some(level_in(row))
     } else {
-        Label::Absent
+        None
     }
 }
 
@@ -70,18 +45,16 @@ pub fn label_in(row: [u8; 16]) -> Label
 pub fn companies_in(row: [u8; 16]) -> u16
     ensures { result ≡ companies_in row }
 {
-    word(row[6], row[7])
+    u16::from_be_bytes([row[6], row[7]])
 }
 
 // The profile that a row says.
 pub fn profile_in(row: [u8; 16]) -> Profile
     ensures { result ≡ profile_in row }
 {
-    let subjects = row[0];
-    let objects = row[1];
     Profile {
-        subjects,
-        objects,
+        subjects: row[0],
+        objects: row[1],
         highest: level_in(row),
     }
 }
@@ -95,32 +68,36 @@ struct LabelBytes {
     low: u8,
 }
 
+#[tactic(auto, unfolding(crate::specs::Stored::label_bytes))]
 fn label_bytes(label: Label) -> LabelBytes
     ensures { result ≡ label_bytes label }
 {
     match label {
-        Label::Absent => LabelBytes {
+        None => LabelBytes {
             present: 0,
             class: 0,
             high: 0,
             low: 0,
         },
-        Label::Present(level) => LabelBytes {
-            present: 1,
-            class: level.class,
-            high: high_byte(level.needs),
-            low: low_byte(level.needs),
-        },
+        Some(level) => {
+            let [high, low] = level.needs.to_be_bytes();
+            LabelBytes {
+                present: 1,
+                class: level.class,
+                high,
+                low,
+            }
+        }
     }
 }
 
 // The row of two numbers, a label, the four company numbers in one, and a parent.
+#[tactic(auto, unfolding(crate::specs::Stored::row_of))]
 pub fn row_of(a: u8, b: u8, label: Label, companies: u16, parent: u8) -> [u8; 16]
     ensures { result ≡ row_of a b label companies parent }
 {
     let l = label_bytes(label);
-    let high = high_byte(companies);
-    let low = low_byte(companies);
+    let [high, low] = companies.to_be_bytes();
     [
         a, b, l.present, l.class, l.high, l.low, high, low, parent, 0, 0, 0, 0, 0, 0, 0,
     ]
@@ -131,5 +108,5 @@ pub fn profile_row(p: Profile) -> [u8; 16]
     ensures { result ≡ profile_of p }
 {
     let highest = p.highest;
-    row_of(p.subjects, p.objects, Label::Present(highest), 0, 0)
+    row_of(p.subjects, p.objects, Some(highest), 0, 0)
 }

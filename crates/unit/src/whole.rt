@@ -6,21 +6,20 @@ ghost use Rattle.unit.specs.Stored.{set_object, unit_of};
 
 use crate::parts::set_rows;
 use crate::rows::{
-    CLEARANCES, HELD, PROFILE, REST, companies_in, flag, label_in, profile_row, row_of,
+    CLEARANCES, HELD, PROFILE, REST, Rows, companies_in, label_in, profile_row, row_of,
 };
 use model::{Monitor, Object};
 
 // The record that three rows say.
+#[tactic(auto, unfolding(crate::specs::Rows::object_of))]
 pub fn object_of(rights: [u8; 16], held: [u8; 16], rest: [u8; 16]) -> Object
     ensures { result ≡ object_of rights held rest }
 {
-    let label = label_in(rest);
-    let companies = companies_in(rest);
     Object {
         live: rest[0] == 1,
         owner: rest[1],
-        label,
-        companies,
+        label: label_in(rest),
+        companies: companies_in(rest),
         rights,
         held,
         parent: rest[8],
@@ -28,49 +27,38 @@ pub fn object_of(rights: [u8; 16], held: [u8; 16], rest: [u8; 16]) -> Object
 }
 
 // The record of an object.
-pub fn object_in(unit: &[[u8; 16]], o: u8) -> Object
-    requires unit_len { length unit.now ≡ row_count }
+pub fn object_in(unit: &Rows, o: u8) -> Object
     requires o_lt_object_count { o < object_count }
     ensures { result ≡ object (state_in unit.now) o }
 {
     let i = o as usize;
-    let rights = unit[i];
-    let held = unit[HELD + i];
-    let rest = unit[REST + i];
-    object_of(rights, held, rest)
+    object_of(unit[i], unit[HELD + i], unit[REST + i])
 }
 
-pub fn set_object(unit: &mut [[u8; 16]], o: u8, ob: Object)
-    requires unit_len { length unit.old ≡ row_count }
+#[tactic(auto, unfolding(crate::specs::Stored::set_object))]
+pub fn set_object(unit: &mut Rows, o: u8, ob: Object)
     requires o_lt_object_count { o < object_count }
     ensures { unit.new ≡ set_object unit.old o ob }
 {
-    let rights = ob.rights;
-    let held = ob.held;
-    let label = ob.label;
-    let rest = row_of(flag(ob.live), ob.owner, label, ob.companies, ob.parent);
-    set_rows(unit, o, rights, held, rest);
+    let rest = row_of(
+        u8::from(ob.live),
+        ob.owner,
+        ob.label,
+        ob.companies,
+        ob.parent,
+    );
+    set_rows(unit, o, ob.rights, ob.held, rest);
 }
 
 // Every row of a monitor.
-pub fn fill(unit: &mut [[u8; 16]], m: Monitor)
-    requires unit_len { length unit.old ≡ row_count }
+pub fn fill(unit: &mut Rows, m: Monitor)
     ensures { unit.new ≡ unit_of m }
 {
-    let mut o = 0usize;
-    while o < Monitor::OBJECTS {
-        let object = m.objects[o];
-        set_object(unit, o as u8, object);
-        o += 1;
+    for o in 0..Monitor::OBJECTS {
+        set_object(unit, o as u8, m.objects[o]);
     }
-    let mut s = 0usize;
-    while s < Monitor::SUBJECTS {
-        let subject = m.subjects[s];
-        let clearance = subject.clearance;
-        let row = row_of(0, 0, clearance, 0, 0);
-        unit[CLEARANCES + s] = row;
-        s += 1;
+    for s in 0..Monitor::SUBJECTS {
+        unit[CLEARANCES + s] = row_of(0, 0, m.subjects[s].clearance, 0, 0);
     }
-    let profile = m.profile;
-    unit[PROFILE] = profile_row(profile);
+    unit[PROFILE] = profile_row(m.profile);
 }

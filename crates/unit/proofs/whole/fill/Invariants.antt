@@ -1,6 +1,5 @@
 -- `unit::whole::fill` meets its contract.
 -- Assumes nothing.
-use Prim.Native.Nat.{◌-◌}
 use Rattle.unit.specs.Stored.{ObjectsStored}
 use Rattle.unit.proofs.Units.{SubjectsStored}
 use Rattle.unit.proofs.whole.fill.Given as goal
@@ -8,11 +7,5 @@ use Rattle.unit.proofs.whole.fill.Given as goal
 abbrev pub invariant-loop-o : goal.invariant-loop-o
 invariant-loop-o l = ObjectsStored l.m.objects l.unit l.o
 
-abbrev pub decreases-loop-o : goal.decreases-loop-o
-decreases-loop-o l = 64 - l.o
-
 abbrev pub invariant-loop-s : goal.invariant-loop-s
 invariant-loop-s l = SubjectsStored l.m l.unit l.s
-
-abbrev pub decreases-loop-s : goal.decreases-loop-s
-decreases-loop-s l = 16 - l.s

@@ -1,8 +1,0 @@
--- `unit::parts::set_companies` meets its contract.
--- Assumes nothing.
-use Rattle.unit.specs.Rows.{object_of}
-use Rattle.unit.proofs.parts.set_companies.Goals as goal
-
-pub returns : goal.returns
-unfolding object_of
-returns c = rw (c.set_rest.ensures, c.row_of-new.ensures, c.flag.ensures, c.label_in-kept.ensures, c.rest_of-row.ensures)
