@@ -1,2 +1,3 @@
--- What a deletion leaves of the rows of a unit.
+-- What a deletion leaves of the rows of a unit, and parents by their numbers.
 pub mod Removed
+pub mod Parents

@@ -1,59 +1,68 @@
-// The parents of objects, and the chain of them above an object. A parent is a number plus one, 0 for none.
-ghost use Rattle.std.specs.Prelude.{◌≡◌, suc, ◌<◌, length};
+// The parents of objects, and the chain of them above an object. In a record a parent is a number plus one, 0 for none.
+ghost use Rattle.std.specs.Prelude.{◌≡◌, suc, ◌<◌};
 ghost use Rattle.model.specs.Hierarchy.{parent_at, ends, below, parent_live, parents_hold};
-ghost use Rattle.model.specs.State.{object_count};
-ghost use Rattle.unit.specs.Rows.{row_count, objects_in};
+ghost use Rattle.model.specs.State.{object_count, object_at};
+ghost use Rattle.unit.specs.Rows.{objects_in};
+ghost use Rattle.hierarchy.specs.Parents.{numbered};
 
 use model::Monitor;
-use unit::{is_live, parent_of};
+use unit::{Rows, is_live, parent_of};
+
+// The parent in the record of object o, by its number.
+fn parent(unit: &Rows, o: u8) -> Option<u8>
+    requires o_lt_object_count { o < object_count }
+    ensures { result ≡ numbered (object_at (objects_in unit.now) o).parent }
+{
+    match parent_of(unit, o) {
+        0 => None,
+        p => Some(p - 1),
+    }
+}
 
 // The parent of object y: what is not live is under nothing, and a number from 64 on is that of no object.
-fn above(unit: &[[u8; 16]], y: u8) -> u8
-    requires { length unit.now ≡ row_count }
-    ensures { result ≡ parent_at (objects_in unit.now) y }
+fn above(unit: &Rows, y: u8) -> Option<u8>
+    ensures { result ≡ numbered (parent_at (objects_in unit.now) y) }
 {
-    if (y as usize) < Monitor::OBJECTS {
-        if is_live(unit, y) {
-            return parent_of(unit, y);
-        }
+    if ((y as usize) < Monitor::OBJECTS) && is_live(unit, y) {
+        parent(unit, y)
+    } else {
+        None
     }
-    0
 }
 
 // Whether the chain from object o ends. One that does is not longer than there are objects, so no more of it is gone up.
-pub fn chain_ends(unit: &[[u8; 16]], o: u8) -> bool
-    requires unit_len { length unit.now ≡ row_count }
+pub fn chain_ends(unit: &Rows, o: u8) -> bool
     requires o_lt_object_count { o < object_count }
     ensures { result ≡ ends object_count (objects_in unit.now) (suc o) }
 {
-    let mut p = o + 1;
-    let mut left = Monitor::OBJECTS;
-    while (0 < left) & (0 < p) {
-        p = above(unit, p - 1);
-        left -= 1;
+    let mut at = o;
+    for _ in 0..Monitor::OBJECTS {
+        match above(unit, at) {
+            Some(p) => at = p,
+            None => return true,
+        }
     }
-    p == 0
+    false
 }
 
 // Whether object y is below o: o is met on the chain above y.
-pub fn is_below(unit: &[[u8; 16]], o: u8, y: u8) -> bool
-    requires unit_len { length unit.now ≡ row_count }
+pub fn is_below(unit: &Rows, o: u8, y: u8) -> bool
     requires o_lt_object_count { o < object_count }
     ensures { result ≡ below (objects_in unit.now) o y }
 {
-    let top = o + 1;
-    let mut p = above(unit, y);
-    let mut left = Monitor::OBJECTS;
-    while (0 < left) & ((0 < p) & (p != top)) {
-        p = above(unit, p - 1);
-        left -= 1;
+    let mut at = y;
+    for _ in 0..Monitor::OBJECTS {
+        match above(unit, at) {
+            Some(p) if p == o => return true,
+            Some(p) => at = p,
+            None => return false,
+        }
     }
-    (0 < left) & (p == top)
+    false
 }
 
 // Whether a parent is none or live; a number above 64 is that of no object.
-pub fn parent_live(unit: &[[u8; 16]], p: u16) -> bool
-    requires { length unit.now ≡ row_count }
+pub fn parent_live(unit: &Rows, p: u16) -> bool
     ensures { result ≡ parent_live (objects_in unit.now) p }
 {
     if p == 0 {
@@ -66,18 +75,11 @@ pub fn parent_live(unit: &[[u8; 16]], p: u16) -> bool
 }
 
 // Whether every parent is live and every chain of parents ends.
-pub fn parents_hold(unit: &[[u8; 16]]) -> bool
-    requires { length unit.now ≡ row_count }
+pub fn parents_hold(unit: &Rows) -> bool
     ensures { result ≡ parents_hold (objects_in unit.now) }
 {
-    let mut i = 0usize;
-    while i < Monitor::OBJECTS {
-        let o = i as u8;
-        let live = parent_live(unit, parent_of(unit, o) as u16);
-        if !(live & chain_ends(unit, o)) {
-            return false;
-        }
-        i += 1;
-    }
-    true
+    (0..Monitor::OBJECTS as u8).all(|o| {
+        let live = parent_live(unit, u16::from(parent_of(unit, o)));
+        live & chain_ends(unit, o)
+    })
 }

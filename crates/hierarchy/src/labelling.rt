@@ -1,30 +1,30 @@
 // The rule of labels: "A labelled child has a labelled parent whose label it dominates".
-ghost use Rattle.std.specs.Prelude.{◌≡◌, ◌<◌, length};
+ghost use Rattle.std.specs.Prelude.{◌≡◌, ◌<◌};
 ghost use Rattle.model.specs.Hierarchy.{label_under, labels_rise};
 ghost use Rattle.model.specs.State.{object_count, object_at};
-ghost use Rattle.unit.specs.Rows.{row_count, objects_in};
+ghost use Rattle.unit.specs.Rows.{objects_in};
 
 use labels::{dominates, implies, is_present};
 use model::{Label, Monitor};
-use unit::{label_of, parent_of};
+use unit::{Rows, label_of, parent_of};
 
 // The label of object y; a number from 64 on is that of no object, which has no label.
-fn label_at(unit: &[[u8; 16]], y: u8) -> Label
-    requires { length unit.now ≡ row_count }
+fn label_at(unit: &Rows, y: u8) -> Label
     ensures { result ≡ (object_at (objects_in unit.now) y).label }
 {
     if (y as usize) < Monitor::OBJECTS {
-        return label_of(unit, y);
+        label_of(unit, y)
+    } else {
+        None
     }
-    Label::Absent
 }
 
 // Whether object o keeps the rule toward its parent. Without a parent, as most are, no label is read.
-fn keeps_rule(unit: &[[u8; 16]], o: u8) -> bool
-    requires unit_len { length unit.now ≡ row_count }
+fn keeps_rule(unit: &Rows, o: u8) -> bool
     requires o_lt_object_count { o < object_count }
     ensures { result ≡ label_under (objects_in unit.now) (object_at (objects_in unit.now) o).label (object_at (objects_in unit.now) o).parent }
 {
+    // Kept: the number as the record has it; by an Option this check takes a quarter more steps for each object.
     let p = parent_of(unit, o);
     if p == 0 {
         return true;
@@ -34,16 +34,8 @@ fn keeps_rule(unit: &[[u8; 16]], o: u8) -> bool
 }
 
 // Whether all objects keep it.
-pub fn labels_rise(unit: &[[u8; 16]]) -> bool
-    requires { length unit.now ≡ row_count }
+pub fn labels_rise(unit: &Rows) -> bool
     ensures { result ≡ labels_rise (objects_in unit.now) }
 {
-    let mut o = 0usize;
-    while o < Monitor::OBJECTS {
-        if !keeps_rule(unit, o as u8) {
-            return false;
-        }
-        o += 1;
-    }
-    true
+    (0..Monitor::OBJECTS as u8).all(|o| keeps_rule(unit, o))
 }

@@ -24,9 +24,9 @@ pub add-or : (x : Mode) (n : ℕ) → n < 256 → bit_or n (weight x) ≡ add x 
 unfolding has add
 add-or x n h = eqb-true _ _ (bytes (λ x n. eqb (bit_or n (weight x)) (add x n)) refl x n h)
 
-pub remove-and : (x : Mode) (n : ℕ) → n < 256 → n - bit_and n (weight x) ≡ remove x n
+pub remove-and : (x : Mode) (n : ℕ) → n < 256 → bit_and n (255 - weight x) ≡ remove x n
 unfolding has remove
-remove-and x n h = eqb-true _ _ (bytes (λ x n. eqb (n - bit_and n (weight x)) (remove x n)) refl x n h)
+remove-and x n h = eqb-true _ _ (bytes (λ x n. eqb (bit_and n (255 - weight x)) (remove x n)) refl x n h)
 
 -- a test at each byte that some modes are in the set
 pub some-and : (k : ℕ) (f : ℕ → Bool) → all_below 256 (λ n. beq (not (eqb (bit_and n k) 0)) (f n)) ≡ true

@@ -8,50 +8,44 @@ ghost use Rattle.model.specs.Modes.{weight, has, add, remove, observes, alters, 
 
 use model::Mode;
 
+// The bit of each mode in a set of modes.
+const READ: u8 = 8;
+
+const WRITE: u8 = 4;
+
+const APPEND: u8 = 2;
+
+const EXECUTE: u8 = 1;
+
 // ---- modes
 
 fn weight(x: Mode) -> u8
     ensures { result ≡ weight x }
 {
     match x {
-        Mode::Read => 8,
-        Mode::Write => 4,
-        Mode::Append => 2,
-        Mode::Execute => 1,
+        Mode::Read => READ,
+        Mode::Write => WRITE,
+        Mode::Append => APPEND,
+        Mode::Execute => EXECUTE,
     }
 }
 
 pub fn observes(x: Mode) -> bool
     ensures { result ≡ observes x }
 {
-    match x {
-        Mode::Read => true,
-        Mode::Write => true,
-        Mode::Append => false,
-        Mode::Execute => false,
-    }
+    matches!(x, Mode::Read | Mode::Write)
 }
 
 pub fn alters(x: Mode) -> bool
     ensures { result ≡ alters x }
 {
-    match x {
-        Mode::Read => false,
-        Mode::Write => true,
-        Mode::Append => true,
-        Mode::Execute => false,
-    }
+    matches!(x, Mode::Write | Mode::Append)
 }
 
 pub fn needs_label(x: Mode) -> bool
     ensures { result ≡ needs_label x }
 {
-    match x {
-        Mode::Read => true,
-        Mode::Write => true,
-        Mode::Append => true,
-        Mode::Execute => false,
-    }
+    x != Mode::Execute
 }
 
 // ---- sets of modes, one bit for each mode; also of numbers above 15, which are no sets of four modes
@@ -71,35 +65,34 @@ pub fn add(x: Mode, n: u8) -> u8
 pub fn remove(x: Mode, n: u8) -> u8
     ensures { result ≡ remove x n }
 {
-    n - (n & weight(x))
+    n & !weight(x)
 }
 
-// r or w
+// Whether a set has a mode that observes, one that alters, one that needs a label, and any of the four.
+// Kept: four questions of one line each; a function with the modes as an argument would be no plainer.
+
 pub fn any_observes(n: u8) -> bool
     ensures { result ≡ any_observes n }
 {
-    n & 12 != 0
+    n & (READ | WRITE) != 0
 }
 
-// w or a
 pub fn any_alters(n: u8) -> bool
     ensures { result ≡ any_alters n }
 {
-    n & 6 != 0
+    n & (WRITE | APPEND) != 0
 }
 
-// r, w or a
 pub fn any_needs_label(n: u8) -> bool
     ensures { result ≡ any_needs_label n }
 {
-    n & 14 != 0
+    n & (READ | WRITE | APPEND) != 0
 }
 
-// any of the four
 pub fn any_held(n: u8) -> bool
     ensures { result ≡ any_held n }
 {
-    n & 15 != 0
+    n & (READ | WRITE | APPEND | EXECUTE) != 0
 }
 
 // Each of the four modes that is in h is in r.

@@ -2,15 +2,15 @@
 
 #![tactic(auto)]
 
-ghost use Rattle.std.specs.Prelude.{◌≡◌, length};
+ghost use Rattle.std.specs.Prelude.{◌≡◌};
 ghost use Rattle.model.specs.State.{subject_count, object_count};
 ghost use Rattle.model.specs.Profiles.{site, profile_fits, label_inside};
-ghost use Rattle.unit.specs.Rows.{row_count, state_in};
+ghost use Rattle.unit.specs.Rows.{state_in};
 ghost use Rattle.profiles.specs.Kept.{subjects_kept, objects_kept, kept};
 
 use labels::{at_least, is_present};
 use model::{Label, Level, Monitor, Profile};
-use unit::{clearance_of, is_live, label_of, profile_of};
+use unit::{Rows, clearance_of, is_live, label_of, profile_of};
 
 // A profile by its four numbers.
 pub fn site(subjects: u8, objects: u8, class: u8, needs: u16) -> Profile
@@ -37,12 +37,13 @@ fn label_inside(p: Profile, l: Label) -> bool
     ensures { result ≡ label_inside p l }
 {
     match l {
-        Label::Absent => true,
-        Label::Present(level) => at_least(p.highest, level),
+        None => true,
+        Some(level) => at_least(p.highest, level),
     }
 }
 
 // Whether every record beyond the profile is absent, and whether every level is inside it.
+// Kept: two answers with no value behind either, each asked for on its own.
 #[derive(Clone, Copy)]
 pub struct Kept {
     pub absent: bool,
@@ -50,45 +51,36 @@ pub struct Kept {
 }
 
 // The records of the subjects.
-pub fn subjects_kept(unit: &[[u8; 16]]) -> Kept
-    requires { length unit.now ≡ row_count }
+pub fn subjects_kept(unit: &Rows) -> Kept
     ensures { result ≡ subjects_kept (state_in unit.now) subject_count }
 {
     let p = profile_of(unit);
     let mut absent = true;
     let mut inside = true;
-    let mut i: usize = 0;
-    while i < Monitor::SUBJECTS {
-        let s = i as u8;
+    for s in 0..Monitor::SUBJECTS as u8 {
         let clearance = clearance_of(unit, s);
         absent = absent & ((s < p.subjects) | !is_present(clearance));
         inside = inside & label_inside(p, clearance);
-        i += 1;
     }
     Kept { absent, inside }
 }
 
 // The records of the objects.
-fn objects_kept(unit: &[[u8; 16]]) -> Kept
-    requires { length unit.now ≡ row_count }
+fn objects_kept(unit: &Rows) -> Kept
     ensures { result ≡ objects_kept (state_in unit.now) object_count }
 {
     let p = profile_of(unit);
     let mut absent = true;
     let mut inside = true;
-    let mut i: usize = 0;
-    while i < Monitor::OBJECTS {
-        let o = i as u8;
+    for o in 0..Monitor::OBJECTS as u8 {
         absent = absent & ((o < p.objects) | !is_live(unit, o));
         inside = inside & label_inside(p, label_of(unit, o));
-        i += 1;
     }
     Kept { absent, inside }
 }
 
 // All records of a unit.
-pub fn keeps(unit: &[[u8; 16]]) -> Kept
-    requires { length unit.now ≡ row_count }
+pub fn keeps(unit: &Rows) -> Kept
     ensures { result ≡ kept (state_in unit.now) }
 {
     let subjects = subjects_kept(unit);

@@ -2,3 +2,4 @@
 pub mod Pairs
 pub mod Listed
 pub mod Between
+pub mod Ranges

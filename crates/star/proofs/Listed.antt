@@ -3,14 +3,16 @@
 use Prim.Native.Nat.{ℕ, ◌+◌, ◌<◌, ◌≤◌, min}
 use native.Mathlib.Omega.{arith}
 use native.Mathlib.Nat.{eq-or-lt_of_le}
-use mathlib.Core.Path.{◌≡◌, sym, ap, ap₂, ◌∙◌}
+use mathlib.Core.Path.{◌≡◌, refl, sym, ap, ap₂, ◌∙◌}
 use mathlib.Core.Logic.{◌↔◌, ⊎_elim}
 use mathlib.Core.Bool.{Bool, true, false, not}
 use mathlib.Core.List.{List}
-use lib.ListN.{length, get_or, set, length-set}
+use lib.ListN.{length, get_or, set, take, length-set}
 use lib.Dec.{eqb}
 use borrow.Author.Tests.{eqb-true}
 use lib.Seq.{get_or-set_same, get_or-set_other}
+use Rattle.std.proofs.lemmas.List.{length-take-le, get_or-take}
+use Rattle.std.specs.Int.{from_bool}
 use Rattle.bits.specs.Bits.{bit}
 use Rattle.model.specs.declared.Object.{Object}
 use Rattle.model.specs.Tests.{all_below}
@@ -27,11 +29,18 @@ use Rattle.star.specs.Idle.{free, nothing_held, idle}
 use Rattle.star.proofs.Pairs.{pairs-listed}
 use Rattle.star.specs.Lists.{read_by, altered_by, busy_for, Listed, itself, out_of, Numbers, Covers, label_at, pairs_kept, TabledFor}
 
-pub listed-none : (f : ℕ → Bool) (from : ℕ → ℕ) (a : List ℕ) → length a ≡ 64 → Listed f from a 0 0
-listed-none f from a e =
+-- in an array of 64 that is being filled, the first n numbers are those that pass f, of q that were looked at
+pub record Counted (f : ℕ → Bool) (from : ℕ → ℕ) (a : List ℕ) (n q : ℕ) : Type 0 where
+  pub whole : length a ≡ 64
+  pub few : n ≤ q
+  pub sound : (j : ℕ) → j < n → (get_or a j 0 < 64) × (f (get_or a j 0) ≡ true)
+  pub complete : (k : ℕ) → k < q → f (from k) ≡ true → (j : ℕ) × ((j < n) × (get_or a j 0 ≡ from k))
+
+pub counted-none : (f : ℕ → Bool) (from : ℕ → ℕ) (a : List ℕ) → length a ≡ 64 → Counted f from a 0 0
+counted-none f from a e =
     record { whole = e; few = omega arith; sound = λ j h. absurd (omega arith); complete = λ k h t. absurd (omega arith) }
 
-module _ (f : ℕ → Bool) (from : ℕ → ℕ) (a : List ℕ) (n q : ℕ) (h : q < 64) (b : from q < 64) (L : Listed f from a n q) where
+module _ (f : ℕ → Bool) (from : ℕ → ℕ) (a : List ℕ) (n q : ℕ) (h : q < 64) (b : from q < 64) (L : Counted f from a n q) where
   kept_at : (j : ℕ) → j < n → get_or (set a n (from q)) j 0 ≡ get_or a j 0
   kept_at j w = get_or-set_other a n j (from q) 0 (λ e. absurd (omega arith))
 
@@ -46,8 +55,8 @@ module _ (f : ℕ → Bool) (from : ℕ → ℕ) (a : List ℕ) (n q : ℕ) (h :
   complete-still m k e z u = let s = L.complete k z u in (s.0, (omega (arith, s.1.0), kept_at s.0 s.1.0 ∙ s.1.1))
 
   -- one more number is looked at: stored in any case, and counted where it passes
-  pub listed_more : (v : ℕ) → v ≡ bit (f (from q)) → Listed f from (set a n (from q)) (n + v) (q + 1)
-  listed_more v e =
+  pub counted_more : (v : ℕ) → v ≡ bit (f (from q)) → Counted f from (set a n (from q)) (n + v) (q + 1)
+  counted_more v e =
       split (f (from q))
       (λ t. let one : v ≡ 1 = e ∙ ap bit t in
       record {
@@ -76,12 +85,25 @@ module _ (f : ℕ → Bool) (from : ℕ → ℕ) (a : List ℕ) (n q : ℕ) (h :
             (eq-or-lt_of_le {n = k} {m = q} (omega arith));
       })
 
--- out of a list that leaves out none of all 64 objects that passes
-pub listed-all : (g : ℕ → Bool) (b a : List ℕ) (n r : ℕ) → Numbers b n → ((k : ℕ) → k < 64 → g k ≡ true → (j : ℕ) × ((j < n) × (get_or b j 0 ≡ k)))
-    → Listed g (out_of b) a r n → Listed g itself a r 64
-listed-all g b a n r N w A =
+-- what is lent on in the end is the front of the array
+pub listed-front : (f : ℕ → Bool) (from : ℕ → ℕ) (a : List ℕ) (n q : ℕ) → q ≤ 64 → Counted f from a n q → Listed f from (take n a) q
+listed-front f from a n q h L =
+    let long : length (take n a) ≡ n = length-take-le n a (omega (arith, h, L.few, L.whole)) in
+    let here : (j : ℕ) → j < n → get_or (take n a) j 0 ≡ get_or a j 0 = λ j w. get_or-take n a j 0 w in
     record {
-      whole = A.whole;
+      few = omega (arith, L.few, long);
+      sound = λ j w.
+          let z : j < n = omega (arith, w, long) in
+          let s = L.sound j z in
+          (omega (arith, here j z, s.0), ap f (here j z) ∙ s.1);
+      complete = λ k w u. let s = L.complete k w u in (s.0, (omega (arith, s.1.0, long), here s.0 s.1.0 ∙ s.1.1));
+    }
+
+-- out of a list that leaves out none of all 64 objects that passes
+pub listed-all : (g : ℕ → Bool) (b a : List ℕ) → Numbers b → ((k : ℕ) → k < 64 → g k ≡ true → (j : ℕ) × ((j < length b) × (get_or b j 0 ≡ k)))
+    → Listed g (out_of b) a (length b) → Listed g itself a 64
+listed-all g b a N w A =
+    record {
       few = omega (arith, A.few, N.few);
       sound = A.sound;
       complete = λ k h t.
@@ -91,8 +113,12 @@ listed-all g b a n r N w A =
     }
 
 -- the numbers of a list
-pub listed-numbers : (f : ℕ → Bool) (from : ℕ → ℕ) (a : List ℕ) (n q : ℕ) → Listed f from a n q → q ≤ 64 → Numbers a n
-listed-numbers f from a n q L h = record { few = omega (arith, L.few); below = λ j w. (L.sound j w).0 }
+pub listed-numbers : (f : ℕ → Bool) (from : ℕ → ℕ) (a : List ℕ) (q : ℕ) → Listed f from a q → q ≤ 64 → Numbers a
+listed-numbers f from a q L h = record { few = omega (arith, L.few); below = λ j w. (L.sound j w).0 }
+
+pub from-bit : (b : Bool) → from_bool b ≡ bit b
+from-bit true = refl
+from-bit false = refl
 
 pub bit-small : (b : Bool) → bit b ≤ 1
 bit-small true = omega arith
@@ -116,46 +142,46 @@ module _ (low end s : ℕ) (g : low ≤ s) (h : s < end) (w : end ≤ 16) (at : 
       (λ e. apart t (not_on _ (idle-free (at k).held low end s g h w e)))
       (λ e. ap not e)
 
-  pub busy-covers : (a : List ℕ) (n : ℕ) → Listed (busy_for low end at) itself a n 64 → Covers s at a n
-  busy-covers a n L =
+  pub busy-covers : (a : List ℕ) → Listed (busy_for low end at) itself a 64 → Covers s at a
+  busy-covers a L =
       record {
-        numbers = listed-numbers _ _ a n 64 L (omega arith);
+        numbers = listed-numbers _ _ a 64 L (omega arith);
         reads = λ k b t. L.complete k b (held-busy k (or_left (read_by s at k) (altered_by s at k) t));
         alters = λ k b t. L.complete k b (held-busy k (or_right (read_by s at k) (altered_by s at k) t));
       }
 
 -- a pair that is not in order
-pub pair-apart : (at : ℕ → Object) (read : List ℕ) (r : ℕ) (altered : List ℕ) (a i : ℕ) → i < r → (j : ℕ) → j < a → dominates (label_at at altered j) (label_at at read i) ≡ false
-    → pairs_kept at read r altered a ≡ false
+pub pair-apart : (at : ℕ → Object) (read altered : List ℕ) (i j : ℕ) → i < length read → j < length altered
+    → dominates (label_at at altered j) (label_at at read i) ≡ false → pairs_kept at read altered ≡ false
 unfolding pairs_kept
-pair-apart at read r altered a i hi j hj e =
-    split (pairs_kept at read r altered a) (λ t. apart (below_out a _ (below_out r _ t i hi) j hj) e) (λ f. f)
+pair-apart at read altered i j hi hj e =
+    split (pairs_kept at read altered) (λ t. apart (below_out (length altered) _ (below_out (length read) _ t i hi) j hj) e) (λ f. f)
 
 -- going over the two lists is going over all objects; `at` has what the list of the objects has
 pub star-pairs : (s : ℕ) (l : List Object) → length l ≡ 64 → (d : Object) (at : ℕ → Object) → ((k : ℕ) → k < 64 → get_or l k d ≡ at k)
-    → (read altered : List ℕ) (r a : ℕ) → Listed (read_by s at) itself read r 64 → Listed (altered_by s at) itself altered a 64
-    → star_for s l ≡ pairs_kept at read r altered a
+    → (read altered : List ℕ) → Listed (read_by s at) itself read 64 → Listed (altered_by s at) itself altered 64
+    → star_for s l ≡ pairs_kept at read altered
 unfolding star_for star_from star_pair pairs_kept
-star-pairs s l n d at same read altered r a R A =
+star-pairs s l n d at same read altered R A =
     pairs-listed (λ (p : Object). any_observes (held_by p s)) (λ (q : Object). any_alters (held_by q s)) (λ (p q : Object). dominates q.label p.label) l n d at same
-    read altered r a R A
+    read altered R A
 
 -- going over the two lists is going over the table for every pair of accesses of the subject
-module _ (s : ℕ) (at : ℕ → Object) (read altered : List ℕ) (r a : ℕ) (R : Listed (read_by s at) itself read r 64) (A : Listed (altered_by s at) itself altered a 64) where
-  pair-kept : pairs_kept at read r altered a ≡ true → (p q : ℕ) → p < 64 → q < 64 → (x y : Mode) → has x (held_by (at p) s) ≡ true → observes x ≡ true
+module _ (s : ℕ) (at : ℕ → Object) (read altered : List ℕ) (R : Listed (read_by s at) itself read 64) (A : Listed (altered_by s at) itself altered 64) where
+  pair-kept : pairs_kept at read altered ≡ true → (p q : ℕ) → p < 64 → q < 64 → (x y : Mode) → has x (held_by (at p) s) ≡ true → observes x ≡ true
       → has y (held_by (at q) s) ≡ true → alters y ≡ true → Dominates (at q).label (at p).label
   unfolding pairs_kept
   pair-kept t p q hp hq x y h o k w =
       let i = R.complete p hp (any-observes x _ h o) in
       let j = A.complete q hq (any-alters y _ k w) in
       (dominates-decides _ _).0
-      (sym (ap₂ (λ (u v : ℕ). dominates (at v).label (at u).label) i.1.1 j.1.1) ∙ below_out a _ (below_out r _ t i.0 i.1.0) j.0 j.1.0)
+      (sym (ap₂ (λ (u v : ℕ). dominates (at v).label (at u).label) i.1.1 j.1.1) ∙ below_out (length altered) _ (below_out (length read) _ t i.0 i.1.0) j.0 j.1.0)
 
-  pub lists-table : (pairs_kept at read r altered a ≡ true) ↔ TabledFor s at
+  pub lists-table : (pairs_kept at read altered ≡ true) ↔ TabledFor s at
   unfolding pairs_kept
   lists-table = (
     λ t p q hp hq x y h k. (entry-star x y _ _).1 (λ o w. pair-kept t p q hp hq x y h o k w, λ o w. pair-kept t q p hq hp y x k o h w),
-    λ T. below_in r _ (λ i hi. below_in a _ (λ j hj.
+    λ T. below_in (length read) _ (λ i hi. below_in (length altered) _ (λ j hj.
         let u = R.sound i hi in
         let v = A.sound j hj in
         observes-some _ u.1 (λ x h o. alters-some _ v.1 (λ y k w. (dominates-decides _ _).1 (((entry-star x y _ _).0 (T _ _ u.0 v.0 x y h k)).0 o w))))),

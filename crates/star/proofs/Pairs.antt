@@ -25,10 +25,10 @@ pairs_over from to holds l = all_of (λ (p : Object). implies (from p) (pairs_fr
 
 -- `at` has what the list of the objects has
 module _ (from to : Object → Bool) (holds : Object → Object → Bool) (l : List Object) (n : length l ≡ 64) (d : Object) (at : ℕ → Object)
-    (same : (k : ℕ) → k < 64 → get_or l k d ≡ at k) (xs ys : List ℕ) (a b : ℕ)
-    (A : Listed (λ k. from (at k)) itself xs a 64) (B : Listed (λ k. to (at k)) itself ys b 64) where
+    (same : (k : ℕ) → k < 64 → get_or l k d ≡ at k) (xs ys : List ℕ)
+    (A : Listed (λ k. from (at k)) itself xs 64) (B : Listed (λ k. to (at k)) itself ys 64) where
   -- every listed pair is in order
-  pairs-in : ((i : ℕ) → i < a → (j : ℕ) → j < b → holds (at (get_or xs i 0)) (at (get_or ys j 0)) ≡ true) → pairs_over from to holds l ≡ true
+  pairs-in : ((i : ℕ) → i < length xs → (j : ℕ) → j < length ys → holds (at (get_or xs i 0)) (at (get_or ys j 0)) ≡ true) → pairs_over from to holds l ≡ true
   pairs-in h =
       all-below (λ (p : Object). implies (from p) (pairs_from to holds l p)) d l
       (λ p hp. implies-in _ _ (λ t. all-below (λ (q : Object). implies (to q) (holds (get_or l p d) q)) d l
@@ -39,7 +39,7 @@ module _ (from to : Object → Bool) (holds : Object → Object → Bool) (l : L
       ∙ sym (ap₂ (λ (x y : ℕ). holds (at x) (at y)) i.1.1 j.1.1) ∙ h i.0 i.1.0 j.0 j.1.0))))
 
   -- and where all pairs are in order, those that are listed
-  pairs-out : pairs_over from to holds l ≡ true → (i : ℕ) → i < a → (j : ℕ) → j < b → holds (at (get_or xs i 0)) (at (get_or ys j 0)) ≡ true
+  pairs-out : pairs_over from to holds l ≡ true → (i : ℕ) → i < length xs → (j : ℕ) → j < length ys → holds (at (get_or xs i 0)) (at (get_or ys j 0)) ≡ true
   pairs-out t i hi j hj =
       let p = A.sound i hi in
       let q = B.sound j hj in
@@ -51,7 +51,7 @@ module _ (from to : Object → Bool) (holds : Object → Object → Bool) (l : L
       (get_or ys j 0) (omega (arith, q.0))) (ap to second ∙ q.1)
 
   -- all pairs at once
-  pub pairs-listed : pairs_over from to holds l ≡ all_below a (λ i. all_below b (λ j. holds (at (get_or xs i 0)) (at (get_or ys j 0))))
+  pub pairs-listed : pairs_over from to holds l ≡ all_below (length xs) (λ i. all_below (length ys) (λ j. holds (at (get_or xs i 0)) (at (get_or ys j 0))))
   pairs-listed =
-      bool-ext _ _ (λ t. below_in a _ (λ i hi. below_in b _ (λ j hj. pairs-out t i hi j hj)))
-      (λ t. pairs-in (λ i hi. below_out b _ (below_out a _ t i hi)))
+      bool-ext _ _ (λ t. below_in (length xs) _ (λ i hi. below_in (length ys) _ (λ j hj. pairs-out t i hi j hj)))
+      (λ t. pairs-in (λ i hi. below_out (length ys) _ (below_out (length xs) _ t i hi)))

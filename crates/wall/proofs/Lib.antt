@@ -2,3 +2,4 @@
 pub mod Joined
 pub mod Wall
 pub mod Between
+pub mod Ranges

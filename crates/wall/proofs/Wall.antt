@@ -3,9 +3,10 @@
 use Prim.Native.Nat.{ℕ, ◌<◌}
 use native.Mathlib.Omega.{arith}
 use mathlib.Core.Path.{◌≡◌, refl, sym, ap, ap₂, ◌∙◌}
-use mathlib.Core.Bool.{Bool, true, ◌&&◌}
+use mathlib.Core.Bool.{Bool, true, false, cond, ◌&&◌}
 use mathlib.Core.List.{List}
 use lib.ListN.{length}
+use Rattle.std.proofs.Common.{Some, None}
 use borrow.Author.Tests.{eqb-true}
 use Rattle.model.specs.declared.Object.{Object}
 use Rattle.model.specs.Tests.{all_below, implies}
@@ -78,21 +79,31 @@ module _ (n : ℕ) (g : ℕ → ℕ) (read altered : ℕ → Bool) where
   pairs-joined =
       bool-ext _ _ into-joined (λ v. out-of-joined (and_left (joins n g) _ v) (and_right (joins n g) _ v))
 
+-- ---- what a pass gives that may find nothing in common
+
+pub joined-some : (b : Bool) (w r : ℕ) → Some r ≡ cond b (Some w) None → (true ≡ b) × (r ≡ w)
+joined-some true w r e = (refl, cc)
+joined-some false w r e = let z : ◌≡◌ {A = ℕ} 0 1 = cc in absurd (omega (arith, z))
+
+pub joined-none : (b : Bool) (w : ℕ) → None ≡ cond b (Some w) None → b ≡ false
+joined-none true w e = let z : ◌≡◌ {A = ℕ} 0 1 = cc in absurd (omega (arith, z))
+joined-none false w e = refl
+
 -- ---- one subject
 
 module _ (s : ℕ) (l : List Object) (n : length l ≡ 64) where
   -- by the list of the objects that it has an access to: what the pass over their joined numbers found, and the one over those that it alters
-  pub wall-listed : (a : List ℕ) (c : ℕ) → Listed (accessed_by s (object_at l)) itself a c 64 → (fit kept : Bool) (w : ℕ)
-      → fit ≡ joins c (numbers_at (object_at l) a) → w ≡ joined_below c (read_at s (object_at l) a) (numbers_at (object_at l) a)
-      → kept ≡ confined_to c (altered_at s (object_at l) a) w (numbers_at (object_at l) a) → (fit && kept) ≡ wall_for s l
+  pub wall-listed : (a : List ℕ) → Listed (accessed_by s (object_at l)) itself a 64 → (fit kept : Bool) (w : ℕ)
+      → fit ≡ joins (length a) (numbers_at (object_at l) a) → w ≡ joined_below (length a) (read_at s (object_at l) a) (numbers_at (object_at l) a)
+      → kept ≡ confined_to (length a) (altered_at s (object_at l) a) w (numbers_at (object_at l) a) → (fit && kept) ≡ wall_for s l
   unfolding wall_for wall_from wall_pair
-  wall-listed a c A fit kept w f r k =
-      ap₂ ◌&&◌ f (k ∙ ap (λ (v : ℕ). confined_to c (altered_at s (object_at l) a) v (numbers_at (object_at l) a)) r)
+  wall-listed a A fit kept w f r k =
+      ap₂ ◌&&◌ f (k ∙ ap (λ (v : ℕ). confined_to (length a) (altered_at s (object_at l) a) v (numbers_at (object_at l) a)) r)
       ∙ sym
       (pairs-listed (λ (p : Object). any_held (held_by p s)) (λ (p : Object). any_held (held_by p s))
       (λ (p q : Object). compatible p.companies q.companies && implies (any_observes (held_by p s) && any_alters (held_by q s)) (confined p.companies q.companies))
-      l n no_object (object_at l) (λ k w. refl) a a c c A A
-      ∙ pairs-joined c (numbers_at (object_at l) a) (read_at s (object_at l) a) (altered_at s (object_at l) a))
+      l n no_object (object_at l) (λ k w. refl) a a A A
+      ∙ pairs-joined (length a) (numbers_at (object_at l) a) (read_at s (object_at l) a) (altered_at s (object_at l) a))
 
   -- where no object has a number
   pub wall-unmarked : no_companies l ≡ true → wall_for s l ≡ true

@@ -1,62 +1,40 @@
 // Company numbers: four in one number, one for each conflict class, the first class highest. The four classes are written out.
-ghost use Rattle.std.specs.Prelude.{◌≡◌, ◌||◌, cond, eqb};
-ghost use Rattle.model.specs.Companies.{compatible, confined};
+ghost use Rattle.std.specs.Prelude.{◌≡◌, ◌<◌, ℕ, Bool, cond};
+ghost use Rattle.model.specs.Tests.{all_below};
+ghost use Rattle.model.specs.Companies.{company, compatible, confined};
 ghost use Rattle.wall.specs.Joined.{number_or, joined};
 
-// Two numbers of one class do not compete: one is 0, or they are equal.
-fn no_conflict(a: u16, b: u16) -> bool
-    ensures { result ≡ (eqb a 0 || (eqb b 0 || eqb a b)) }
+// Whether a test of two numbers of one class passes in each class.
+fn in_each_class<F: Fn(u16, u16) -> bool>(p: u16, q: u16, passes: F) -> bool
+    requires { (a : ℕ) → (b : ℕ) → a < 16 → b < 16 → F.pre passes a b }
+    ensures { (f : ℕ → ℕ → Bool) → ((a : ℕ) → (b : ℕ) → (r : Bool) → F.post passes a b r → r ≡ f a b) → result ≡ all_below 4 (λ k. f (company k p) (company k q)) }
 {
-    (a == 0) | ((b == 0) | (a == b))
-}
-
-// "each class has a 0 or equal numbers", class by class
-fn compatible_classes(p: u16, q: u16) -> bool
-    ensures { result ≡ compatible p q }
-{
-    let first = no_conflict(p / 4096 % 16, q / 4096 % 16);
-    let second = no_conflict(p / 256 % 16, q / 256 % 16);
-    let third = no_conflict(p / 16 % 16, q / 16 % 16);
-    let last = no_conflict(p % 16, q % 16);
+    let first = passes(p / 4096 % 16, q / 4096 % 16);
+    let second = passes(p / 256 % 16, q / 256 % 16);
+    let third = passes(p / 16 % 16, q / 16 % 16);
+    let last = passes(p % 16, q % 16);
     first & second & third & last
 }
 
-// The same; without numbers in the second, or with equal ones, which is what most objects of a plant have, no class is looked at.
+// "each class has a 0 or equal numbers"; without numbers in the second, or with equal ones, which is what most objects of a plant have, no
+// class is looked at.
 pub fn compatible(p: u16, q: u16) -> bool
     ensures { result ≡ compatible p q }
 {
     if (q == 0) | (p == q) {
         return true;
     }
-    compatible_classes(p, q)
+    in_each_class(p, q, |a, b| (a == 0) | ((b == 0) | (a == b)))
 }
 
-// A number of one class is 0, or the other is equal to it.
-fn follows(a: u16, b: u16) -> bool
-    ensures { result ≡ (eqb a 0 || eqb a b) }
-{
-    (a == 0) | (a == b)
-}
-
-// "each nonzero number of P equals that of Q", class by class
-fn confined_classes(p: u16, q: u16) -> bool
-    ensures { result ≡ confined p q }
-{
-    let first = follows(p / 4096 % 16, q / 4096 % 16);
-    let second = follows(p / 256 % 16, q / 256 % 16);
-    let third = follows(p / 16 % 16, q / 16 % 16);
-    let last = follows(p % 16, q % 16);
-    first & second & third & last
-}
-
-// The same, where the first has no number or both have the same without a look at the classes.
+// "each nonzero number of P equals that of Q"; where the first has no number or both have the same without a look at the classes.
 pub fn confined(p: u16, q: u16) -> bool
     ensures { result ≡ confined p q }
 {
     if (p == 0) | (p == q) {
         return true;
     }
-    confined_classes(p, q)
+    in_each_class(p, q, |a, b| (a == 0) | (a == b))
 }
 
 // The first number, and where that is 0 the second.
@@ -67,6 +45,7 @@ fn number_or(a: u16, b: u16) -> u16
 }
 
 // In each class the number of p, and where that is 0 the number of q.
+// Kept: a number is made of the four classes here, so that in_each_class, which makes a test of them, does not serve.
 fn joined_classes(p: u16, q: u16) -> u16
     ensures { result ≡ joined p q }
 {

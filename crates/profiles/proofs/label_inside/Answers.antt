@@ -4,10 +4,10 @@ use mathlib.Core.Path.{sym, ap, ◌∙◌}
 use Rattle.model.specs.Profiles.{label_inside}
 use Rattle.profiles.proofs.label_inside.Goals as goal
 
-pub returns-in-Absent : goal.returns-in-Absent
+pub returns-in-None : goal.returns-in-None
 unfolding label_inside
-returns-in-Absent c = ap (label_inside c.args.p) (sym c.in-Absent.is)
+returns-in-None c = ap (label_inside c.args.p) (sym c.in-None.is)
 
-pub returns-in-Present : goal.returns-in-Present
+pub returns-in-Some : goal.returns-in-Some
 unfolding label_inside
-returns-in-Present c = c.at_least.ensures ∙ ap (label_inside c.args.p) (sym c.in-Present.is)
+returns-in-Some c = c.at_least.ensures ∙ ap (label_inside c.args.p) (sym c.in-Some.is)

@@ -9,8 +9,8 @@ use Rattle.unit.specs.Rows.{state_in}
 use Rattle.profiles.proofs.objects_kept.Goals as goal
 
 pub returns : goal.returns
-returns c = let loop = c.loop-i in
-    let end : loop.i ≡ 64 = omega (arith, c.loop-i-test.false, loop.invariant.0) in
+returns c = let loop = c.loop-o in
+    let end : loop.o ≡ 64 = omega (arith, c.loop-o-test.false, loop.invariant.0) in
     let m = state_in c.args.unit.now in
     let absent = loop.invariant.1 ∙ ap (λ (k : ℕ). all_below k (object_inside m)) end in
     let inside = loop.invariant.2 ∙ ap (λ (k : ℕ). all_below k (object_label_inside m)) end in

@@ -1,26 +1,25 @@
 -- `star::breaks_star` meets its contract.
 -- Assumes nothing.
-use native.Mathlib.Omega.{arith}
-use mathlib.Core.Path.{sym, ap, ◌∙◌}
-use mathlib.Core.Bool.{not}
-use Rattle.model.proofs.Tests.{not_on}
+use Rattle.std.proofs.Common.{rules, tests, refl, arith, ◌∙◌, ℕ, Bool, not}
+use Rattle.std.proofs.lemmas.Iterator.{YieldsList-from_range, serves_from_Range}
+use Rattle.std.proofs.lemmas.Iterator.Search.{any_from_yields_List}
+use Rattle.model.specs.Rules.{star_for}
+use Rattle.model.specs.State.{object_at}
+use Rattle.unit.specs.Rows.{objects_in}
+use Rattle.star.specs.Lists.{busy_for}
+use Rattle.star.proofs.Ranges.{range-fails}
 use Rattle.star.proofs.Listed.{busy-covers}
-use Rattle.star.proofs.Between.{between_in, between-out}
 use Rattle.star.proofs.breaks_star.Goals as goal
 
-pub subject_breaks_star-requires : goal.subject_breaks_star-requires
-subject_breaks_star-requires c = let start = c.before.before.before.before.before.before in
-    let t = c.loop-s-test.true in record {
-      unit_len = c.requires.unit_len;
-      busy_len = c.list_busy-count.ensures.whole;
-      s_lt_subject_count = (omega (arith, t, c.requires.high_le_subject_count), busy-covers _ _ _ c.loop-s.invariant.0 t c.requires.high_le_subject_count _ _ _ c.list_busy-count.ensures);
-    }
-
-pub returns-then-subject_breaks_star : goal.returns-then-subject_breaks_star
-returns-then-subject_breaks_star c = let start = c.before.before.before.before.before.before.before.before in
-    sym (ap not (between-out c.args.low c.args.high _ c.loop-s.s c.loop-s.invariant.0 (omega (arith, c.loop-s-test.true, c.requires.high_le_subject_count))
-    (not_on _ (sym c.subject_breaks_star.ensures ∙ c.if-subject_breaks_star.true))))
+pub any-requires-clause-callable : goal.any-requires-clause-callable
+any-requires-clause-callable c = let a = c.args in
+    let few = c.requires.high_le_subject_count in
+    let busy = c.list_where-busy.ensures (busy_for a.low a.high (object_at (objects_in a.unit.now))) (λ o h r p. search (rules, tests)) in
+    serves_from_Range (λ s q k. search (rules, tests))
+    (λ s g h. (λ _ _ _ _ _. omega (arith, h, few), λ _ _ _ _ _ _ _ _. (omega (arith, h, few), busy-covers a.low a.high s g h few _ _ busy)))
 
 pub returns : goal.returns
-returns c = let start = c.before.before.before.before.before in
-    sym (ap not (between_in c.args.low c.args.high _ (λ k g h. c.loop-s.invariant.1 k (omega (arith, c.loop-s-test.false, h)) g)))
+returns c = let a = c.args in
+    let kept : ℕ → Bool = λ s. star_for s (objects_in a.unit.now) in
+    any_from_yields_List (λ s. not (kept s)) _ _ c.any.result c.any.ensures.ran (YieldsList-from_range a.low a.high _ refl refl) (λ x b q k. search (rules, tests))
+    ∙ range-fails kept a.low a.high c.requires.high_le_subject_count

@@ -1,24 +1,14 @@
 -- `wall::no_companies` meets its contract.
 -- Assumes nothing.
-use Prim.Native.Nat.{ℕ}
-use native.Mathlib.Omega.{arith}
-use mathlib.Core.Path.{sym, ap, ◌∙◌}
-use lib.Dec.{eqb}
-use borrow.Author.Tests.{ne_eqb}
-use Rattle.model.proofs.Tests.{split, apart, below_in, below_out}
+use Rattle.std.proofs.Common.{rules, tests, refl, ◌∙◌}
+use Rattle.std.proofs.lemmas.Iterator.{YieldsList-from_range}
+use Rattle.std.proofs.lemmas.Iterator.Search.{all_from_yields_List}
 use Rattle.unit.specs.Rows.{objects_in}
+use Rattle.star.proofs.Ranges.{range-all}
 use Rattle.wall.specs.Lists.{unmarked, no_companies}
 use Rattle.wall.proofs.no_companies.Goals as goal
 
-pub returns-then-companies_of-ne0 : goal.returns-then-companies_of-ne0
-unfolding no_companies
-returns-then-companies_of-ne0 c = let l = objects_in c.args.unit.now in
-    split (no_companies l)
-    (λ t. apart (below_out 64 (unmarked l) t c.loop-o.o c.loop-o-test.true)
-    (ap (λ (n : ℕ). eqb n 0) (sym c.companies_of.ensures) ∙ ne_eqb _ 0 c.if-companies_of-ne0.true))
-    (λ f. sym f)
-
 pub returns : goal.returns
 unfolding no_companies
-returns c = let inv = c.loop-o.invariant in
-    sym (below_in 64 (unmarked (objects_in c.args.unit.now)) (λ k h. inv.1 k (omega (arith, c.loop-o-test.false, inv.0, h))))
+returns c = let test = unmarked (objects_in c.args.unit.now) in
+    all_from_yields_List test _ _ c.all.result c.all.ensures.ran (YieldsList-from_range 0 64 64 refl refl) (λ x b q k. search (rules, tests)) ∙ range-all test 64

@@ -1,18 +1,26 @@
 -- `hierarchy::chains::is_below` meets its contract.
 -- Assumes nothing.
-use Prim.Native.Nat.{◌-◌}
-use native.Mathlib.Numerals.{add-one}
-use mathlib.Core.Path.{sym, ap, ◌∙◌}
-use Rattle.model.specs.Hierarchy.{meets}
+use Rattle.std.proofs.Common.{arith, sym, ap, ◌∙◌, ◌-◌, ◌≡◌, ℕ}
+use Rattle.model.specs.Hierarchy.{parent_at, meets}
 use Rattle.unit.specs.Rows.{objects_in}
-use Rattle.hierarchy.proofs.Upward.{meets-step, meets-last}
+use Rattle.hierarchy.proofs.Upward.{meets-never, meets-none, meets-here, meets-past}
 use Rattle.hierarchy.proofs.chains.is_below.Goals as goal
 
-pub loop-left-preserved : goal.loop-left-preserved
-loop-left-preserved c = let l = objects_in c.args.unit.now in
-    let o = c.args.o in
-    let left = c.loop-left.left in
-    ap (meets (left - 1) l o) c.above-p-in-loop-left.ensures ∙ sym (meets-step l o _ (add-one o) left c.loop-left.p c.loop-left-test.true) ∙ c.loop-left.invariant
+pub returns-in-Some : goal.returns-in-Some
+returns-in-Some c = let turn = c.loop-test.true in
+    sym (meets-here (objects_in c.args.unit.now) c.args.o (64 - c.loop.counter) c.loop.at c.in-Some.p (omega (arith, turn)) (sym c.in-Some.is ∙ c.above.ensures) c.if-p-o.true)
+    ∙ c.loop.invariant
+
+pub returns-in-None : goal.returns-in-None
+returns-in-None c =
+    sym (meets-none (objects_in c.args.unit.now) c.args.o (64 - c.loop.counter) c.loop.at (sym c.in-None.is ∙ c.above.ensures)) ∙ c.loop.invariant
+
+pub loop-preserved : goal.loop-preserved
+loop-preserved c = let turn = c.loop-test.true in
+    meets-past (objects_in c.args.unit.now) c.args.o (64 - c.loop.counter) _ c.loop.at c.in-Some.p (omega (arith, turn)) (sym c.in-Some.is ∙ c.above.ensures) c.if-p-o.false
+    ∙ c.loop.invariant
 
 pub returns : goal.returns
-returns c = meets-last (objects_in c.args.unit.now) c.args.o _ (add-one c.args.o) c.loop-left.left c.loop-left.p c.loop-left-test.false ∙ c.loop-left.invariant
+returns c = let l = objects_in c.args.unit.now in
+    let over : 64 - c.loop.counter ≡ 0 = omega (arith, c.loop-test.false) in
+    sym (ap (λ (n : ℕ). meets n l c.args.o (parent_at l c.loop.at)) over ∙ meets-never l c.args.o _) ∙ c.loop.invariant

@@ -11,6 +11,6 @@ use Rattle.hierarchy.proofs.removal.+remove.Given as goal
 abbrev pub decreases-remove : goal.decreases-remove
 decreases-remove l = live_count (objects_in l.unit.now)
 
-abbrev pub invariant-loop-i : goal.invariant-loop-i
-invariant-loop-i l =
-    (l.i ≤ 64) × (length l.unit ≡ row_count) × ((u : Rows) → length u ≡ row_count → l.initial.unit ≡ set_object u l.o no_object → Leaves u l.o l.unit l.i)
+abbrev pub invariant-loop-c : goal.invariant-loop-c
+invariant-loop-c l =
+    (l.c ≤ 64) × (length l.unit ≡ row_count) × ((u : Rows) → length u ≡ row_count → l.initial.unit ≡ set_object u l.o no_object → Leaves u l.o l.unit l.c)

@@ -1,6 +1,6 @@
 -- `wall::lists::join_numbers` meets its contract.
 -- Assumes nothing.
-use Prim.Native.Nat.{◌-◌, ◌≤◌}
+use Prim.Native.Nat.{ℕ}
 use mathlib.Core.Path.{◌≡◌}
 use Rattle.model.specs.State.{object_at}
 use Rattle.unit.specs.Rows.{objects_in}
@@ -8,8 +8,7 @@ use Rattle.wall.specs.Joined.{joined_below, every, joins}
 use Rattle.wall.specs.Lists.{numbers_at, read_at}
 use Rattle.wall.proofs.lists.join_numbers.Given as goal
 
-abbrev pub invariant-loop-i : goal.invariant-loop-i
-invariant-loop-i l = (l.i ≤ l.count) × (l.fit ≡ joins l.i (numbers_at (object_at (objects_in l.unit)) l.list)) × (l.seen ≡ joined_below l.i every (numbers_at (object_at (objects_in l.unit)) l.list)) × (l.read ≡ joined_below l.i (read_at l.s (object_at (objects_in l.unit)) l.list) (numbers_at (object_at (objects_in l.unit)) l.list))
-
-abbrev pub decreases-loop-i : goal.decreases-loop-i
-decreases-loop-i l = l.count - l.i
+abbrev pub invariant-loop-o : goal.invariant-loop-o
+invariant-loop-o l = let at = object_at (objects_in l.unit) in
+    let g : ℕ → ℕ = numbers_at at l.list in
+    (l.fit ≡ joins l.o-index g) × (l.seen ≡ joined_below l.o-index every g) × (l.read ≡ joined_below l.o-index (read_at l.s at l.list) g)
