@@ -5,11 +5,10 @@ use mathlib.Core.Path.{◌≡◌, refl, sym, ap, ◌∙◌, subst}
 use mathlib.Core.List.{List, [], ◌∷◌, ◌++◌}
 use lib.ListN.{length}
 use Rattle.model.specs.declared.Request.{Request}
-use Rattle.model.specs.declared.Decoded.{Decoded}
-use Rattle.model.specs.declared.Decoded.TheVariants.{Malformed, Says}
+use Rattle.model.specs.Requests.{Decoded, decode}
+use Rattle.std.specs.Prelude.{Some, None}
 use Rattle.model.specs.declared.Decision.TheVariants.{MalformedRequest}
 use Rattle.model.specs.Decisions.{number}
-use Rattle.model.specs.Requests.{decode}
 use Rattle.model.specs.Runs.{carry_out, respond, reply, after}
 use Rattle.model.proofs.Requests.{decode-range}
 use Rattle.unit.specs.Rows.{Rows, row_count, state_in}
@@ -20,8 +19,8 @@ use Rattle.asking.specs.Asked.{asked_said, asked, asked_all}
 -- ---- one byte string
 
 said-length : (d : Decoded) (u : Rows) → length (asked_said d u) ≡ length u
-said-length Malformed u = refl
-said-length (Says q) u = carried-length q u
+said-length None u = refl
+said-length (Some q) u = carried-length q u
 
 pub asked-length : (b : List ℕ) (u : Rows) → length (asked b u) ≡ length u
 unfolding asked
@@ -32,8 +31,8 @@ unfolding asked respond
 asked-state b u n = go (decode (state_in u).profile b) refl
   where
     go : (d : Decoded) → decode (state_in u).profile b ≡ d → state_in (asked_said d u) ≡ (carry_out d (state_in u)).monitor
-    go Malformed e = refl
-    go (Says q) e = carried-state q u n (decode-range (state_in u).profile b q e)
+    go None e = refl
+    go (Some q) e = carried-state q u n (decode-range (state_in u).profile b q e)
 
 -- ---- a list of them
 
@@ -49,11 +48,11 @@ all-state (b ∷ bs) u n = all-state bs (asked b u) (asked-length b u ∙ n) ∙
 
 -- ---- what the code returns and leaves
 
-pub ask-malformed : (b : List ℕ) (u : Rows) (r : ℕ) → decode (state_in u).profile b ≡ Malformed → r ≡ number MalformedRequest → (r ≡ reply b (state_in u)) × (u ≡ asked b u)
+pub ask-malformed : (b : List ℕ) (u : Rows) (r : ℕ) → decode (state_in u).profile b ≡ None → r ≡ number MalformedRequest → (r ≡ reply b (state_in u)) × (u ≡ asked b u)
 unfolding respond asked
 ask-malformed b u r e f = (f ∙ ap (λ d. number (carry_out d (state_in u)).decision) (sym e), ap (λ d. asked_said d u) (sym e))
 
-pub ask-says : (b : List ℕ) (u w : Rows) (q : Request) (r : ℕ) → decode (state_in u).profile b ≡ Says q → Does q u w r → (r ≡ reply b (state_in u)) × (w ≡ asked b u)
+pub ask-says : (b : List ℕ) (u w : Rows) (q : Request) (r : ℕ) → decode (state_in u).profile b ≡ Some q → Does q u w r → (r ≡ reply b (state_in u)) × (w ≡ asked b u)
 unfolding respond asked
 ask-says b u w q r e D = (D.answers ∙ ap (λ d. number (carry_out d (state_in u)).decision) (sym e), D.leaves ∙ ap (λ d. asked_said d u) (sym e))
 

@@ -4,9 +4,8 @@ use Prim.Native.Nat.{ℕ}
 use mathlib.Core.Path.{◌≡◌, refl}
 use mathlib.Core.List.{List}
 use lib.ListN.{length}
-use Rattle.model.specs.declared.Decoded.{Decoded}
-use Rattle.model.specs.declared.Decoded.TheVariants.{Malformed, Says}
-use Rattle.model.specs.Requests.{decode}
+use Rattle.model.specs.Requests.{Decoded, decode}
+use Rattle.std.specs.Prelude.{Some, None}
 use Rattle.model.proofs.Requests.{decode-range}
 use Rattle.unit.specs.Rows.{Rows, row_count, state_in}
 use Rattle.unit.proofs.Plain.{Plain}
@@ -18,5 +17,5 @@ unfolding asked
 asked-plain b u n F = go (decode (state_in u).profile b) refl
   where
     go : (d : Decoded) → decode (state_in u).profile b ≡ d → Plain (asked_said d u)
-    go Malformed e = F
-    go (Says q) e = carried-plain q u n (decode-range (state_in u).profile b q e) F
+    go None e = F
+    go (Some q) e = carried-plain q u n (decode-range (state_in u).profile b q e) F

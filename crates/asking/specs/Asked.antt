@@ -1,16 +1,14 @@
 -- The rows of a monitor after a byte string and after a list of them.
 -- Assumes nothing.
-use Rattle.std.specs.Prelude.{ℕ, List, [], ◌∷◌}
-use Rattle.model.specs.declared.Decoded.{Decoded}
-use Rattle.model.specs.declared.Decoded.TheVariants.{Malformed, Says}
-use Rattle.model.specs.Requests.{decode}
+use Rattle.std.specs.Prelude.{ℕ, List, [], ◌∷◌, Some, None}
+use Rattle.model.specs.Requests.{Decoded, decode}
 use Rattle.unit.specs.Rows.{Rows, state_in}
 use Rattle.kinds.specs.Carried.{carried}
 
 -- what says nothing leaves every byte
 abbrev pub asked_said : Decoded → Rows → Rows
-asked_said Malformed u = u
-asked_said (Says q) u = carried q u
+asked_said None u = u
+asked_said (Some q) u = carried q u
 
 -- the rows after a byte string, which is read under their profile
 unfoldable pub asked : List ℕ → Rows → Rows

@@ -3,26 +3,25 @@
 #![tactic(auto)]
 
 ghost use Rattle.std.specs.Prelude.{◌≡◌, length};
+ghost use Rattle.model.specs.Decisions.{number};
 ghost use Rattle.model.specs.Requests.{InRange};
 ghost use Rattle.model.specs.Runs.{reply};
-ghost use Rattle.unit.specs.Rows.{row_count, state_in};
+ghost use Rattle.unit.specs.Rows.{state_in};
 ghost use Rattle.kinds.specs.Carried.{Does};
 ghost use Rattle.asking.specs.Asked.{asked};
 
 use accesses::{get, release};
 use company_changes::change_companies;
 use decoding::decode;
-use labels::number;
 use level_changes::change_level;
-use model::{Decision, Decoded, Request};
+use model::{Decision, Request};
 use objects::{create, delete};
 use rights::{give, rescind};
-use unit::profile_of;
+use unit::{Rows, profile_of};
 
-fn carry_out(unit: &mut [[u8; 16]], q: Request) -> u8
-    requires unit_len { length unit.old ≡ row_count }
+fn carry_out(unit: &mut Rows, q: Request) -> Decision
     requires in_range { InRange q }
-    ensures { Does q unit.old unit.new result }
+    ensures { Does q unit.old unit.new (number result) }
 {
     match q {
         Request::Get(s, o, x) => get(unit, s, o, x),
@@ -36,15 +35,13 @@ fn carry_out(unit: &mut [[u8; 16]], q: Request) -> u8
     }
 }
 
-// The reply to a byte string of any length and content; the unit is the state after it.
-pub fn ask(unit: &mut [[u8; 16]], bytes: &[u8]) -> u8
-    requires unit_len { length unit.old ≡ row_count }
-    ensures { (result ≡ reply bytes.now (state_in unit.old)) × (unit.new ≡ asked bytes.now unit.old) }
+// The answer to a byte string of any length and content; the unit is the state after it. The number of the answer is the reply.
+pub fn ask(unit: &mut Rows, bytes: &[u8]) -> Decision
+    ensures { (number result ≡ reply bytes.now (state_in unit.old)) × (unit.new ≡ asked bytes.now unit.old) }
 {
     let profile = profile_of(unit);
-    let said = decode(profile, bytes);
-    match said {
-        Decoded::Malformed => number(Decision::MalformedRequest),
-        Decoded::Says(q) => carry_out(unit, q),
+    match decode(profile, bytes) {
+        None => Decision::MalformedRequest,
+        Some(q) => carry_out(unit, q),
     }
 }

@@ -1,35 +1,32 @@
-// Company numbers, on a unit (change request §10): the checks in their order, then what is stored. It returns the number of its answer; a refusal
-// leaves every byte. The numbers are stored before the wall is asked for, and the old row is put back where it refuses.
+// Company numbers, on a unit (change request §10): the checks in their order, then what is stored. A refusal leaves every byte. The numbers are stored before the wall is asked for, and the old row is put back where it refuses.
 
 #![tactic(auto)]
 
-ghost use Rattle.std.specs.Prelude.{◌≡◌, ◌<◌, length};
+ghost use Rattle.std.specs.Prelude.{◌≡◌, ◌<◌};
 ghost use Rattle.model.specs.State.{subject_count, object_count};
-ghost use Rattle.unit.specs.Rows.{row_count};
+ghost use Rattle.model.specs.Decisions.{number};
 ghost use Rattle.kinds.specs.Carried.{Does};
 
-use labels::{number, refuses};
+use labels::done;
 use model::{Decision, Monitor, Request};
 use objects::by_owner;
-use unit::{companies_of, flag, rest_of, set_companies, set_rest};
+use unit::{Rows, companies_of, rest_of, set_companies, set_rest};
 use wall::breaks_wall;
 
 // 8: the four company numbers of the object become those of the owner's request. The wall is asked of all subjects in the state after it.
-pub fn change_companies(unit: &mut [[u8; 16]], s: u8, o: u8, companies: u16) -> u8
-    requires unit_len { length unit.old ≡ row_count }
-    requires s_lt_subject_count { (s < subject_count) × (o < object_count) }
-    ensures { Does (Request.SetCompanies s o companies) unit.old unit.new result }
+pub fn change_companies(unit: &mut Rows, s: u8, o: u8, companies: u16) -> Decision
+    requires { (s < subject_count) × (o < object_count) }
+    ensures { Does (Request.SetCompanies s o companies) unit.old unit.new (number result) }
 {
-    let d = by_owner(unit, s, o);
-    if refuses(d) {
-        return number(d);
+    if let Err(refusal) = by_owner(unit, s, o) {
+        return refusal;
     }
     let old = companies_of(unit, o);
     let rest = rest_of(unit, o);
     set_companies(unit, o, companies);
     if breaks_wall(unit, 0, Monitor::SUBJECTS) {
         set_rest(unit, o, rest);
-        return number(Decision::WallBroken);
+        return Decision::WallBroken;
     }
-    flag(old == companies)
+    done(old == companies)
 }

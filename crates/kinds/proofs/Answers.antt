@@ -1,13 +1,12 @@
 -- A request on the rows by its checks: refused before anything is stored, refused by what the change would break, or granted.
 -- Assumes nothing.
 use Prim.Native.Nat.{ℕ, ◌<◌}
-use mathlib.Core.Path.{◌≡◌, refl, sym, ap, ap₂, ◌∙◌}
-use mathlib.Core.Bool.{Bool, true, false, cond, not}
+use mathlib.Core.Path.{◌≡◌, refl, sym, ap, ◌∙◌, subst}
+use mathlib.Core.Bool.{Bool, true, false, cond}
 use native.Mathlib.Omega.{arith}
 use lib.ListN.{length}
 use lib.Seq.{get_or-set_same}
-use Rattle.bits.specs.Bits.{bit}
-use Rattle.model.specs.declared.Label.TheVariants.{Present}
+use Rattle.std.specs.Prelude.{Some, Ok, Err}
 use Rattle.model.specs.declared.Level.{Level}
 use Rattle.model.specs.declared.Mode.{Mode}
 use Rattle.model.specs.declared.Object.{Object}
@@ -20,10 +19,11 @@ use Rattle.model.specs.declared.Response.{Response}
 use Rattle.model.specs.Tests.{unless}
 use Rattle.model.specs.State.{no_object, object}
 use Rattle.model.specs.Hierarchy.{labels_rise}
-use Rattle.model.specs.Decisions.{number, refuses}
+use Rattle.model.specs.Decisions.{number, refuses, checked}
 use Rattle.model.specs.Requests.{InRange}
 use Rattle.model.specs.Rules.{not_lowered, target, already, changed, checks, afterwards, simple_all, star_all, wall_all}
-use Rattle.model.proofs.Tests.{cond-true, cond-false, not-not, pass, stop}
+use Rattle.model.proofs.Checked.{refusal, passes}
+use Rattle.model.proofs.Tests.{cond-true, cond-false, pass, stop}
 use Rattle.unit.specs.Rows.{Rows, row_count, object_in, objects_in, state_in}
 use Rattle.unit.proofs.Tabulated.{tabulate-length}
 use Rattle.unit.proofs.Stores.{label-stored, companies-stored}
@@ -33,25 +33,32 @@ use Rattle.kinds.proofs.Effects.{stored-state, step-refused, step-granted, grant
 
 -- ---- from the checks to the answer
 
-granted-number : (b : Bool) → bit b ≡ number (cond b Already Granted)
-granted-number true = refl
-granted-number false = refl
-
-module _ (q : Request) (u w : Rows) (k : Decision) (checked : checks q (state_in u) ≡ k) (r : ℕ) where
-  pub does-refused : refuses k ≡ true → r ≡ number k → w ≡ u → Does q u w r
+module _ (q : Request) (u w : Rows) where
+  refused-by : (k : Decision) → checks q (state_in u) ≡ k → refuses k ≡ true → w ≡ u → Does q u w (number k)
   unfolding carried
-  does-refused t f z =
-      let s = ap (λ (x : Response). x.decision) (step-refused q (state_in u) (ap refuses checked ∙ t)) ∙ checked in
-      record { answers = f ∙ ap number (sym s); leaves = z ∙ sym (cond-true _ _ _ (ap refuses s ∙ t)) }
+  refused-by k checked_is t z =
+      let s = ap (λ (x : Response). x.decision) (step-refused q (state_in u) (ap refuses checked_is ∙ t)) ∙ checked_is in
+      record { answers = ap number (sym s); leaves = z ∙ sym (cond-true _ _ _ (ap refuses s ∙ t)) }
 
-  pub does-granted : refuses k ≡ false → (was : Bool) → was ≡ already q (object (state_in u) (target q)) → r ≡ bit was → w ≡ stores q u → Does q u w r
+  granted-by : (k : Decision) → checks q (state_in u) ≡ k → refuses k ≡ false
+      → (was : Bool) → was ≡ already q (object (state_in u) (target q)) → (d : Decision) → d ≡ cond was Already Granted → w ≡ stores q u → Does q u w (number d)
   unfolding carried
-  does-granted t was f x z =
-      let g = ap refuses checked ∙ t in
+  granted-by k checked_is t was f d x z =
+      let g = ap refuses checked_is ∙ t in
       record {
-        answers = x ∙ granted-number was ∙ ap (λ b. number (cond b Already Granted)) f ∙ sym (ap (λ (y : Response). number y.decision) (step-granted q (state_in u) g));
+        answers = ap number (x ∙ ap (λ b. cond b Already Granted) f) ∙ sym (ap (λ (y : Response). number y.decision) (step-granted q (state_in u) g));
         leaves = z ∙ sym (cond-false _ _ _ (granted q (state_in u) g));
       }
+
+  -- of a kind whose checks are all of the state as it stands
+  pub does-refused : (e : Decision) → checked (checks q (state_in u)) ≡ Err e → w ≡ u → Does q u w (number e)
+  does-refused e h z =
+      let r = refusal _ e h in
+      subst (λ (d : Decision). Does q u w (number d)) (sym r.1) (refused-by (checks q (state_in u)) refl r.0 z)
+
+  pub does-granted : checked (checks q (state_in u)) ≡ Ok tt
+      → (was : Bool) → was ≡ already q (object (state_in u) (target q)) → (d : Decision) → d ≡ cond was Already Granted → w ≡ stores q u → Does q u w (number d)
+  does-granted h was f d x z = granted-by (checks q (state_in u)) refl (passes _ h) was f d x z
 
 -- ---- two stages
 
@@ -78,7 +85,7 @@ level_last o l m ob =
 
 -- what stands behind the checks of delete, where this is what comes after 14
 from_lowering : ℕ → Level → Monitor → Decision → Decision
-from_lowering o l m last = unless (not_lowered (object m o).label (Present l)) LabelLowered last
+from_lowering o l m last = unless (not_lowered (object m o).label (Some l)) LabelLowered last
 
 level-stages : (s o : ℕ) (l : Level) (m : Monitor)
     → first (checks (Delete s o) m) (from_lowering o l m (level_last o l m (changed (ChangeLevel s o l) (object m o)))) ≡ checks (ChangeLevel s o l) m
@@ -106,57 +113,87 @@ passed_first : (d later : Decision) → refuses d ≡ false → first d later �
 unfolding first
 passed_first d later t = cond-false _ _ _ t
 
-module _ (u : Rows) (n : length u ≡ row_count) (s o : ℕ) (x : Mode) (R : InRange (Get s o x)) (d : Decision) (d-is : d ≡ before_star s o x (state_in u)) where
-  staged : checks (Get s o x) (state_in u) ≡ first d (after_get s x (afterwards (Get s o x) (state_in u)))
-  staged = sym (get-stages s o x (state_in u)) ∙ ap (λ (k : Decision). first k (after_get s x (afterwards (Get s o x) (state_in u)))) (sym d-is)
+-- get
+module _ (u : Rows) (n : length u ≡ row_count) (s o : ℕ) (x : Mode) (R : InRange (Get s o x)) where
+  staged : checks (Get s o x) (state_in u) ≡ first (before_star s o x (state_in u)) (after_get s x (afterwards (Get s o x) (state_in u)))
+  staged = sym (get-stages s o x (state_in u))
 
-  pub get_refused : refuses d ≡ true → checks (Get s o x) (state_in u) ≡ d
-  get_refused t = staged ∙ refused-first d _ t
+  pub get-refused : (e : Decision) → checked (before_star s o x (state_in u)) ≡ Err e → Does (Get s o x) u u (number e)
+  get-refused e h =
+      let r = refusal _ e h in
+      subst (λ (d : Decision). Does (Get s o x) u u (number d)) (sym r.1) (refused-by (Get s o x) u u _ (staged ∙ refused-first _ _ r.0) r.0 refl)
 
-  pub get-last : refuses d ≡ false → (w : Rows) → w ≡ stores (Get s o x) u → (last : Decision) → last ≡ after_get s x (state_in w) → checks (Get s o x) (state_in u) ≡ last
-  get-last t w w-is last last-is =
-      staged ∙ passed_first d _ t ∙ ap (after_get s x) (sym (ap state_in w-is ∙ stored-state (Get s o x) u n R)) ∙ sym last-is
+  -- the access was stored
+  module _ (h : checked (before_star s o x (state_in u)) ≡ Ok tt) (w : Rows) (w-is : w ≡ stores (Get s o x) u) where
+    get-last : checks (Get s o x) (state_in u) ≡ after_get s x (state_in w)
+    get-last = staged ∙ passed_first _ _ (passes _ h) ∙ ap (after_get s x) (sym (ap state_in w-is ∙ stored-state (Get s o x) u n R))
 
-module _ (u : Rows) (n : length u ≡ row_count) (s o : ℕ) (l : Level) (h : o < 64) (d : Decision) (d-is : d ≡ checks (Delete s o) (state_in u)) where
-  level-staged : checks (ChangeLevel s o l) (state_in u) ≡ first d (from_lowering o l (state_in u) (after_change o (afterwards (ChangeLevel s o l) (state_in u))))
+    pub get-put-back : (e : Decision) → checked (after_get s x (state_in w)) ≡ Err e → (z : Rows) → z ≡ u → Does (Get s o x) u z (number e)
+    get-put-back e k z z-is =
+        let r = refusal _ e k in
+        subst (λ (d : Decision). Does (Get s o x) u z (number d)) (sym r.1) (refused-by (Get s o x) u z _ get-last r.0 z-is)
+
+    pub get-done : checked (after_get s x (state_in w)) ≡ Ok tt
+        → (was : Bool) → was ≡ already (Get s o x) (object (state_in u) o) → (d : Decision) → d ≡ cond was Already Granted → Does (Get s o x) u w (number d)
+    get-done k was f d e = granted-by (Get s o x) u w _ get-last (passes _ k) was f d e w-is
+
+-- a change of level
+module _ (u : Rows) (n : length u ≡ row_count) (s o : ℕ) (l : Level) (h : o < 64) where
+  level-staged : checks (ChangeLevel s o l) (state_in u)
+      ≡ first (checks (Delete s o) (state_in u)) (from_lowering o l (state_in u) (after_change o (afterwards (ChangeLevel s o l) (state_in u))))
   unfolding changed
   level-staged =
       sym (level-stages s o l (state_in u))
-      ∙ ap₂ first (sym d-is) (ap (from_lowering o l (state_in u)) (level-after o l (state_in u) (omega (arith, tabulate-length 64 (object_in u)))))
+      ∙ ap (λ (d : Decision). first (checks (Delete s o) (state_in u)) (from_lowering o l (state_in u) d)) (level-after o l (state_in u) (omega (arith, tabulate-length 64 (object_in u))))
 
-  pub level-refused : refuses d ≡ true → checks (ChangeLevel s o l) (state_in u) ≡ d
-  level-refused t = level-staged ∙ refused-first d _ t
+  pub level-refused : (e : Decision) → checked (checks (Delete s o) (state_in u)) ≡ Err e → Does (ChangeLevel s o l) u u (number e)
+  level-refused e k =
+      let r = refusal _ e k in
+      subst (λ (d : Decision). Does (ChangeLevel s o l) u u (number d)) (sym r.1) (refused-by (ChangeLevel s o l) u u _ (level-staged ∙ refused-first _ _ r.0) r.0 refl)
 
-  module _ (t : refuses d ≡ false) (raised : Bool) (raised_is : raised ≡ not_lowered (object (state_in u) o).label (Present l)) where
-    pub level-lowered : raised ≡ false → checks (ChangeLevel s o l) (state_in u) ≡ LabelLowered
+  module _ (k : checked (checks (Delete s o) (state_in u)) ≡ Ok tt) where
+    pub level-lowered : not_lowered (object (state_in u) o).label (Some l) ≡ false → Does (ChangeLevel s o l) u u (number LabelLowered)
     unfolding from_lowering
-    level-lowered e = level-staged ∙ passed_first d _ t ∙ stop _ LabelLowered _ (sym raised_is ∙ e)
+    level-lowered e = refused-by (ChangeLevel s o l) u u LabelLowered (level-staged ∙ passed_first _ _ (passes _ k) ∙ stop _ LabelLowered _ e) refl refl
 
-    pub level-last : raised ≡ true → (w : Rows) → w ≡ stores (ChangeLevel s o l) u → (last : Decision) → last ≡ after_change o (state_in w) → checks (ChangeLevel s o l) (state_in u) ≡ last
-    unfolding from_lowering stores changed
-    level-last e w w-is last last-is =
-        level-staged ∙ passed_first d _ t ∙ pass _ LabelLowered _ (sym raised_is ∙ e)
-        ∙ ap (after_change o) (sym (ap state_in w-is ∙ label-stored u n o h (Present l))) ∙ sym last-is
+    -- the label was stored
+    module _ (e : not_lowered (object (state_in u) o).label (Some l) ≡ true) (w : Rows) (w-is : w ≡ stores (ChangeLevel s o l) u) where
+      level-last : checks (ChangeLevel s o l) (state_in u) ≡ after_change o (state_in w)
+      unfolding from_lowering stores changed
+      level-last =
+          level-staged ∙ passed_first _ _ (passes _ k) ∙ pass _ LabelLowered _ e
+          ∙ ap (after_change o) (sym (ap state_in w-is ∙ label-stored u n o h (Some l)))
 
-module _ (u : Rows) (n : length u ≡ row_count) (s o k : ℕ) (h : o < 64) (d : Decision) (d-is : d ≡ checks (Delete s o) (state_in u)) where
-  companies-staged : checks (SetCompanies s o k) (state_in u) ≡ first d (wall_last (afterwards (SetCompanies s o k) (state_in u)))
-  companies-staged = sym (companies-stages s o k (state_in u)) ∙ ap (λ (c : Decision). first c (wall_last (afterwards (SetCompanies s o k) (state_in u)))) (sym d-is)
+      pub level-put-back : (f : Decision) → checked (after_change o (state_in w)) ≡ Err f → (z : Rows) → z ≡ u → Does (ChangeLevel s o l) u z (number f)
+      level-put-back f g z z-is =
+          let r = refusal _ f g in
+          subst (λ (d : Decision). Does (ChangeLevel s o l) u z (number d)) (sym r.1) (refused-by (ChangeLevel s o l) u z _ level-last r.0 z-is)
 
-  pub companies-refused : refuses d ≡ true → checks (SetCompanies s o k) (state_in u) ≡ d
-  companies-refused t = companies-staged ∙ refused-first d _ t
+      pub level-done : checked (after_change o (state_in w)) ≡ Ok tt
+          → (was : Bool) → was ≡ already (ChangeLevel s o l) (object (state_in u) o) → (d : Decision) → d ≡ cond was Already Granted → Does (ChangeLevel s o l) u w (number d)
+      level-done g was f d x = granted-by (ChangeLevel s o l) u w _ level-last (passes _ g) was f d x w-is
 
-  module _ (t : refuses d ≡ false) (w : Rows) (w-is : w ≡ stores (SetCompanies s o k) u) (broken : Bool) (broken-is : broken ≡ not (wall_all (objects_in w))) where
-    left-last : checks (SetCompanies s o k) (state_in u) ≡ wall_last (state_in w)
+-- company numbers
+module _ (u : Rows) (n : length u ≡ row_count) (s o k : ℕ) (h : o < 64) where
+  companies-staged : checks (SetCompanies s o k) (state_in u) ≡ first (checks (Delete s o) (state_in u)) (wall_last (afterwards (SetCompanies s o k) (state_in u)))
+  companies-staged = sym (companies-stages s o k (state_in u))
+
+  pub companies-refused : (e : Decision) → checked (checks (Delete s o) (state_in u)) ≡ Err e → Does (SetCompanies s o k) u u (number e)
+  companies-refused e x =
+      let r = refusal _ e x in
+      subst (λ (d : Decision). Does (SetCompanies s o k) u u (number d)) (sym r.1) (refused-by (SetCompanies s o k) u u _ (companies-staged ∙ refused-first _ _ r.0) r.0 refl)
+
+  -- the numbers were stored
+  module _ (x : checked (checks (Delete s o) (state_in u)) ≡ Ok tt) (w : Rows) (w-is : w ≡ stores (SetCompanies s o k) u) where
+    companies-last : checks (SetCompanies s o k) (state_in u) ≡ wall_last (state_in w)
     unfolding stores changed
-    left-last = companies-staged ∙ passed_first d _ t ∙ ap wall_last (sym (ap state_in w-is ∙ companies-stored u n o h k))
+    companies-last = companies-staged ∙ passed_first _ _ (passes _ x) ∙ ap wall_last (sym (ap state_in w-is ∙ companies-stored u n o h k))
 
-    kept : wall_all (objects_in w) ≡ not broken
-    kept = sym (not-not _) ∙ ap not (sym broken-is)
-
-    pub companies-broken : broken ≡ true → checks (SetCompanies s o k) (state_in u) ≡ WallBroken
+    pub companies-put-back : wall_all (objects_in w) ≡ false → (z : Rows) → z ≡ u → Does (SetCompanies s o k) u z (number WallBroken)
     unfolding wall_last
-    companies-broken b = left-last ∙ stop _ WallBroken _ (kept ∙ ap not b)
+    companies-put-back b z z-is = refused-by (SetCompanies s o k) u z WallBroken (companies-last ∙ stop _ WallBroken _ b) refl z-is
 
-    pub companies-kept : broken ≡ false → checks (SetCompanies s o k) (state_in u) ≡ Granted
+    pub companies-done : wall_all (objects_in w) ≡ true
+        → (was : Bool) → was ≡ already (SetCompanies s o k) (object (state_in u) o) → (d : Decision) → d ≡ cond was Already Granted → Does (SetCompanies s o k) u w (number d)
     unfolding wall_last
-    companies-kept b = left-last ∙ pass _ WallBroken _ (kept ∙ ap not b)
+    companies-done b was f d e = granted-by (SetCompanies s o k) u w Granted (companies-last ∙ pass _ WallBroken _ b) refl was f d e w-is

@@ -4,7 +4,7 @@ use Prim.Native.Nat.{ℕ, ◌<◌}
 use mathlib.Core.Path.{◌≡◌, refl, sym, ap, ◌∙◌}
 use mathlib.Core.Bool.{Bool, true, false, cond}
 use lib.ListN.{length, length-set}
-use Rattle.model.specs.declared.Label.TheVariants.{Present}
+use Rattle.std.specs.Prelude.{Some}
 use Rattle.model.specs.declared.Request.{Request}
 use Rattle.model.specs.declared.Request.TheVariants.{Get, Release, Give, Rescind, Create, Delete, ChangeLevel, SetCompanies}
 use Rattle.model.specs.declared.Decision.TheVariants.{Granted, Already}
@@ -31,7 +31,7 @@ stored-state (Give s t o x) u n r = rights-stored u n o r.2 t _
 stored-state (Rescind s t o x) u n r = sets-stored u n o r.2 t _ _
 stored-state (Create s o c) u n r = object-stored u o (created s c) n r.1
 stored-state (Delete s o) u n r = removed-state u n o r.1 s
-stored-state (ChangeLevel s o l) u n r = label-stored u n o r.1 (Present l)
+stored-state (ChangeLevel s o l) u n r = label-stored u n o r.1 (Some l)
 stored-state (SetCompanies s o k) u n r = companies-stored u n o r.1 k
 
 -- no request changes how many rows there are

@@ -2,7 +2,7 @@
 -- Assumes nothing.
 use mathlib.Core.Path.{◌≡◌, ◌∙◌}
 use lib.ListN.{length, length-set}
-use Rattle.model.specs.declared.Label.TheVariants.{Present}
+use Rattle.std.specs.Prelude.{Some}
 use Rattle.model.specs.declared.Request.{Request}
 use Rattle.model.specs.declared.Request.TheVariants.{Get, Release, Give, Rescind, Create, Delete, ChangeLevel, SetCompanies}
 use Rattle.model.specs.Decisions.{refuses}
@@ -23,7 +23,7 @@ stores-plain (Give s t o x) u n r F = rights-plain u n F o r.2 t _
 stores-plain (Rescind s t o x) u n r F = held_plain (set_rights u o t _) (length-set u o _ ∙ n) (rights-plain u n F o r.2 t _) o r.2 t _
 stores-plain (Create s o c) u n r F = object-plain u n F o r.1 (created s c)
 stores-plain (Delete s o) u n r F = removed-plain u n o r.1 F
-stores-plain (ChangeLevel s o l) u n r F = label-plain u n F o r.1 (Present l)
+stores-plain (ChangeLevel s o l) u n r F = label-plain u n F o r.1 (Some l)
 stores-plain (SetCompanies s o k) u n r F = companies-plain u n F o r.1 k
 
 pub carried-plain : (q : Request) (u : Rows) → length u ≡ row_count → InRange q → Plain u → Plain (carried q u)

@@ -1,7 +1,6 @@
 -- What a request stores into the rows of a unit, and the rows that it leaves.
 -- Assumes nothing.
-use Rattle.std.specs.Prelude.{ℕ, ◌≡◌, cond}
-use Rattle.model.specs.declared.Label.TheVariants.{Present}
+use Rattle.std.specs.Prelude.{ℕ, ◌≡◌, cond, Some}
 use Rattle.model.specs.declared.Request.{Request}
 use Rattle.model.specs.declared.Request.TheVariants.{Get, Release, Give, Rescind, Create, Delete, ChangeLevel, SetCompanies}
 use Rattle.model.specs.Modes.{add, remove}
@@ -21,7 +20,7 @@ stores (Give s t o x) u = set_rights u o t (add x (rights_of (object (state_in u
 stores (Rescind s t o x) u = set_held (set_rights u o t (remove x (rights_of (object (state_in u) o) t))) o t (remove x (held_by (object (state_in u) o) t))
 stores (Create s o c) u = set_object u o (created s c)
 stores (Delete s o) u = removed u o
-stores (ChangeLevel s o l) u = set_label u o (Present l)
+stores (ChangeLevel s o l) u = set_label u o (Some l)
 stores (SetCompanies s o n) u = set_companies u o n
 
 -- a refusal leaves "the whole state", and every byte of the unit

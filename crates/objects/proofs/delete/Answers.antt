@@ -14,6 +14,7 @@ use Rattle.model.specs.Rules.{already, checks}
 use Rattle.model.proofs.Tests.{split, apart, stop}
 use Rattle.unit.specs.Rows.{state_in}
 use Rattle.kinds.specs.Carried.{stores}
+use Rattle.model.proofs.Checked.{passes}
 use Rattle.kinds.proofs.Answers.{does-refused, does-granted}
 use Rattle.objects.proofs.delete.Goals as goal
 
@@ -28,17 +29,14 @@ deleted-live s o m e =
     split (object m o).live (λ t. t)
     (λ f. apart (ap (λ (d : Decision). refuses (unless (enrolled m s) NotEnrolled d)) (stop _ NotLive _ f) ∙ refused-both (enrolled m s)) e)
 
-pub returns-then-refuses : goal.returns-then-refuses
-returns-then-refuses c = does-refused (Delete c.args.s c.args.o) c.args.unit.now _ _ (sym c.by_owner-d.ensures) _
-    (sym c.refuses.ensures ∙ c.if-refuses.true) c.number.ensures refl
+pub returns-in-Err : goal.returns-in-Err
+returns-in-Err c = does-refused (Delete c.args.s c.args.o) c.args.unit.now _ _ (sym c.by_owner.ensures ∙ c.in-Err.is) refl
 
 pub remove-requires : goal.remove-requires
-remove-requires c = let passed = sym (ap refuses c.by_owner-d.ensures) ∙ sym c.refuses.ensures ∙ c.if-refuses.false in record {
-  unit_len = c.requires.unit_len;
-  o_lt_object_count = (c.requires.s_lt_subject_count.1, deleted-live c.args.s c.args.o (state_in c.args.unit.now) passed);
+remove-requires c = record {
+  o_lt_object_count = (c.requires.1, deleted-live c.args.s c.args.o (state_in c.args.unit.now) (passes _ (sym c.by_owner.ensures ∙ c.in_default.is)));
 }
 
 pub returns : goal.returns
 unfolding already stores
-returns c = does-granted (Delete c.args.s c.args.o) c.args.unit.now _ _ (sym c.by_owner-d.ensures) _
-    (sym c.refuses.ensures ∙ c.if-refuses.false) _ refl refl c.remove.ensures
+returns c = does-granted (Delete c.args.s c.args.o) c.args.unit.now _ (sym c.by_owner.ensures ∙ c.in_default.is) false refl _ refl c.remove.ensures
