@@ -1,5 +1,6 @@
 -- The image of a monitor begun from an accepted table: the bytes of the table, and zeros.
 -- Assumes nothing.
+use Rattle.std.specs.Prelude.{Ok, Err}
 use Prim.Native.Nat.{ℕ, zero, suc, ◌<◌, ◌≤◌}
 use mathlib.Core.Path.{◌≡◌, refl, sym, ap, ap₂, ◌∙◌}
 use mathlib.Core.Logic.{⊎_elim}
@@ -17,12 +18,13 @@ use Rattle.model.specs.declared.Response.{Response}
 use Rattle.model.specs.State.{widest, object_count, no_object, empty_monitor, fresh}
 use Rattle.model.specs.Buffers.{put}
 use Rattle.model.specs.Tests.{unless}
-use Rattle.model.specs.Decisions.{refuses}
+use Rattle.model.specs.Decisions.{refuses, checked}
 use Rattle.model.specs.Layout.{table_size, objects_size, image_size, label_bits, sets_bits, object_bits, objects_bits, image_bits, image_of}
 use Rattle.model.specs.Reading.{table_from, table_form, begin, read_table}
 use Rattle.model.specs.Writing.{writing, written}
-use Rattle.model.proofs.Tests.{cond-false, passed, apart}
+use Rattle.model.proofs.Tests.{split, cond-false, passed, apart}
 use Rattle.model.proofs.Checks.{granted-or-refusal}
+use Rattle.model.proofs.Checked.{passes}
 use Rattle.model.proofs.Buffers.{writing-done}
 use Rattle.image_records.specs.declared.TableRead.{TableRead}
 use Rattle.image_records.specs.Records.{subjects_read}
@@ -59,23 +61,23 @@ answer : (b : List ℕ) → (read_table widest b).decision ≡ base_table b
 unfolding begin
 answer b = ap (λ (r : Response). r.decision) (table-widest b)
 
-module _ (b : List ℕ) (accepted : refuses (read_table widest b).decision ≡ false) where
-  checked : base_table b ≡ Granted
+module _ (b : List ℕ) (accepted : checked (read_table widest b).decision ≡ Ok tt) where
+  granted : base_table b ≡ Granted
   unfolding base_table
-  checked = ⊎_elim (λ e. e) (λ r. apart r (sym (ap refuses (answer b)) ∙ accepted)) (granted-or-refusal ((eqb (length b) table_size, WrongLength) ∷ (table_form b, StrayBits) ∷ []) refl)
+  granted = ⊎_elim (λ e. e) (λ r. apart r (sym (ap refuses (answer b)) ∙ passes (read_table widest b).decision accepted)) (granted-or-refusal ((eqb (length b) table_size, WrongLength) ∷ (table_form b, StrayBits) ∷ []) refl)
 
   pub size : length b ≡ table_size
   unfolding base_table
-  size = eqb-true (length b) table_size (passed _ WrongLength _ refl checked).0
+  size = eqb-true (length b) table_size (passed _ WrongLength _ refl granted).0
 
   formed : table_form b ≡ true
   unfolding base_table
-  formed = (passed _ StrayBits _ refl (passed _ WrongLength _ refl checked).1).0
+  formed = (passed _ StrayBits _ refl (passed _ WrongLength _ refl granted).1).0
 
   begun-monitor : (read_table widest b).monitor ≡ fresh widest (table_from b)
   unfolding begin
   begun-monitor =
-      ap (λ (r : Response). r.monitor) (table-widest b) ∙ cond-false (refuses (base_table b)) empty_monitor (fresh widest (table_from b)) (ap refuses checked)
+      ap (λ (r : Response). r.monitor) (table-widest b) ∙ cond-false (refuses (base_table b)) empty_monitor (fresh widest (table_from b)) (ap refuses granted)
 
   full : length (b ++ zeros) ≡ image_size
   full = length-append b zeros ∙ omega (arith, size, length-replicate {A = ℕ} objects_size 0)
@@ -98,11 +100,11 @@ module _ (b : List ℕ) (accepted : refuses (read_table widest b).decision ≡ f
       writing-done (read_table widest b).monitor buffer last h (f ∙ put-front buffer image ∙ ap₂ (λ (x y : List ℕ). x ++ y) first behind)
 
 -- checks 10 and 11, of what was read of the table
-either : (b : Bool) (x y : TableRead) → unless b WrongLength (unless (cond b x y).formed StrayBits Granted) ≡ unless b WrongLength (unless x.formed StrayBits Granted)
-unfolding unless
-either true x y = refl
+either : (b : Bool) (x y : TableRead) → cond b (cond (cond b x y).formed (Ok tt) (Err StrayBits)) (Err WrongLength) ≡ checked (unless b WrongLength (unless x.formed StrayBits Granted))
+unfolding checked unless
+either true x y = split x.formed (λ t. rw t) (λ f. rw f)
 either false x y = refl
 
-pub checks-answer : (s : List ℕ) → unless (eqb (length s) table_size) WrongLength (unless (subjects_read s).formed StrayBits Granted) ≡ (read_table widest s).decision
+pub checks-answer : (s : List ℕ) → cond (eqb (length s) table_size) (cond (subjects_read s).formed (Ok tt) (Err StrayBits)) (Err WrongLength) ≡ checked (read_table widest s).decision
 unfolding base_table subjects_read
-checks-answer s = either (eqb (length s) table_size) _ _ ∙ sym (answer s)
+checks-answer s = either (eqb (length s) table_size) _ _ ∙ ap checked (sym (answer s))

@@ -5,18 +5,11 @@
 ghost use Rattle.std.specs.Prelude.{◌≡◌, ◌*◌, ◌/◌, ◌%◌, ◌^◌, ◌<◌, min, set};
 ghost use Rattle.bits.specs.Bits.{field, joined, waiting, stored};
 
-// The lesser of two numbers; here a greater width counts as the greatest that is read or written at once.
-pub fn smaller(a: usize, b: usize) -> usize
-    ensures { result ≡ min a b }
-{
-    if a < b { a } else { b }
-}
-
 // The byte at index i, 0 past the end, so that a window may reach over the end.
 fn byte_or_zero(s: &[u8], i: usize) -> u32
     ensures { result ≡ field s.now (8 * i) 8 }
 {
-    if i < s.len() { s[i] as u32 } else { 0 }
+    u32::from(s.get(i).copied().unwrap_or(0))
 }
 
 // The byte that has bit at and the next one, as one number.
@@ -39,7 +32,7 @@ fn three_bytes(s: &[u8], at: usize) -> u32
 pub fn read_field(s: &[u8], at: usize, width: usize) -> u32
     ensures { (result ≡ field s.now at (min width 16)) × (result < 2 ^ min width 16) }
 {
-    let w = smaller(width, 16);
+    let w = width.min(16);
     (three_bytes(s, at) >> (24 - at % 8 - w)) & ((1 << w) - 1)
 }
 
@@ -54,8 +47,8 @@ pub fn read_byte(s: &[u8], at: usize) -> u32
 pub fn read_word(s: &[u8]) -> u64
     ensures { (result ≡ field s.now 0 48) × (result < 2 ^ 48) }
 {
-    let high = three_bytes(s, 0) as u64;
-    let low = three_bytes(s, 24) as u64;
+    let high = u64::from(three_bytes(s, 0));
+    let low = u64::from(three_bytes(s, 24));
     (high << 24) | low
 }
 
@@ -63,11 +56,12 @@ pub fn read_word(s: &[u8]) -> u64
 fn join_bits(acc: u32, width: usize, x: u32) -> u32
     ensures { result ≡ joined acc (min width 8) x }
 {
-    let w = smaller(width, 8);
+    let w = width.min(8);
     ((acc & 255) << w) | (x & ((1 << w) - 1))
 }
 
 // The low byte of b into the byte at index k; past the end nothing is stored.
+// Kept: `get_mut` promises the length of what it was lent afterwards, and not the bytes.
 fn store_byte(out: &mut [u8], k: usize, b: u32)
     ensures { out.new ≡ set out.old k (b % 256) }
 {
@@ -81,7 +75,7 @@ pub fn append(out: &mut [u8], at: usize, acc: u32, width: usize, x: u32) -> u32
     ensures { (result ≡ waiting acc (min width 8) x) × (out.new ≡ stored out.old at acc (min width 8) x) }
 {
     let v = join_bits(acc, width, x);
-    let n = at % 8 + smaller(width, 8);
+    let n = at % 8 + width.min(8);
     if 8 <= n {
         store_byte(out, at / 8, v >> (n - 8));
     }

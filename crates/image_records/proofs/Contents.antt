@@ -14,7 +14,9 @@ use Rattle.bits.specs.Bits.{bit, from_bits, first, all_zero}
 use Rattle.bits.specs.Laws.{from_bits-take, from_bits-split, all_zero-from_bits}
 use Rattle.bits.proofs.Machine.{low-four}
 use Rattle.model.specs.declared.Level.{Level}
-use Rattle.model.specs.declared.Label.TheVariants.{Absent, Present}
+use Rattle.std.specs.Prelude.{Option, Some, None}
+use Rattle.std.specs.Bool.{then_some}
+use Rattle.std.specs.Option.{option_map}
 use Rattle.model.specs.declared.Object.{Object}
 use Rattle.model.specs.Levels.{present}
 use Rattle.model.specs.State.{needs_width, no_object, with_owner, with_label, with_companies, with_parent, with_rows}
@@ -50,7 +52,7 @@ flag_is true n h = le-leb 16 (1 * 16 + n) (omega arith)
 flag_is false n h = lt-leb 16 (0 * 16 + n) (omega arith)
 
 pub flag-from : (b : List Bool) (v : ℕ) → length b ≡ flag_width → v ≡ from_bits b
-    → record { flag = leb 16 v; number = bit_and v 15; blank = eqb v 0 } ≡ flag_of b
+    → record { number = then_some (leb 16 v) (bit_and v 15); blank = eqb v 0 } ≡ flag_of b
 unfolding from_bits
 flag-from [] v l e = absurd (omega arith)
 flag-from (x ∷ b) v l e =
@@ -61,23 +63,30 @@ flag-from (x ∷ b) v l e =
     let flag-eq : leb 16 v ≡ x = ap (leb 16) value ∙ flag_is x (from_bits b) small in
     let number-eq : bit_and v 15 ≡ from_bits (take 4 b) = low-four v ∙ ap (λ (k : ℕ). k % 16) value ∙ omega arith ∙ ap from_bits (sym whole) in
     let blank-eq : eqb v 0 ≡ all_zero (x ∷ b) = ap (λ (k : ℕ). eqb k 0) e ∙ sym (all_zero-from_bits (x ∷ b)) in
-    λ i. record { flag = flag-eq i; number = number-eq i; blank = blank-eq i }
+    λ i. record { number = then_some (flag-eq i) (number-eq i); blank = blank-eq i }
 
 -- the flag of a longer record is in its first five bits
 module _ (b : List Bool) (r : FlagRead) (e : r ≡ flag_of (take flag_width b)) where
-  flag-first : r.flag ≡ first b
-  flag-first = ap (λ (f : FlagRead). f.flag) e ∙ same b
+  flag-read : r.number ≡ then_some (first b) (field_of b 1 owner_width)
+  flag-read = ap (λ (f : FlagRead). f.number) e ∙ same b
     where
-      same : (b : List Bool) → first (take flag_width b) ≡ first b
+      same : (b : List Bool) → then_some (first (take flag_width b)) (field_of (take flag_width b) 1 owner_width) ≡ then_some (first b) (field_of b 1 owner_width)
       same [] = refl
-      same (x ∷ b) = refl
+      same (x ∷ b) = ap (λ (k : ℕ). then_some x k) (ap from_bits (take-take owner_width owner_width b (omega arith)))
 
-  flag-number : r.number ≡ field_of b 1 owner_width
-  flag-number = ap (λ (f : FlagRead). f.number) e ∙ same b
+  flag-set : (k : ℕ) → r.number ≡ Some k → (first b ≡ true) × (k ≡ field_of b 1 owner_width)
+  flag-set k h = at-flag (first b) refl
     where
-      same : (b : List Bool) → field_of (take flag_width b) 1 owner_width ≡ field_of b 1 owner_width
-      same [] = refl
-      same (x ∷ b) = ap from_bits (take-take owner_width owner_width b (omega arith))
+      at-flag : (x : Bool) → first b ≡ x → (first b ≡ true) × (k ≡ field_of b 1 owner_width)
+      at-flag true p = (p, let z : Some k ≡ Some (field_of b 1 owner_width) = sym h ∙ flag-read ∙ rw p in cc)
+      at-flag false p = let z : Some k ≡ None = sym h ∙ flag-read ∙ rw p in cc
+
+  flag-off : r.number ≡ None → first b ≡ false
+  flag-off h = at-flag (first b) refl
+    where
+      at-flag : (x : Bool) → first b ≡ x → first b ≡ false
+      at-flag false p = p
+      at-flag true p = let z : None ≡ Some (field_of b 1 owner_width) = sym h ∙ flag-read ∙ rw p in cc
 
 -- ---- a label
 
@@ -88,23 +97,20 @@ module _ (b : List Bool) (l : length b ≡ label_width) (r : FlagRead) (e : r �
       let head : r.blank ≡ all_zero (take flag_width b) = ap (λ (f : FlagRead). f.blank) e in
       ap₂ (λ (x y : Bool). x && y) head (ap (λ (k : ℕ). eqb k 0) p ∙ sym (all_zero-from_bits (take needs_width (drop flag_width b))) ∙ ap all_zero rest) ∙ zero-parts flag_width b
 
-  pub label-present : r.flag ≡ true → record { label = Present (record { class = r.number; needs = n }); blank = r.blank && eqb n 0 } ≡ label_of b
+  pub label-read : (o : Option ℕ) → r.number ≡ o → record { label = option_map (λ k. record { class = k; needs = n }) o; blank = r.blank && eqb n 0 } ≡ label_of b
   unfolding label_from
-  label-present h =
-      let c = flag-number b r e in
+  label-read (Some k) h =
+      let s = flag-set b r e k h in
       let z = label-blank in
-      rw (sym (flag-first b r e) ∙ h) (λ i. record { label = Present (record { class = c i; needs = p i }); blank = z i })
-
-  pub label-absent : r.flag ≡ false → record { label = Absent; blank = r.blank && eqb n 0 } ≡ label_of b
-  unfolding label_from
-  label-absent h = let z = label-blank in rw (sym (flag-first b r e) ∙ h) (λ i. record { label = Absent; blank = z i })
+      rw s.0 (λ i. record { label = Some (record { class = s.1 i; needs = p i }); blank = z i })
+  label-read None h = let z = label-blank in rw (flag-off b r e h) (λ i. record { label = None; blank = z i })
 
 -- the form of a label's record, from what was read of it
 pub label-formed : (b : List Bool) (r : LabelRead) → r ≡ label_of b → (present r.label || r.blank) ≡ label_form b
 unfolding label_from label_form
 label-formed b r e = ap (λ (k : LabelRead). present k.label || k.blank) e ∙ ap (λ (x : Bool). x || all_zero b) (same (first b) _)
   where
-    same : (x : Bool) (v : Level) → present (cond x (Present v) Absent) ≡ x
+    same : (x : Bool) (v : Level) → present (cond x (Some v) None) ≡ x
     same true v = refl
     same false v = refl
 
@@ -143,7 +149,7 @@ module _ (b : List Bool) (l : length b ≡ object_width) (f : FlagRead) (pf : f 
       (sets-blank ∙ ap all_zero (sym (drop-drop companies_width companies_offset b)))
       ∙ zero-parts companies_width (drop companies_offset b)
 
-  pub object-off : (ob : Object) → ob ≡ no_object → f.flag ≡ false
+  pub object-off : (ob : Object) → ob ≡ no_object → f.number ≡ None
       → record { object = ob; formed = f.blank && (a.blank && (eqb n 0 && (u.blank && eqb p 0))) } ≡ object_of b
   unfolding object_from object_form
   object-off ob e h =
@@ -154,16 +160,17 @@ module _ (b : List Bool) (l : length b ≡ object_width) (f : FlagRead) (pf : f 
       ∙ ap₂ (λ (x : LabelRead) (y : Bool). all_zero (take flag_width b) && (x.blank && y)) pa last-blank
       ∙ ap (λ (x : List Bool). all_zero (take flag_width b) && (all_zero (take label_width tail) && all_zero x)) (sym (drop-drop label_width label_offset b))
       ∙ ap (λ (x : Bool). all_zero (take flag_width b) && x) (zero-parts label_width tail) ∙ zero-parts flag_width b in
-      rw (sym (flag-first b f pf) ∙ h) (λ i. record { object = e i; formed = blank i })
+      rw (flag-off b f pf h) (λ i. record { object = e i; formed = blank i })
 
   -- what was read of a live one
-  abbrev read-record : Object
-  read-record = with_rows (with_parent (with_companies (with_label (with_owner no_object f.number) a.label) n) p) u.rights u.held
+  abbrev read-record : ℕ → Object
+  read-record k = with_rows (with_parent (with_companies (with_label (with_owner no_object k) a.label) n) p) u.rights u.held
 
-  pub object-on : (v : Bool) → v ≡ present a.label → f.flag ≡ true → record { object = read-record; formed = v || a.blank } ≡ object_of b
+  pub object-on : (k : ℕ) (v : Bool) → v ≡ present a.label → f.number ≡ Some k → record { object = read-record k; formed = v || a.blank } ≡ object_of b
   unfolding object_from object_form
-  object-on v e h =
-      let c = flag-number b f pf in
+  object-on k v e h =
+      let s = flag-set b f pf k h in
+      let c = s.1 in
       let formed-eq = ap (λ (x : Bool). x || a.blank) e ∙ label-formed (take label_width (drop label_offset b)) a pa in
-      rw (sym (flag-first b f pf) ∙ h)
+      rw s.0
       (λ i. record { object = with_rows (with_parent (with_companies (with_label (with_owner no_object (c i)) (pa i).label) (pn i)) (pp i)) (pu i).rights (pu i).held; formed = formed-eq i })

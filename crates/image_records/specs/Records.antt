@@ -1,6 +1,7 @@
 -- What is read of the bits of each record: what they say, and whether they have the form.
 -- Assumes nothing.
 use Rattle.std.specs.Prelude.{ℕ, ◌+◌, Bool, false, cond, List, map, length, take, drop, replicate, eqb}
+use Rattle.std.specs.Bool.{then_some}
 use Rattle.bits.specs.Bits.{bytes_to_bits, cut, first, all_zero}
 use Rattle.model.specs.Layout.{owner_width, pair_width, table_size}
 use Rattle.model.specs.State.{subject_count, nobody}
@@ -20,7 +21,7 @@ abbrev pub flag_width : ℕ
 flag_width = 1 + owner_width
 
 abbrev pub flag_of : List Bool → FlagRead
-flag_of b = record { flag = first b; number = field_of b 1 owner_width; blank = all_zero b }
+flag_of b = record { number = then_some (first b) (field_of b 1 owner_width); blank = all_zero b }
 
 -- of a label's record
 abbrev pub label_of : List Bool → LabelRead

@@ -7,17 +7,15 @@ ghost use Rattle.model.specs.Layout.{label_width, sets_width, object_width, obje
 ghost use Rattle.image_records.specs.Records.{flag_width, bits_at, flag_of, label_of, sets_of, object_of, subjects_read};
 ghost use Rattle.model.specs.State.{object_count};
 ghost use Rattle.model.specs.Reading.{objects_from, objects_form};
-ghost use Rattle.unit.specs.Rows.{row_count};
 ghost use Rattle.unit.specs.Stored.{ObjectsStored, SameClearances};
 
 use model::{Label, Level, Monitor, Object, Subject, no_object};
-use unit::set_object;
+use unit::{Rows, set_object};
 
-// A bit, the number in the four bits behind it, and whether all five are 0.
+// The number in the four bits behind a bit that is set, and whether all five bits are 0.
 #[derive(Clone, Copy)]
 struct FlagRead {
-    flag: bool,
-    number: u8,
+    number: Option<u8>,
     blank: bool,
 }
 
@@ -37,6 +35,7 @@ struct SetsRead {
 }
 
 // An object, and whether its record has its form: what is absent has no other bit set.
+// Kept: no `Option`, for what was read is promised where the form is broken too, and is stored before all forms are known.
 #[derive(Clone, Copy)]
 struct ObjectRead {
     object: Object,
@@ -44,6 +43,7 @@ struct ObjectRead {
 }
 
 // What the bytes of a table say, and whether each record has its form.
+// Kept: no `Option`, for what was read is promised where a form is broken too.
 #[derive(Clone, Copy)]
 pub struct TableRead {
     pub subjects: [Subject; 16],
@@ -57,8 +57,7 @@ fn read_flag(bytes: &[u8], at: usize) -> FlagRead
 {
     let head = bits::read_field(bytes, at, 5);
     FlagRead {
-        flag: 16 <= head,
-        number: (head & 15) as u8,
+        number: (16 <= head).then_some((head & 15) as u8),
         blank: head == 0,
     }
 }
@@ -69,21 +68,10 @@ fn read_label(bytes: &[u8], at: usize) -> LabelRead
     ensures { result ≡ label_of (bits_at bytes.now at label_width) }
 {
     let head = read_flag(bytes, at);
-    let needs = bits::read_field(bytes, at + 5, 16);
+    let needs = bits::read_field(bytes, at + 5, 16) as u16;
+    let label = head.number.map(|class| Level { class, needs });
     let blank = head.blank & (needs == 0);
-    if head.flag {
-        return LabelRead {
-            label: Label::Present(Level {
-                class: head.number,
-                needs: needs as u16,
-            }),
-            blank,
-        };
-    }
-    LabelRead {
-        label: Label::Absent,
-        blank,
-    }
+    LabelRead { label, blank }
 }
 
 // The sets of the sixteen subjects at one object: eight bits for each, the rights and then the accesses.
@@ -94,13 +82,11 @@ fn read_sets(bytes: &[u8], at: usize) -> SetsRead
     let mut rights = [0u8; 16];
     let mut held = [0u8; 16];
     let mut blank = true;
-    let mut s: usize = 0;
-    while s < Monitor::SUBJECTS {
+    for s in 0..Monitor::SUBJECTS {
         let sets = bits::read_byte(bytes, at + 8 * s);
         rights[s] = (sets >> 4) as u8;
         held[s] = (sets & 15) as u8;
         blank = blank & (sets == 0);
-        s += 1;
     }
     SetsRead {
         rights,
@@ -119,26 +105,25 @@ fn read_object(bytes: &[u8], at: usize) -> ObjectRead
     let companies = bits::read_field(bytes, at + Monitor::COMPANIES_AT, 16);
     let sets = read_sets(bytes, at + Monitor::SETS_AT);
     let parent = bits::read_field(bytes, at + Monitor::PARENT_AT, 7);
-    if !head.flag {
+    let Some(owner) = head.number else {
         return ObjectRead {
             object: no_object(),
             formed: head.blank & (read.blank & ((companies == 0) & (sets.blank & (parent == 0)))),
         };
-    }
-    let label = read.label;
+    };
     let rights = sets.rights;
     let held = sets.held;
     ObjectRead {
         object: Object {
             live: true,
-            owner: head.number,
-            label,
+            owner,
+            label: read.label,
             companies: companies as u16,
             rights,
             held,
             parent: parent as u8,
         },
-        formed: labels::is_present(label) | read.blank,
+        formed: labels::is_present(read.label) | read.blank,
     }
 }
 
@@ -146,9 +131,7 @@ fn read_object(bytes: &[u8], at: usize) -> ObjectRead
 pub fn read_subjects(bytes: &[u8]) -> TableRead
     ensures { result ≡ subjects_read bytes.now }
 {
-    let mut subjects = [Subject {
-        clearance: Label::Absent,
-    }; Monitor::SUBJECTS];
+    let mut subjects = [Subject { clearance: None }; Monitor::SUBJECTS];
     if bytes.len() != Monitor::TABLE_BYTES {
         return TableRead {
             subjects,
@@ -156,33 +139,28 @@ pub fn read_subjects(bytes: &[u8]) -> TableRead
         };
     }
     let mut formed = true;
-    let mut s: usize = 0;
-    while s < Monitor::SUBJECTS {
+    for s in 0..Monitor::SUBJECTS {
         let read = read_label(bytes, Monitor::LABEL_BITS * s);
-        let clearance = read.label;
-        subjects[s] = Subject { clearance };
-        formed = formed & (labels::is_present(clearance) | read.blank);
-        s += 1;
+        subjects[s] = Subject {
+            clearance: read.label,
+        };
+        formed = formed & (labels::is_present(read.label) | read.blank);
     }
     TableRead { subjects, formed }
 }
 
 // The object records, in the part of an image that begins with them, into the rows of a unit; whether each has its form.
-pub fn read_objects(unit: &mut [[u8; 16]], bytes: &[u8]) -> bool
-    requires unit_len { length unit.old ≡ row_count }
+pub fn read_objects(unit: &mut Rows, bytes: &[u8]) -> bool
     requires bytes_len { length bytes.now ≡ objects_size }
     ensures formed { result ≡ objects_form bytes.now }
     ensures stored { ObjectsStored (objects_from bytes.now) unit.new object_count }
     ensures kept { SameClearances unit.old unit.new }
 {
     let mut formed = true;
-    let mut o: usize = 0;
-    while o < Monitor::OBJECTS {
+    for o in 0..Monitor::OBJECTS {
         let read = read_object(bytes, Monitor::OBJECT_BITS * o);
-        let object = read.object;
-        set_object(unit, o as u8, object);
+        set_object(unit, o as u8, read.object);
         formed = formed & read.formed;
-        o += 1;
     }
     formed
 }

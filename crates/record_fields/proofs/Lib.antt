@@ -2,3 +2,4 @@
 -- Assumes nothing.
 pub mod Words
 pub mod Streams
+pub mod Zeros

@@ -12,7 +12,7 @@ use Rattle.bits.specs.Bits.{to_bits, odd}
 use Rattle.bits.specs.Laws.{to_bits-join, to_bits-mod, to_bits-low, to_bits-split}
 use Rattle.bits.proofs.Machine.{behind}
 use Rattle.model.specs.declared.Level.{Level}
-use Rattle.model.specs.declared.Label.TheVariants.{Absent, Present}
+use Rattle.std.specs.Prelude.{Some, None}
 use Rattle.model.specs.Layout.{label_width, label_bits}
 
 -- ---- two numbers of four bits side by side
@@ -35,13 +35,13 @@ flag-bits b n = pair-bits 1 (bool_byte b) n (omega arith) ∙ ap (λ (l : List B
 
 -- ---- labels
 
-pub absent-bits : to_bits label_width 0 ≡ label_bits Absent
+pub absent-bits : to_bits label_width 0 ≡ label_bits None
 unfolding label_bits to_bits odd
 absent-bits = refl
 
 -- the needs behind the five bits of a class that is present
 pub present-bits : (v : Level) (head : ℕ) → head ≡ 16 + v.class % 16 → v.needs < 65536
-    → to_bits label_width (bit_or ((head * 65536) % 2 ^ 32) v.needs) ≡ label_bits (Present v)
+    → to_bits label_width (bit_or ((head * 65536) % 2 ^ 32) v.needs) ≡ label_bits (Some v)
 unfolding label_bits
 present-bits v head e h =
     let small : head < 32 = omega arith in

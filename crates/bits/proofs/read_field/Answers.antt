@@ -7,10 +7,10 @@ use Rattle.bits.proofs.Machine.{mask-safe, field_out}
 use Rattle.bits.proofs.read_field.Goals as goal
 
 pub overflow_sub-result-3 : goal.overflow_sub-result-3
-overflow_sub-result-3 c = mask-safe c.smaller-w.result (omega arith)
+overflow_sub-result-3 c = mask-safe c.min-w.result (omega arith)
 
 pub returns : goal.returns
 returns c = let a = c.args in
     let w = min a.width 16 in
     let e = field_out a.s.now 24 a.at w (omega arith) (omega arith) in
-    rw (c.smaller-w.ensures, c.three_bytes.ensures) (e, rw e (field_lt a.s.now a.at w))
+    rw (c.min-w.ensures, c.three_bytes.ensures) (e, rw e (field_lt a.s.now a.at w))

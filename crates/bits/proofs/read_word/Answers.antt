@@ -8,4 +8,4 @@ use Rattle.bits.proofs.read_word.Goals as goal
 pub returns : goal.returns
 returns c = let s = c.args.s.now in
     let e = field-behind s 0 24 24 64 (omega arith) in
-    rw (c.three_bytes-high.ensures, c.three_bytes-low.ensures) (e, rw e (field_lt s 0 48))
+    rw (c.from-high.ensures, c.from-low.ensures, c.three_bytes.ensures, c.three_bytes-2.ensures) (e, rw e (field_lt s 0 48))

@@ -13,5 +13,5 @@ use Rattle.image_records.proofs.read_flag.Goals as goal
 pub returns : goal.returns
 returns c = let a = c.args in
     let s = a.bytes.now in
-    flag-from (bits_at s a.at flag_width) c.read_field-head.result (length_at s a.at flag_width (omega arith))
-    (c.read_field-head.ensures.0 ∙ field-within s a.at flag_width (omega arith))
+    rw c.then_some.ensures (flag-from (bits_at s a.at flag_width) c.read_field-head.result (length_at s a.at flag_width (omega arith))
+    (c.read_field-head.ensures.0 ∙ field-within s a.at flag_width (omega arith)))

@@ -13,7 +13,6 @@ use Rattle.model.specs.Reading.{field_of}
 use Rattle.image_records.specs.Records.{flag_width, bits_at, flag_of, label_of, sets_of}
 use Rattle.image_records.proofs.Places.{length_at, part_at, field_at}
 use Rattle.image_records.proofs.Contents.{object-off, object-on}
-use Rattle.model.proofs.Tests.{not_on, not-off}
 use Rattle.image_records.proofs.read_object.Goals as goal
 
 parts : (s : List ℕ) (at : ℕ)
@@ -29,8 +28,8 @@ parts s at = (
 number_at : (s : List ℕ) (at i w : ℕ) → i + w ≤ object_width → at + object_width ≤ 8 * length s → field s (at + i) w ≡ field_of (bits_at s at object_width) i w
 number_at s at i w h f = field_at s at object_width i w (at + i) refl h f
 
-pub returns-then-not-head : goal.returns-then-not-head
-returns-then-not-head c = let read = c in
+pub returns-in_default : goal.returns-in_default
+returns-in_default c =
     let a = c.args in
     let n = c.read_field-companies in
     let p = c.read_field-parent in
@@ -41,10 +40,10 @@ returns-then-not-head c = let read = c in
     n.result (n.ensures.0 ∙ number_at a.bytes.now a.at companies_offset companies_width (omega arith) (omega arith))
     c.read_sets-sets.result (c.read_sets-sets.ensures ∙ ap sets_of P.2)
     p.result (p.ensures.0 ∙ number_at a.bytes.now a.at parent_offset parent_width (omega arith) (omega arith))
-    c.no_object.result c.no_object.ensures (not_on _ c.if-not-head.true)
+    c.no_object.result c.no_object.ensures c.in_default.is
 
 pub returns : goal.returns
-returns c = let read = c in
+returns c =
     let a = c.args in
     let n = c.read_field-companies in
     let p = c.read_field-parent in
@@ -55,4 +54,4 @@ returns c = let read = c in
     n.result (n.ensures.0 ∙ number_at a.bytes.now a.at companies_offset companies_width (omega arith) (omega arith))
     c.read_sets-sets.result (c.read_sets-sets.ensures ∙ ap sets_of P.2)
     p.result (p.ensures.0 ∙ number_at a.bytes.now a.at parent_offset parent_width (omega arith) (omega arith))
-    c.is_present.result c.is_present.ensures (not-off _ c.if-not-head.false)
+    c.in-Some.owner c.is_present.result c.is_present.ensures c.in-Some.is

@@ -16,12 +16,11 @@ use Rattle.image_records.proofs.Gathering.{record-at, none-formed, form-more}
 use Rattle.image_records.proofs.read_objects.Goals as goal
 
 pub loop-o-init : goal.loop-o-init
-loop-o-init c = (omega arith, objects-none _ _ c.requires.unit_len, record { same = λ s. refl }, none-formed object_form object_width (bytes_to_bits _))
+loop-o-init c = (omega arith, objects-none _ _ c.told-unit, record { same = λ s. refl }, none-formed object_form object_width (bytes_to_bits _))
 
 pub loop-o-preserved : goal.loop-o-preserved
 unfolding objects_from
 loop-o-preserved c = let loop = c.loop-o in
-    let start = c in
     let t = c.loop-o-test.true in
     let b = bytes_to_bits c.args.bytes.now in
     let read = c.read_object-read.result in
@@ -37,7 +36,6 @@ loop-o-preserved c = let loop = c.loop-o in
 pub returns : goal.returns
 unfolding objects_form
 returns c = let loop = c.loop-o in
-    let start = c in
     let b = bytes_to_bits c.args.bytes.now in
     let end : loop.o ≡ object_count = omega (arith, c.loop-o-test.false, loop.invariant.0) in record {
       formed = loop.invariant.3 ∙ ap (λ (k : ℕ). all_of object_form (cut k object_width b)) end;

@@ -5,7 +5,7 @@
 use mathlib.Core.Path.{◌≡◌}
 use mathlib.Core.Bool.{Bool}
 use mathlib.Core.List.{List, map}
-use Prim.Native.Nat.{ℕ, ◌-◌, ◌*◌, ◌≤◌}
+use Prim.Native.Nat.{ℕ, ◌*◌, ◌≤◌}
 use lib.ListN.{length, take, drop}
 use Rattle.bits.specs.Bits.{bytes_to_bits, cut, all_zero}
 use Rattle.model.specs.State.{subject_count}
@@ -23,6 +23,3 @@ invariant-loop-s l = (l.s ≤ subject_count)
     × (take l.s l.rights ≡ map rights_from (cut l.s pair_width (from l.bytes l.at)))
     × (take l.s l.held ≡ map held_from (cut l.s pair_width (from l.bytes l.at)))
     × (l.blank ≡ all_zero (take (8 * l.s) (from l.bytes l.at)))
-
-abbrev pub decreases-loop-s : goal.decreases-loop-s
-decreases-loop-s l = subject_count - l.s

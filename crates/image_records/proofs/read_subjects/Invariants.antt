@@ -4,7 +4,7 @@
 -- Assumes nothing.
 use mathlib.Core.Path.{◌≡◌}
 use mathlib.Core.List.{map}
-use Prim.Native.Nat.{◌-◌, ◌≤◌}
+use Prim.Native.Nat.{◌≤◌}
 use lib.ListN.{length, take}
 use Rattle.bits.specs.Bits.{bytes_to_bits, cut}
 use Rattle.model.specs.Tests.{all_of}
@@ -18,6 +18,3 @@ invariant-loop-s l = (l.s ≤ subject_count)
     × (length l.subjects ≡ subject_count)
     × (take l.s l.subjects ≡ map subject_from (cut l.s label_width (bytes_to_bits l.bytes)))
     × (l.formed ≡ all_of label_form (cut l.s label_width (bytes_to_bits l.bytes)))
-
-abbrev pub decreases-loop-s : goal.decreases-loop-s
-decreases-loop-s l = subject_count - l.s

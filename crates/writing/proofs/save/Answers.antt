@@ -1,26 +1,27 @@
 -- `writing::save` meets its contract.
 -- A buffer that is too short is left; in any other the two parts, one behind the other, are the whole image.
 -- Assumes nothing.
-use Prim.Native.Nat.{◌*◌}
+use mathlib.Core.Path.{refl, sym, ap, ◌∙◌}
 use native.Mathlib.Omega.{arith}
-use Rattle.bits.specs.Stream.{Appends, next, whole}
-use Rattle.model.specs.Layout.{image_size, image_bits, image_of}
-use Rattle.model.proofs.Buffers.{writing-short, writing-done}
+use Rattle.bits.specs.Stream.{next}
+use Rattle.model.specs.Decisions.{checked}
+use Rattle.model.specs.Layout.{image_bits}
+use Rattle.model.proofs.Buffers.{writing-short}
 use Rattle.unit.specs.Rows.{state_in}
+use Rattle.writing.proofs.Streams.{image-written}
 use Rattle.writing.proofs.save.Goals as goal
 
 pub returns-then-out-lt-IMAGE_BYTES : goal.returns-then-out-lt-IMAGE_BYTES
-returns-then-out-lt-IMAGE_BYTES c = let a = c.args in writing-short (state_in a.unit.now) a.out.now c.if-out-lt-IMAGE_BYTES.true
+unfolding checked
+returns-then-out-lt-IMAGE_BYTES c = let short = writing-short (state_in c.args.unit.now) c.args.out.now c.if-out-lt-IMAGE_BYTES.true in
+    (ap checked short.0, short.1)
 
 pub returns : goal.returns
-unfolding image_of image_bits
-returns c = let objects = c.write_objects in
-    let subjects = c.write_subjects-waiting in
-    let a = c.args in
-    let m = state_in a.unit.now in
-    let s = a.out.now in
-    let t = objects.new.out in
-    let all : Appends s 0 0 (image_bits m) t (8 * image_size) objects.result =
-    next _ _ (omega arith) subjects.ensures objects.ensures in
-    writing-done m s t (omega arith)
-    (whole image_size s t (image_bits m) objects.result (λ i. omega (arith, c.slice_known-3-1.given i)) (omega arith) all)
+unfolding image_bits
+returns c = let subjects = c.write_subjects.ensures in
+    let objects = c.write_objects.ensures in
+    let begun = c.new-w.ensures.begun in
+    image-written (state_in c.args.unit.now) c.args.out.now _ _ _ _ _ _ _ begun (omega arith) (omega (arith, objects.moves, subjects.moves, begun.1))
+    (next _ _ refl subjects.wrote objects.wrote)
+    (grind (arith, sym (objects.same_buffer ∙ subjects.same_buffer ∙ c.new-w.ensures.same_buffer)))
+    (λ i. omega (arith, c.type_inv.out i))

@@ -1,6 +1,7 @@
--- `writing::write_subjects` meets its contract.
+-- `writing::write_subjects` meets its contract: after s turns the records below s are appended.
 -- Assumes nothing.
-use Prim.Native.Nat.{◌-◌, ◌*◌, ◌≤◌}
+use mathlib.Core.Path.{◌≡◌}
+use Prim.Native.Nat.{◌+◌, ◌*◌, ◌≤◌}
 use lib.ListN.{take}
 use Rattle.bits.specs.Stream.{Appends}
 use Rattle.model.specs.State.{subject_count}
@@ -9,7 +10,7 @@ use Rattle.unit.specs.Rows.{subjects_in}
 use Rattle.writing.proofs.write_subjects.Given as goal
 
 abbrev pub invariant-loop-s : goal.invariant-loop-s
-invariant-loop-s l = (l.s ≤ subject_count) × Appends l.initial.out 0 0 (table_bits (take l.s (subjects_in l.unit))) l.out (label_width * l.s) l.waiting
-
-abbrev pub decreases-loop-s : goal.decreases-loop-s
-decreases-loop-s l = subject_count - l.s
+invariant-loop-s l = (l.s ≤ subject_count)
+    × (l.w.out.ghost_name ≡ l.initial.w.out.ghost_name)
+    × (l.w.at ≡ l.initial.w.at + label_width * l.s)
+    × Appends l.initial.w.out.now l.initial.w.at l.initial.w.waiting (table_bits (take l.s (subjects_in l.unit))) l.w.out.now l.w.at l.w.waiting

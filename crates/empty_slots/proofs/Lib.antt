@@ -1,3 +1,0 @@
--- Laws of bits that are 0.
--- Assumes nothing.
-pub mod Zeros
