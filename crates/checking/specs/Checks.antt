@@ -1,11 +1,10 @@
 -- The checks 12, 6, 7 and 8 side by side: at one subject and one object, at one object, over all objects.
 -- Assumes nothing.
 use Rattle.std.specs.Prelude.{ℕ, ◌&&◌, ◌||◌, List, eqb}
-use Rattle.model.specs.declared.Label.{Label}
+use Rattle.model.specs.Levels.{Label, subset, present, dominates}
 use Rattle.model.specs.declared.Subject.{Subject}
 use Rattle.model.specs.declared.Object.{Object}
 use Rattle.model.specs.Tests.{all_of, implies}
-use Rattle.model.specs.Levels.{subset, present, dominates}
 use Rattle.model.specs.Modes.{any_observes, any_needs_label}
 use Rattle.model.specs.Rules.{simple_all}
 use Rattle.model.specs.Reading.{only_enrolled, within_matrix, held_labelled}

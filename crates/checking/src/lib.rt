@@ -3,19 +3,20 @@
 
 #![tactic(auto)]
 
-ghost use Rattle.std.specs.Prelude.{◌≡◌, ◌<◌, length};
+ghost use Rattle.std.specs.Prelude.{◌≡◌, ◌<◌};
 ghost use Rattle.model.specs.Levels.{present};
 ghost use Rattle.model.specs.State.{object_count, clearance_at, object};
-ghost use Rattle.unit.specs.Rows.{row_count, subjects_in, objects_in, state_in};
+ghost use Rattle.unit.specs.Rows.{subjects_in, objects_in, state_in};
+ghost use Rattle.model.specs.Decisions.{checked};
 ghost use Rattle.model.specs.Reading.{state_checks};
 ghost use Rattle.checking.specs.Checks.{both, at, of_object, of_objects};
 
 use hierarchy::{labels_rise, parents_hold};
-use labels::{check, dominates, implies, is_present};
+use labels::{dominates, ensure, implies, is_present};
 use mode_sets::{any_needs_label, any_observes, within};
 use model::{Decision, Label, Monitor};
 use star::breaks_star;
-use unit::{clearance_of, held_by, is_enrolled, is_live, label_of, owner_of, rights_of};
+use unit::{Rows, clearance_of, held_by, is_enrolled, is_live, label_of, owner_of, rights_of};
 use wall::breaks_wall;
 
 // Which of the checks passed: 12, 6, 7 and 8.
@@ -26,6 +27,14 @@ struct Findings {
     labelled: bool,
     simple: bool,
 }
+
+// Nothing has failed.
+const UNBROKEN: Findings = Findings {
+    enrolled: true,
+    matrix: true,
+    labelled: true,
+    simple: true,
+};
 
 // The checks passed at both places.
 fn both(a: Findings, b: Findings) -> Findings
@@ -54,8 +63,7 @@ fn findings_at(clearance: Label, label: Label, rights: u8, held: u8) -> Findings
 }
 
 // The subject with this number is enrolled; no subject has a number past 15.
-fn is_known(unit: &[[u8; 16]], s: u8) -> bool
-    requires { length unit.now ≡ row_count }
+fn is_known(unit: &Rows, s: u8) -> bool
     ensures { result ≡ present (clearance_at (subjects_in unit.now) s) }
 {
     if (s as usize) < Monitor::SUBJECTS {
@@ -65,8 +73,7 @@ fn is_known(unit: &[[u8; 16]], s: u8) -> bool
 }
 
 // All subjects at one object.
-fn findings_of(unit: &[[u8; 16]], o: u8) -> Findings
-    requires unit_len { length unit.now ≡ row_count }
+fn findings_of(unit: &Rows, o: u8) -> Findings
     requires o_lt_object_count { o < object_count }
     ensures { result ≡ of_object (subjects_in unit.now) (object (state_in unit.now) o) }
 {
@@ -74,13 +81,9 @@ fn findings_of(unit: &[[u8; 16]], o: u8) -> Findings
     let owned = implies(is_live(unit, o), is_known(unit, owner_of(unit, o)));
     let mut found = Findings {
         enrolled: owned,
-        matrix: true,
-        labelled: true,
-        simple: true,
+        ..UNBROKEN
     };
-    let mut i: usize = 0;
-    while i < Monitor::SUBJECTS {
-        let s = i as u8;
+    for s in 0..Monitor::SUBJECTS as u8 {
         let here = findings_at(
             clearance_of(unit, s),
             label,
@@ -88,46 +91,35 @@ fn findings_of(unit: &[[u8; 16]], o: u8) -> Findings
             held_by(unit, o, s),
         );
         found = both(found, here);
-        i += 1;
     }
     found
 }
 
 // All subjects at all objects.
-fn findings_over(unit: &[[u8; 16]]) -> Findings
-    requires { length unit.now ≡ row_count }
+fn findings_over(unit: &Rows) -> Findings
     ensures { result ≡ of_objects (subjects_in unit.now) (objects_in unit.now) }
 {
-    let mut found = Findings {
-        enrolled: true,
-        matrix: true,
-        labelled: true,
-        simple: true,
-    };
-    let mut o: usize = 0;
-    while o < Monitor::OBJECTS {
-        found = both(found, findings_of(unit, o as u8));
-        o += 1;
+    let mut found = UNBROKEN;
+    for o in 0..Monitor::OBJECTS as u8 {
+        found = both(found, findings_of(unit, o));
     }
     found
 }
 
-// The answer of the first check that fails, or Granted. For every content of a unit.
-pub fn state_checks(unit: &[[u8; 16]]) -> Decision
-    requires { length unit.now ≡ row_count }
-    ensures { result ≡ state_checks (state_in unit.now) }
+// The first check that fails refuses with its answer. For every content of a unit.
+#[tactic(auto, using(wall::proofs::Ranges::ranges), unfolding(model::specs::Reading::state_checks, model::specs::Decisions::checked, model::specs::Tests::unless))]
+pub fn state_checks(unit: &Rows) -> Result<(), Decision>
+    ensures { result ≡ checked (state_checks (state_in unit.now)) }
 {
     let found = findings_over(unit);
-    let wall_kept = !breaks_wall(unit, 0, Monitor::SUBJECTS);
+    ensure(found.enrolled, Decision::AbsentSubject)?;
+    ensure(found.matrix, Decision::NoRight)?;
+    ensure(found.labelled, Decision::NoLabel)?;
+    ensure(found.simple, Decision::SimpleBroken)?;
     let star_kept = !breaks_star(unit, 0, Monitor::SUBJECTS);
-    let live = parents_hold(unit);
-    let rises = labels_rise(unit);
-    let rule = check(rises, Decision::HierarchyBroken, Decision::Granted);
-    let under = check(live, Decision::ParentNotLive, rule);
-    let wall = check(wall_kept, Decision::WallBroken, under);
-    let star = check(star_kept, Decision::StarBroken, wall);
-    let simple = check(found.simple, Decision::SimpleBroken, star);
-    let labelled = check(found.labelled, Decision::NoLabel, simple);
-    let matrix = check(found.matrix, Decision::NoRight, labelled);
-    check(found.enrolled, Decision::AbsentSubject, matrix)
+    ensure(star_kept, Decision::StarBroken)?;
+    let wall_kept = !breaks_wall(unit, 0, Monitor::SUBJECTS);
+    ensure(wall_kept, Decision::WallBroken)?;
+    ensure(parents_hold(unit), Decision::ParentNotLive)?;
+    ensure(labels_rise(unit), Decision::HierarchyBroken)
 }

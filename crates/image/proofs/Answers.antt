@@ -1,7 +1,7 @@
 -- The answers of the readers: the checks in their order, and the rows of the monitor of each answer.
 -- Assumes nothing.
 use mathlib.Core.Path.{◌≡◌, refl, sym, ap, ap₂, ◌∙◌, subst}
-use mathlib.Core.Bool.{Bool, true, false, cond, ◌&&◌}
+use mathlib.Core.Bool.{Bool, true, false, ◌&&◌}
 use mathlib.Core.List.{List}
 use Prim.Native.Nat.{ℕ, ◌-◌}
 use native.Mathlib.Omega.{arith}
@@ -13,13 +13,15 @@ use Rattle.model.specs.Layout.{table_size, image_size}
 use Rattle.model.specs.declared.Profile.{Profile}
 use Rattle.model.specs.declared.Monitor.{Monitor}
 use Rattle.model.specs.declared.Decision.{Decision}
-use Rattle.model.specs.declared.Decision.TheVariants.{Granted, WrongLength, OutsideProfile}
+use Rattle.model.specs.declared.Decision.TheVariants.{Granted, WrongLength, StrayBits, OutsideProfile}
 use Rattle.model.specs.Tests.{unless}
 use Rattle.model.specs.State.{subject_count, empty_monitor, fresh}
 use Rattle.model.specs.Profiles.{profile_fits}
-use Rattle.model.specs.Decisions.{refuses}
+use Rattle.std.specs.Prelude.{Result, Ok, Err, OnOk}
+use Rattle.model.specs.Decisions.{refuses, checked}
 use Rattle.model.specs.Reading.{table_from, table_form, objects_from, objects_form, monitor_from, image_form, state_checks, table_checks, image_checks, begin}
-use Rattle.model.proofs.Tests.{pass, stop, cond-true}
+use Rattle.model.proofs.Tests.{pass, stop, cond-true, cond-false}
+use Rattle.model.proofs.Checked.{refusal, passes}
 use Rattle.unit.specs.Rows.{Rows, state_in}
 use Rattle.unit.specs.Stored.{unit_of, ObjectsStored, SameClearances}
 use Rattle.unit.proofs.Units.{stored-over}
@@ -32,21 +34,42 @@ use Rattle.profiles.proofs.Fresh.{fresh_kept}
 use Rattle.image.specs.Settled.{settled}
 use Rattle.image.proofs.Sizes.{fresh-says, read-says}
 
--- ---- refused before anything is read, or settled
+-- ---- from the checks to the answer, and to the rows that are left
 
-module _ (d k : Decision) (m : Monitor) (w : Rows) (e : k ≡ d) where
-  pub refused : refuses k ≡ true → w ≡ unit_of empty_monitor → (k ≡ (begin d m).decision) × (w ≡ unit_of (begin d m).monitor)
+module _ (d : Decision) (m : Monitor) (w : Rows) where
+  pub refused : (e : Decision) → checked d ≡ Err e → w ≡ unit_of empty_monitor → (Err e ≡ checked (begin d m).decision) × (w ≡ unit_of (begin d m).monitor)
   unfolding begin
-  refused t f = (e, f ∙ ap unit_of (sym (cond-true (refuses d) empty_monitor m (sym (ap refuses e) ∙ t))))
+  refused e h f = (sym h, f ∙ ap unit_of (sym (cond-true (refuses d) empty_monitor m (refusal d e h).0)))
 
-  pub answered : (u : Rows) → u ≡ unit_of m → w ≡ cond (refuses k) (unit_of empty_monitor) u → (k ≡ (begin d m).decision) × (w ≡ unit_of (begin d m).monitor)
+  pub accepted : checked d ≡ Ok tt → w ≡ unit_of m → (Ok tt ≡ checked (begin d m).decision) × (w ≡ unit_of (begin d m).monitor)
   unfolding begin
-  answered u g f =
-      (e, f ∙ ap₂ (λ (r : Bool) (v : Rows). cond r (unit_of empty_monitor) v) (ap refuses e) g ∙ rows_of (refuses d))
+  accepted h f = (sym h, f ∙ ap unit_of (sym (cond-false (refuses d) empty_monitor m (passes d h))))
+
+-- ---- the checks of the records, and those behind them
+
+module _ (formed : Bool) (k : Kept) (later : Decision) where
+  pub settled-refuses : (e : Decision) → checked (settled formed k Granted) ≡ Err e → Err e ≡ checked (settled formed k later)
+  unfolding checked unless
+  settled-refuses e h = go (formed && k.absent) k.inside h
     where
-      rows_of : (r : Bool) → cond r (unit_of empty_monitor) (unit_of m) ≡ unit_of (cond r empty_monitor m)
-      rows_of true = refl
-      rows_of false = refl
+      go : (a b : Bool) → checked (unless a StrayBits (unless b OutsideProfile Granted)) ≡ Err e → Err e ≡ checked (unless a StrayBits (unless b OutsideProfile later))
+      go false b h = sym h
+      go true false h = sym h
+      go true true h = cc
+
+  pub settled-passes : checked (settled formed k Granted) ≡ Ok tt → checked later ≡ checked (settled formed k later)
+  unfolding checked unless
+  settled-passes h = go (formed && k.absent) k.inside h
+    where
+      go : (a b : Bool) → checked (unless a StrayBits (unless b OutsideProfile Granted)) ≡ Ok tt → checked later ≡ checked (unless a StrayBits (unless b OutsideProfile later))
+      go false b h = cc
+      go true false h = cc
+      go true true h = refl
+
+-- what is so whatever the result
+pub on_ok : {P : Type 0} (r : Result (Unit {0}) Decision) → P → OnOk r P
+on_ok (Ok x) p = p
+on_ok (Err e) p = tt
 
 -- ---- the ranges of the profile, checked first, then the length
 

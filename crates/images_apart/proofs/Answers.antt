@@ -2,11 +2,10 @@
 -- Assumes nothing.
 use Prim.Native.Nat.{ℕ, ◌+◌}
 use mathlib.Core.Path.{◌≡◌, sym, ap, ap₂, ◌∙◌}
-use mathlib.Core.Bool.{Bool, true, false}
+use mathlib.Core.Bool.{true, false}
 use mathlib.Core.List.{List}
 use Rattle.model.specs.declared.Profile.{Profile}
 use Rattle.model.specs.declared.Monitor.{Monitor}
-use Rattle.model.specs.declared.Decision.{Decision}
 use Rattle.model.specs.Decisions.{number, refuses}
 use Rattle.model.specs.Reading.{read_image}
 use Rattle.model.specs.Beginnings.{image}
@@ -17,37 +16,30 @@ use Rattle.image.proofs.Sizes.{begun-says}
 use Rattle.distinguish.specs.Telling.{told_number, told_bytes}
 use Rattle.images_apart.specs.Apart.{distinguish_number, distinguish_bytes}
 
--- the refusal of what was read, from the code's value to the definition's
-pub refusal : (d k : Decision) → d ≡ k → (b : Bool) → refuses d ≡ b → refuses k ≡ b
-refusal d k e b w = ap refuses (sym e) ∙ w
-
 -- a unit into which an image was read says its monitor
 pub opened-says : (p : Profile) (b : List ℕ) (u : Rows) → u ≡ unit_of (read_image p b).monitor → state_in u ≡ (read_image p b).monitor
 opened-says p b u f = ap state_in f ∙ begun-says (image p b)
 
-module _ (p : Profile) (a b buffer : List ℕ) (d : Decision) (e : d ≡ (read_image p a).decision) where
-  pub first-refused : refuses d ≡ true → (k : ℕ) → k ≡ number d
+module _ (p : Profile) (a b buffer : List ℕ) where
+  pub first-refused : refuses (read_image p a).decision ≡ true → (k : ℕ) → k ≡ number (read_image p a).decision
       → (128 + k ≡ distinguish_number p a b buffer) × (buffer ≡ distinguish_bytes p a b buffer)
   unfolding distinguish_number distinguish_bytes
-  first-refused w k f = (
-    ap (λ i. 128 + i) (f ∙ ap number e) ∙ sym (cond-true _ _ _ (refusal d _ e true w)),
-    sym (cond-true _ _ _ (refusal d _ e true w)),
-  )
+  first-refused w k f = (ap (λ i. 128 + i) f ∙ sym (cond-true _ _ _ w), sym (cond-true _ _ _ w))
 
-  module _ (w : refuses d ≡ false) (t : Decision) (f : t ≡ (read_image p b).decision) where
-    pub second-refused : refuses t ≡ true → (k : ℕ) → k ≡ number t
+  module _ (w : refuses (read_image p a).decision ≡ false) where
+    pub second-refused : refuses (read_image p b).decision ≡ true → (k : ℕ) → k ≡ number (read_image p b).decision
         → (192 + k ≡ distinguish_number p a b buffer) × (buffer ≡ distinguish_bytes p a b buffer)
     unfolding distinguish_number distinguish_bytes
     second-refused v k g = (
-      ap (λ i. 192 + i) (g ∙ ap number f) ∙ sym (cond-true _ _ _ (refusal t _ f true v)) ∙ sym (cond-false _ _ _ (refusal d _ e false w)),
-      sym (cond-true _ _ _ (refusal t _ f true v)) ∙ sym (cond-false _ _ _ (refusal d _ e false w)),
+      ap (λ i. 192 + i) g ∙ sym (cond-true _ _ _ v) ∙ sym (cond-false _ _ _ w),
+      sym (cond-true _ _ _ v) ∙ sym (cond-false _ _ _ w),
     )
 
-    pub told-apart : refuses t ≡ false → (m n : Monitor) → m ≡ (read_image p a).monitor → n ≡ (read_image p b).monitor
+    pub told-apart : refuses (read_image p b).decision ≡ false → (m n : Monitor) → m ≡ (read_image p a).monitor → n ≡ (read_image p b).monitor
         → (k : ℕ) → k ≡ told_number m n buffer → (last : List ℕ) → last ≡ told_bytes m n buffer
         → (k ≡ distinguish_number p a b buffer) × (last ≡ distinguish_bytes p a b buffer)
     unfolding distinguish_number distinguish_bytes
     told-apart v m n x y k g last h = (
-      g ∙ ap₂ (λ (i j : Monitor). told_number i j buffer) x y ∙ sym (cond-false _ _ _ (refusal t _ f false v)) ∙ sym (cond-false _ _ _ (refusal d _ e false w)),
-      h ∙ ap₂ (λ (i j : Monitor). told_bytes i j buffer) x y ∙ sym (cond-false _ _ _ (refusal t _ f false v)) ∙ sym (cond-false _ _ _ (refusal d _ e false w)),
+      g ∙ ap₂ (λ (i j : Monitor). told_number i j buffer) x y ∙ sym (cond-false _ _ _ v) ∙ sym (cond-false _ _ _ w),
+      h ∙ ap₂ (λ (i j : Monitor). told_bytes i j buffer) x y ∙ sym (cond-false _ _ _ v) ∙ sym (cond-false _ _ _ w),
     )

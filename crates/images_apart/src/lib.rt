@@ -7,7 +7,6 @@ ghost use Rattle.images_apart.specs.Apart.{distinguish_number, distinguish_bytes
 
 use distinguish::distinguish;
 use image::open;
-use labels::{number, refuses};
 use model::Profile;
 use unit::ROWS;
 
@@ -16,14 +15,12 @@ pub fn tell(profile: Profile, a: &[u8], b: &[u8], requests: &mut [u8]) -> u8
     ensures { (result ≡ distinguish_number profile a.now b.now requests.old) × (requests.new ≡ distinguish_bytes profile a.now b.now requests.old) }
 {
     let mut first = [[0u8; 16]; ROWS];
-    let one = open(&mut first, profile, a);
-    if refuses(one) {
-        return 128 + number(one);
+    if let Err(refusal) = open(&mut first, profile, a) {
+        return 128 + u8::from(refusal);
     }
     let mut second = [[0u8; 16]; ROWS];
-    let two = open(&mut second, profile, b);
-    if refuses(two) {
-        return 192 + number(two);
+    if let Err(refusal) = open(&mut second, profile, b) {
+        return 192 + u8::from(refusal);
     }
     distinguish(&first, &second, requests)
 }

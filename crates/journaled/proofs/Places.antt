@@ -13,7 +13,7 @@ use Rattle.model.specs.declared.Fields.{Fields}
 use Rattle.model.specs.declared.Monitor.{Monitor}
 use Rattle.model.specs.declared.Request.{Request}
 use Rattle.model.specs.declared.Request.TheVariants.{Delete, ChangeLevel, SetCompanies}
-use Rattle.model.specs.declared.Decoded.TheVariants.{Says}
+use Rattle.std.specs.Prelude.{Some}
 use Rattle.model.specs.State.{object_count}
 use Rattle.model.specs.Hierarchy.{has_child}
 use Rattle.model.specs.Requests.{fields, level_of, request, decode}
@@ -40,7 +40,7 @@ request-target f =
     pick true x y p q = p
     pick false x y p q = q
 
-pub named-target : (p : Profile) (b : List ℕ) (q : Request) → decode p b ≡ Says q → named b ≡ target q
+pub named-target : (p : Profile) (b : List ℕ) (q : Request) → decode p b ≡ Some q → named b ≡ target q
 unfolding named
 named-target p b q e =
     let d = decode-says p b q e in
@@ -74,7 +74,7 @@ takes-kind f m =
     pick true x y p q = p
     pick false x y p q = q
 
-pub takes-said : (p : Profile) (b : List ℕ) (q : Request) (m : Monitor) → decode p b ≡ Says q → (deletes b && has_child m.objects (named b)) ≡ takes_children q m
+pub takes-said : (p : Profile) (b : List ℕ) (q : Request) (m : Monitor) → decode p b ≡ Some q → (deletes b && has_child m.objects (named b)) ≡ takes_children q m
 unfolding deletes
 takes-said p b q m e =
     let d = decode-says p b q e in

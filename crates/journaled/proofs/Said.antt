@@ -13,12 +13,11 @@ use borrow.Author.Tests.{eq-eqb, ne_eqb}
 use Rattle.model.specs.declared.Object.{Object}
 use Rattle.model.specs.declared.Monitor.{Monitor}
 use Rattle.model.specs.declared.Request.{Request}
-use Rattle.model.specs.declared.Decoded.{Decoded}
-use Rattle.model.specs.declared.Decoded.TheVariants.{Malformed, Says}
+use Rattle.model.specs.Requests.{Decoded, decode, InRange}
+use Rattle.std.specs.Prelude.{Some, None}
 use Rattle.model.specs.declared.Decision.TheVariants.{Granted, EmptyJournal}
 use Rattle.model.specs.State.{object_count, object, with_object}
 use Rattle.model.specs.Decisions.{number}
-use Rattle.model.specs.Requests.{decode, InRange}
 use Rattle.model.specs.Rules.{target, step}
 use Rattle.model.specs.Runs.{respond}
 use Rattle.model.specs.Journal.{Entry, entered, without_entries, entry_of, takes_children, journal_after, ask, restored, take_back, taking_back, Act, asks, takes_back, acted, answers}
@@ -97,9 +96,9 @@ module _ (u : Rows) (U : WholeUnit u) where
       entered-says (journal_part u) U.journal o (row_at u o) (row_at u (held_row o)) (row_at u (rest_row o))
       ∙ ap₂ (λ (n : ℕ) (ob : Object). entered (record { place = n; was = ob }) (journal_in (journal_part u))) place (entry-said o h)
 
-  journal-said : (d : Decoded) → ((q : Request) → d ≡ Says q → InRange q) → journal_in (journal_said d u) ≡ journal_after d (state_in u) (journal_in (journal_part u))
-  journal-said Malformed r = refl
-  journal-said (Says q) r =
+  journal-said : (d : Decoded) → ((q : Request) → d ≡ Some q → InRange q) → journal_in (journal_said d u) ≡ journal_after d (state_in u) (journal_in (journal_part u))
+  journal-said None r = refl
+  journal-said (Some q) r =
       let zero? = eqb (number (step q (state_in u)).decision) 0 in
       let took? = takes_children q (state_in u) in
       let rows = cond took? no_entries (entered_at u (target q)) in
@@ -111,8 +110,8 @@ module _ (u : Rows) (U : WholeUnit u) where
       (λ e. ap journal_in (cond-false zero? rows (journal_part u) e) ∙ sym (cond-false zero? entries _ e))
 
   journal-whole : (d : Decoded) → Whole (journal_said d u)
-  journal-whole Malformed = U.journal
-  journal-whole (Says q) =
+  journal-whole None = U.journal
+  journal-whole (Some q) =
       cond-all Whole (eqb (number (step q (state_in u)).decision) 0) _ _
       (λ e. cond-all Whole (takes_children q (state_in u)) _ _ (λ t. none-whole)
       (λ t. entered-whole (journal_part u) U.journal (target q) (row_at u (target q)) (row_at u (held_row (target q))) (row_at u (rest_row (target q))))) (λ e. U.journal)

@@ -2,19 +2,19 @@
 -- Assumes nothing.
 use Prim.Native.Nat.{ℕ, ◌<◌}
 use native.Mathlib.Omega.{arith}
-use mathlib.Core.Path.{◌≡◌, refl, sym, ap, ap₂, ◌∙◌, subst}
+use mathlib.Core.Path.{◌≡◌, refl, sym, ap, ap₂, ◌∙◌}
 use mathlib.Core.Logic.{◌≢◌}
 use mathlib.Core.Bool.{Bool, cond, ◌&&◌}
 use mathlib.Core.List.{List, ◌++◌}
-use lib.ListN.{length, take, drop}
+use lib.ListN.{length}
 use lib.Dec.{eqb}
 use borrow.Author.Tests.{eq-eqb, ne_eqb}
 use Rattle.model.specs.declared.Object.{Object}
 use Rattle.model.specs.declared.Monitor.{Monitor}
-use Rattle.model.specs.declared.Decoded.{Decoded}
-use Rattle.model.specs.declared.Decoded.TheVariants.{Malformed, Says}
+use Rattle.model.specs.State.{object_count}
+use Rattle.model.specs.Requests.{Decoded, decode}
+use Rattle.std.specs.Prelude.{Some, None}
 use Rattle.model.specs.Decisions.{number}
-use Rattle.model.specs.Requests.{decode}
 use Rattle.model.specs.Rules.{target, step}
 use Rattle.model.specs.Hierarchy.{has_child}
 use Rattle.model.specs.Journal.{takes_children}
@@ -22,15 +22,12 @@ use Rattle.model.specs.Runs.{carry_out, respond, reply}
 use Rattle.model.proofs.Tests.{cond-true, cond-false}
 use Rattle.unit.specs.Rows.{Rows, row_count, held_row, rest_row, row_at, objects_in, state_in}
 use Rattle.unit.specs.Stored.{set_object, unit_of}
-use Rattle.unit.proofs.Stores.{object-length}
-use Rattle.unit.proofs.Units.{unit-length}
 use Rattle.asking.specs.Asked.{asked}
-use Rattle.asking.proofs.Lists.{asked-length}
-use Rattle.journal.specs.Ring.{journal_rows, entry_count, entry_in, slot_of}
+use Rattle.journal.specs.Ring.{entry_count, entry_in, slot_of}
 use Rattle.journal.specs.Stored.{entered_rows, left_rows, no_entries}
-use Rattle.journaled.specs.Units.{unit_rows, monitor_part, journal_part, begun_rows, named, deletes, entered_at, journal_said, asked_unit, latest_in, restored_unit}
-use Rattle.journaled.proofs.Parts.{monitor-length, journal-length, part-behind, behind-kept, both_stored, monitor-says}
-use Rattle.journaled.proofs.Places.{named-target, takes-said}
+use Rattle.journaled.specs.Units.{monitor_part, journal_part, begun_rows, named, deletes, entered_at, journal_said, asked_unit, latest_in, restored_unit}
+use Rattle.journaled.proofs.Parts.{parts-put, row-there, monitor-says}
+use Rattle.journaled.proofs.Places.{named-target, named-below, takes-said}
 
 -- ---- what a reply does to the journal's rows
 
@@ -41,8 +38,8 @@ entered_by u b = cond (deletes b && has_child (objects_in u) (named b)) no_entri
 module _ (b : List ℕ) (u : Rows) where
   by-reply : (d : Decoded) → decode (state_in u).profile b ≡ d
       → (number (carry_out d (state_in u)).decision ≡ 0 → journal_said d u ≡ entered_by u b) × (number (carry_out d (state_in u)).decision ≢ 0 → journal_said d u ≡ journal_part u)
-  by-reply Malformed e = (λ z. absurd (omega (arith, z)), λ n. refl)
-  by-reply (Says q) e = (
+  by-reply None e = (λ z. absurd (omega (arith, z)), λ n. refl)
+  by-reply (Some q) e = (
     λ z. cond-true (eqb (number (step q (state_in u)).decision) 0) (cond (takes_children q (state_in u)) no_entries (entered_at u (target q))) (journal_part u) (eq-eqb _ 0 z)
         ∙ ap₂ (λ (t : Bool) (o : ℕ). cond t no_entries (entered_at u o)) (sym (takes-said (state_in u).profile b q (state_in u) e)) (sym (named-target (state_in u).profile b q e)),
     λ n. cond-false (eqb (number (step q (state_in u)).decision) 0) (cond (takes_children q (state_in u)) no_entries (entered_at u (target q))) (journal_part u) (ne_eqb _ 0 n),
@@ -56,64 +53,70 @@ module _ (b : List ℕ) (u : Rows) where
   unfolding respond
   kept-else = (by-reply (decode (state_in u).profile b) refl).1
 
-module _ (u : Rows) (n : length u ≡ unit_rows) where
+-- a unit, by its two parts
+module _ (m j : Rows) (n : length m ≡ row_count) where
+  front : monitor_part (m ++ j) ≡ m
+  front = (parts-put m j n).0
+
+  behind : journal_part (m ++ j) ≡ j
+  behind = (parts-put m j n).1
+
+  pub front-says : state_in (m ++ j) ≡ state_in m
+  front-says = sym (monitor-says (m ++ j)) ∙ ap state_in front
+
+  pub said-behind : entry_count (journal_part (m ++ j)) ≡ entry_count j
+  said-behind = ap entry_count behind
+
+  row-same : (i : ℕ) → i < row_count → row_at m i ≡ row_at (m ++ j) i
+  row-same i h = ap (λ (v : Rows). row_at v i) (sym front) ∙ row-there (m ++ j) i h
+
   -- ---- a request
 
-  module _ (b : List ℕ) (w : Rows) (r : ℕ) (answers : r ≡ reply b (state_in (monitor_part u))) (leaves : w ≡ asked b (monitor_part u)) where
-    said : r ≡ reply b (state_in u)
-    said = answers ∙ ap (reply b) (monitor-says u)
+  module _ (b : List ℕ) (w : Rows) (r : ℕ) (answers : r ≡ reply b (state_in m)) (leaves : w ≡ asked b m) where
+    said : r ≡ reply b (state_in (m ++ j))
+    said = answers ∙ ap (reply b) (sym front-says)
 
-    rows : length w ≡ row_count
-    rows = ap length leaves ∙ asked-length b (monitor_part u) ∙ monitor-length u n
+    kept : w ≡ asked b (monitor_part (m ++ j))
+    kept = leaves ∙ ap (asked b) (sym front)
 
-    pub asked-0 : (o : ℕ) (t : Bool) (y : Rows) → o ≡ named b → t ≡ (deletes b && has_child (objects_in (monitor_part u)) o) → r ≡ 0
-        → y ≡ cond t no_entries (entered_rows (take journal_rows (drop row_count (w ++ drop row_count u))) o (row_at u o) (row_at u (held_row o)) (row_at u (rest_row o)))
-        → (r ≡ reply b (state_in u)) × (take row_count (w ++ drop row_count u) ++ (y ++ drop journal_rows (drop row_count (w ++ drop row_count u))) ≡ asked_unit b u)
+    entered : (o : ℕ) → o < object_count → entered_rows j o (row_at m o) (row_at m (held_row o)) (row_at m (rest_row o)) ≡ entered_at (m ++ j) o
+    entered o h =
+        let rights = row-same o (omega arith) in
+        let held = row-same (held_row o) (omega arith) in
+        let rest = row-same (rest_row o) (omega arith) in
+        λ i. entered_rows (sym behind i) o (rights i) (held i) (rest i)
+
+    pub asked-0 : (t : Bool) (y : Rows) → t ≡ (deletes b && has_child (objects_in m) (named b)) → r ≡ 0
+        → y ≡ cond t no_entries (entered_rows j (named b) (row_at m (named b)) (row_at m (held_row (named b))) (row_at m (rest_row (named b))))
+        → (r ≡ reply b (state_in (m ++ j))) × (w ++ y ≡ asked_unit b (m ++ j))
     unfolding asked_unit
-    asked-0 o t y place took zero stored = (
+    asked-0 t y took zero stored = (
       said,
-      both_stored u n w rows y (cond t no_entries (entered_at u o))
-          (stored ∙ ap (λ (j : Rows). cond t no_entries (entered_rows j o (row_at u o) (row_at u (held_row o)) (row_at u (rest_row o)))) (behind-kept u n w rows))
-          ∙ ap₂ (λ (x z : Rows). x ++ z) leaves
-          (ap₂ (λ (k : Bool) (i : ℕ). cond k no_entries (entered_at u i)) (took ∙ ap₂ (λ (m : Monitor) (i : ℕ). deletes b && has_child m.objects i) (monitor-says u) place) place
-          ∙ sym (entered-0 b u (sym said ∙ zero))),
+      ap₂ (λ (x z : Rows). x ++ z) kept
+          (stored
+          ∙ ap₂ (λ (k : Bool) (z : Rows). cond k no_entries z) (took ∙ ap (λ (k : Monitor). deletes b && has_child k.objects (named b)) (sym front-says)) (entered (named b) (named-below b))
+          ∙ sym (entered-0 b (m ++ j) (sym said ∙ zero))),
     )
 
-    pub asked-else : r ≢ 0 → (r ≡ reply b (state_in u)) × (w ++ drop row_count u ≡ asked_unit b u)
+    pub asked-else : r ≢ 0 → (r ≡ reply b (state_in (m ++ j))) × (w ++ j ≡ asked_unit b (m ++ j))
     unfolding asked_unit
-    asked-else other = (said, ap₂ (λ (x z : Rows). x ++ z) leaves (sym (kept-else b u (λ e. other (said ∙ e)))))
+    asked-else other = (said, ap₂ (λ (x z : Rows). x ++ z) kept (sym behind ∙ sym (kept-else b (m ++ j) (λ e. other (said ∙ e)))))
 
   -- ---- a taking-back
 
-  -- what is read of the rows that are lent is what the journal has
-  module _ (k o : ℕ) (was : Object) (slot : k ≡ slot_of (take journal_rows (drop row_count u)) 0)
-      (place : o ≡ (entry_in (take journal_rows (drop row_count u)) k).place) (record-was : was ≡ (entry_in (take journal_rows (drop row_count u)) k).was) where
-    latest : entry_in (take journal_rows (drop row_count u)) k ≡ latest_in u
-    latest = ap₂ entry_in (part-behind u n) (slot ∙ ap (λ (j : Rows). slot_of j 0) (part-behind u n))
+  module _ (k o : ℕ) (was : Object) (slot : k ≡ slot_of j 0) (place : o ≡ (entry_in j k).place) (record-was : was ≡ (entry_in j k).was) where
+    latest : entry_in j k ≡ latest_in (m ++ j)
+    latest = ap (entry_in j) slot ∙ ap (λ (r : Rows). entry_in r (slot_of r 0)) (sym behind)
 
-    module _ (w : Rows) (stored : w ≡ set_object (monitor_part u) o was) where
-      restored-as : w ≡ set_object (monitor_part u) (latest_in u).place (latest_in u).was
-      restored-as = stored ∙ ap₂ (set_object (monitor_part u)) (place ∙ ap (λ e. e.place) latest) (record-was ∙ ap (λ e. e.was) latest)
+    pub restored_by : (w y : Rows) → w ≡ set_object m o was → y ≡ left_rows j → w ++ y ≡ restored_unit (m ++ j)
+    unfolding restored_unit
+    restored_by w y stored gone =
+        let at : o ≡ (latest_in (m ++ j)).place = place ∙ ap (λ e. e.place) latest in
+        let what : was ≡ (latest_in (m ++ j)).was = record-was ∙ ap (λ e. e.was) latest in
+        ap₂ (λ (x z : Rows). x ++ z) (stored ∙ λ i. set_object (sym front i) (at i) (what i)) (gone ∙ ap left_rows (sym behind))
 
-      restored-rows : length w ≡ row_count
-      restored-rows = ap length restored-as ∙ object-length (monitor_part u) (latest_in u).place (latest_in u).was (monitor-length u n) (omega arith)
+-- ---- a beginning
 
-      pub leave-needs : 0 < entry_count (journal_part u)
-          → (length (take journal_rows (drop row_count (w ++ drop row_count u))) ≡ journal_rows) × (0 < entry_count (take journal_rows (drop row_count (w ++ drop row_count u))))
-      leave-needs some =
-          subst (λ (j : Rows). (length j ≡ journal_rows) × (0 < entry_count j)) (sym (behind-kept u n w restored-rows)) (journal-length u n, some)
-
-      pub restored_by : (y : Rows) → y ≡ left_rows (take journal_rows (drop row_count (w ++ drop row_count u)))
-          → take row_count (w ++ drop row_count u) ++ (y ++ drop journal_rows (drop row_count (w ++ drop row_count u))) ≡ restored_unit u
-      unfolding restored_unit
-      restored_by y gone =
-          both_stored u n w restored-rows y (left_rows (journal_part u)) (gone ∙ ap left_rows (behind-kept u n w restored-rows))
-          ∙ ap (λ (x : Rows). x ++ left_rows (journal_part u)) restored-as
-
-  -- ---- a beginning
-
-  pub begun-by : (m : Monitor) (w y : Rows) → w ≡ unit_of m → y ≡ no_entries
-      → take row_count (w ++ drop row_count u) ++ (y ++ drop journal_rows (drop row_count (w ++ drop row_count u))) ≡ begun_rows m
-  unfolding begun_rows
-  begun-by m w y begun empty =
-      both_stored u n w (ap length begun ∙ unit-length m) y no_entries empty ∙ ap (λ (x : Rows). x ++ no_entries) begun
+pub begun-by : (m : Monitor) (w y : Rows) → w ≡ unit_of m → y ≡ no_entries → w ++ y ≡ begun_rows m
+unfolding begun_rows
+begun-by m w y begun empty = ap₂ (λ (x z : Rows). x ++ z) begun empty

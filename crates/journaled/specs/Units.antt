@@ -1,12 +1,10 @@
 -- A unit is 308 rows: those of a monitor, and behind them those of its journal (change request §9). What it says, and what is left of it.
 -- Assumes nothing.
-use Rattle.std.specs.Prelude.{ℕ, ◌+◌, ◌%◌, Bool, cond, ◌&&◌, List, [], ◌∷◌, ◌++◌, length, take, drop, eqb}
+use Rattle.std.specs.Prelude.{ℕ, ◌+◌, ◌%◌, Bool, cond, ◌&&◌, List, [], ◌∷◌, ◌++◌, length, take, drop, eqb, Some, None}
 use Rattle.model.specs.declared.Monitor.{Monitor}
-use Rattle.model.specs.declared.Decoded.{Decoded}
-use Rattle.model.specs.declared.Decoded.TheVariants.{Malformed, Says}
+use Rattle.model.specs.Requests.{Decoded, request_size, fields, decode}
 use Rattle.model.specs.State.{object_count}
 use Rattle.model.specs.Decisions.{number}
-use Rattle.model.specs.Requests.{request_size, fields, decode}
 use Rattle.model.specs.Rules.{target, step}
 use Rattle.model.specs.Journal.{Entry, Journaled, takes_children, Act, asks, takes_back, taking_back}
 use Rattle.model.specs.Runs.{reply}
@@ -14,10 +12,15 @@ use Rattle.unit.specs.Rows.{Rows, row_count, held_row, rest_row, row_at, state_i
 use Rattle.unit.specs.Stored.{set_object, unit_of}
 use Rattle.asking.specs.Asked.{asked}
 use Rattle.journal.specs.Ring.{journal_rows, entry_count, entry_in, slot_of, journal_in}
+use Rattle.journaled.specs.declared.Unit.{Unit}
 use Rattle.journal.specs.Stored.{entered_rows, left_rows, no_entries}
 
 abbrev pub unit_rows : ℕ
 unit_rows = row_count + journal_rows
+
+-- the rows of a unit, one behind the other
+abbrev pub rows_of : Unit → Rows
+rows_of u = u.monitor ++ u.journal
 
 abbrev pub monitor_part : Rows → Rows
 monitor_part u = take row_count u
@@ -49,8 +52,8 @@ deletes b = eqb (length b) request_size && eqb (fields b).kind 6
 
 -- "for each reply 0"; "A deletion that took children empties the journal" (change request §11)
 abbrev pub journal_said : Decoded → Rows → Rows
-journal_said Malformed u = journal_part u
-journal_said (Says q) u =
+journal_said None u = journal_part u
+journal_said (Some q) u =
     cond (eqb (number (step q (state_in u)).decision) 0) (cond (takes_children q (state_in u)) no_entries (entered_at u (target q))) (journal_part u)
 
 unfoldable pub asked_unit : List ℕ → Rows → Rows

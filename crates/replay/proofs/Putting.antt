@@ -47,24 +47,24 @@ join_more (suc i) (x ∷ l) h =
     rw e (ap (λ r. line x ++ r) (join_more i l (omega arith)) ∙ sym (append_assoc (line x) (join (map line (take i l))) (line (get_or l i 0))))
 
 -- what holds at the head of the loop over the numbers
-pub record Lining (out₀ numbers : List ℕ) (count : ℕ) (out : List ℕ) (at i : ℕ) : Type 0 where
-  pub bound : i ≤ count
+pub record Lining (out₀ numbers out : List ℕ) (at i : ℕ) : Type 0 where
+  pub bound : i ≤ length numbers
   pub short : at ≤ 3 * i
   pub written : out ≡ put out₀ 0 (join (map line (take i numbers)))
   pub place : at ≡ length (join (map line (take i numbers)))
   pub size : length out ≡ length out₀
 
-pub lining-start : (out numbers : List ℕ) (count : ℕ) → Lining out numbers count out 0 0
+pub lining-start : (out numbers : List ℕ) → Lining out numbers out 0 0
 unfolding join
-lining-start out numbers count = record { bound = omega arith; short = omega arith; written = put-none out 0; place = refl; size = refl }
+lining-start out numbers = record { bound = omega arith; short = omega arith; written = put-none out 0; place = refl; size = refl }
 
-pub lining-more : (out₀ numbers : List ℕ) (count : ℕ) (out : List ℕ) (at i : ℕ) (next : List ℕ) (to : ℕ) → Lining out₀ numbers count out at i
-    → i < count → count ≤ length numbers → 3 * count ≤ length out₀ → next ≡ put out at (line (get_or numbers i 0)) → to ≡ at + length (line (get_or numbers i 0))
-    → Lining out₀ numbers count next to (i + 1)
-lining-more out₀ numbers count out at i next to L h g k e f =
+pub lining-more : (out₀ numbers out : List ℕ) (at i : ℕ) (next : List ℕ) (to : ℕ) → Lining out₀ numbers out at i
+    → i < length numbers → 3 * length numbers ≤ length out₀ → next ≡ put out at (line (get_or numbers i 0)) → to ≡ at + length (line (get_or numbers i 0))
+    → Lining out₀ numbers next to (i + 1)
+lining-more out₀ numbers out at i next to L h k e f =
     let n = get_or numbers i 0 in
     let front = join (map line (take i numbers)) in
-    let more = join_more i numbers (omega (arith, h, g)) in
+    let more = join_more i numbers h in
     record {
       bound = omega arith;
       short = omega (arith, L.short, f, line-short n);

@@ -3,6 +3,7 @@
 #![tactic(auto)]
 
 ghost use Rattle.std.specs.Prelude.{◌≡◌, map, ◌+◌, ◌*◌, ◌≤◌, ◌<◌, length, take, replicate};
+ghost use Rattle.model.specs.Decisions.{checked};
 ghost use Rattle.bits.specs.Bits.{join};
 ghost use Rattle.model.specs.Requests.{request_size};
 ghost use Rattle.model.specs.Layout.{table_size};
@@ -10,28 +11,23 @@ ghost use Rattle.model.specs.Buffers.{put};
 ghost use Rattle.model.specs.Program.{most_requests, line, program};
 ghost use Rattle.replay.specs.Replay.{replay_answer, replayed};
 
-use bits::smaller;
 use buffers::put_two;
 use image::start_widest;
-use labels::{number, refuses};
 use model::{Decision, Monitor};
 use turns::{piece_count, run};
 use unit::ROWS;
 
 // One reply byte for each piece of six bytes, a short last one counted; a refusal leaves every byte of the buffer.
-pub fn replay(table: &[u8], requests: &[u8], out: &mut [u8]) -> Decision
-    ensures { (result ≡ replay_answer table.now requests.now (length out.old)) × (out.new ≡ replayed table.now requests.now out.old) }
+pub fn replay(table: &[u8], requests: &[u8], out: &mut [u8]) -> Result<(), Decision>
+    ensures { (result ≡ checked (replay_answer table.now requests.now (length out.old))) × (out.new ≡ replayed table.now requests.now out.old) }
 {
     let mut unit = [[0u8; 16]; ROWS];
-    let decision = start_widest(&mut unit, table);
-    if refuses(decision) {
-        return decision;
-    }
+    start_widest(&mut unit, table)?;
     if out.len() < piece_count(requests.len()) {
-        return Decision::ShortBuffer;
+        return Err(Decision::ShortBuffer);
     }
     run(&mut unit, requests, out);
-    Decision::Granted
+    Ok(())
 }
 
 // ---- lines of decimal numbers, one behind the other in a buffer
@@ -51,16 +47,14 @@ fn put_line(out: &mut [u8], at: usize, n: u8) -> usize
     at + 3
 }
 
-// A line for each of the first numbers, as many as count says; returns how many bytes they have.
-fn put_lines(out: &mut [u8], numbers: &[u8], count: usize) -> usize
-    requires { (count ≤ length numbers.now) × (3 * count ≤ length out.old) × (length out.old < 65536) }
-    ensures { (out.new ≡ put out.old 0 (join (map line (take count numbers.now)))) × (result ≡ length (join (map line (take count numbers.now)))) }
+// A line for each of the numbers; returns how many bytes they have.
+fn put_lines(out: &mut [u8], numbers: &[u8]) -> usize
+    requires { (3 * length numbers.now ≤ length out.old) × (length out.old < 65536) }
+    ensures { (out.new ≡ put out.old 0 (join (map line numbers.now))) × (result ≡ length (join (map line numbers.now))) }
 {
     let mut at = 0usize;
-    let mut i = 0usize;
-    while i < count {
-        at = put_line(out, at, numbers[i]);
-        i += 1;
+    for n in numbers {
+        at = put_line(out, at, *n);
     }
     at
 }
@@ -75,7 +69,7 @@ pub fn input_room() -> [u8; INPUT_BYTES]
     [0u8; INPUT_BYTES]
 }
 
-// What the program prints: the first len bytes.
+// What the program prints: the first len bytes. Kept as an array with its length, since the program has no heap.
 #[derive(Clone, Copy)]
 pub struct Printed {
     pub bytes: [u8; 12288],
@@ -88,17 +82,16 @@ pub fn program(input: &[u8]) -> Printed
     ensures { (result.bytes ≡ put (replicate 12288 0) 0 (program input.now)) × (result.len ≡ length (program input.now)) × (result.len ≤ 12288) }
 {
     let mut bytes = [0u8; 12288];
-    let end = smaller(Monitor::TABLE_BYTES, input.len());
+    let end = Monitor::TABLE_BYTES.min(input.len());
     let mut unit = [[0u8; 16]; ROWS];
-    let decision = start_widest(&mut unit, &input[0..end]);
-    if refuses(decision) {
-        let len = put_line(&mut bytes, 0, number(decision));
+    if let Err(refusal) = start_widest(&mut unit, &input[0..end]) {
+        let len = put_line(&mut bytes, 0, u8::from(refusal));
         return Printed { bytes, len };
     }
-    let last = smaller(input.len(), end + 24576);
+    let last = input.len().min(end + 24576);
     let mut replies = [0u8; 4096];
     run(&mut unit, &input[end..last], &mut replies);
     let count = piece_count(last - end);
-    let len = put_lines(&mut bytes, &replies, count);
+    let len = put_lines(&mut bytes, &replies[..count]);
     Printed { bytes, len }
 }

@@ -1,6 +1,6 @@
 -- `checking::findings_of` meets its contract.
 -- Assumes nothing.
-use Prim.Native.Nat.{ℕ, ◌-◌, ◌≤◌}
+use Prim.Native.Nat.{ℕ, ◌≤◌}
 use mathlib.Core.Path.{◌≡◌}
 use mathlib.Core.Bool.{Bool, true}
 use Rattle.model.specs.State.{clearance, object, rights_of, held_by}
@@ -16,8 +16,5 @@ begins b = record { enrolled = b; matrix = true; labelled = true; simple = true 
 abbrev pub at_subject : Rows → ℕ → ℕ → Findings
 at_subject u o s = at (clearance (state_in u) s) (object (state_in u) o).label (rights_of (object (state_in u) o) s) (held_by (object (state_in u) o) s)
 
-abbrev pub invariant-loop-i : goal.invariant-loop-i
-invariant-loop-i l = (l.i ≤ 16) × (l.found ≡ both (begins l.owned) (below l.i (at_subject l.unit l.o)))
-
-abbrev pub decreases-loop-i : goal.decreases-loop-i
-decreases-loop-i l = 16 - l.i
+abbrev pub invariant-loop-s : goal.invariant-loop-s
+invariant-loop-s l = (l.s ≤ 16) × (l.found ≡ both (begins l.owned) (below l.s (at_subject l.unit l.o)))

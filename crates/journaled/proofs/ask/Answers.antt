@@ -1,23 +1,27 @@
 -- `journaled::ask` meets its contract.
 -- Assumes nothing.
-use native.Mathlib.Omega.{arith}
-use Rattle.journaled.proofs.Places.{named-below}
-use Rattle.journaled.proofs.Stored.{asked-0, asked-else}
+use Prim.Native.Nat.{ℕ}
+use mathlib.Core.Path.{ap, ◌∙◌}
+use mathlib.Core.Bool.{cond, ◌&&◌}
 use borrow.Author.Rules.{rules}
+use Rattle.model.specs.Hierarchy.{has_child}
+use Rattle.unit.specs.Rows.{held_row, rest_row, row_at, objects_in}
+use Rattle.journal.specs.Stored.{entered_rows, no_entries}
+use Rattle.journaled.specs.Units.{deletes}
+use Rattle.journaled.proofs.Stored.{asked-0, asked-else}
 use Rattle.journaled.proofs.ask.Goals as goal
 
-pub slice_copy_out-held : goal.slice_copy_out-held
-slice_copy_out-held c = omega (arith, c.named-o.ensures, named-below c.args.bytes.now)
-
-pub slice_copy_out-rest : goal.slice_copy_out-rest
-slice_copy_out-rest c = omega (arith, c.named-o.ensures, named-below c.args.bytes.now)
-
-pub takes_children-took-requires : goal.takes_children-took-requires
-takes_children-took-requires c = record { unit_len = search rules; o_lt_object_count = omega (arith, c.named-o.ensures, named-below c.args.bytes.now) }
-
 pub returns-then-reply-eq0 : goal.returns-then-reply-eq0
-returns-then-reply-eq0 c = asked-0 c.args.unit.now c.requires.unit_len c.args.bytes.now _ _ c.ask-reply.ensures.0 c.ask-reply.ensures.1 _ _ _
-    c.named-o.ensures c.takes_children-took.ensures c.if-reply-eq0.true c.enter_request.ensures
+returns-then-reply-eq0 c =
+    let m = c.args.unit.now.monitor in
+    let j = c.args.unit.now.journal in
+    let name = c.named-o.ensures.object in
+    let took = c.takes_children-took.result in
+    asked-0 m j (search rules) c.args.bytes.now c.ask.new.unit c.from-reply.result (c.from-reply.ensures ∙ c.ask.ensures.0) c.ask.ensures.1 took c.enter_request.new.journal
+    (c.takes_children-took.ensures ∙ ap (λ (o : ℕ). deletes c.args.bytes.now && has_child (objects_in m) o) name) c.if-reply-eq0.true
+    (c.enter_request.ensures ∙ ap (λ (o : ℕ). cond took no_entries (entered_rows j o (row_at m o) (row_at m (held_row o)) (row_at m (rest_row o)))) name)
 
 pub returns-else-reply-eq0 : goal.returns-else-reply-eq0
-returns-else-reply-eq0 c = asked-else c.args.unit.now c.requires.unit_len c.args.bytes.now _ _ c.ask-reply.ensures.0 c.ask-reply.ensures.1 c.if-reply-eq0.false
+returns-else-reply-eq0 c =
+    let u = c.args.unit.now in
+    asked-else u.monitor u.journal (search rules) c.args.bytes.now _ _ (c.from-reply.ensures ∙ c.ask.ensures.0) c.ask.ensures.1 c.if-reply-eq0.false

@@ -9,11 +9,11 @@ use Rattle.decoding.proofs.Word.{fields-word}
 use Rattle.journaled.specs.Units.{named}
 use Rattle.journaled.proofs.named.Goals as goal
 
-pub returns-then-bytes-ne6 : goal.returns-then-bytes-ne6
+pub returns-then-bytes-ne6-clause-object : goal.returns-then-bytes-ne6-clause-object
 unfolding named
-returns-then-bytes-ne6 c = rw (ne_eqb _ _ c.if-bytes-ne6.true)
+returns-then-bytes-ne6-clause-object c = rw (ne_eqb _ _ c.if-bytes-ne6.true)
 
-pub returns : goal.returns
+pub returns-clause-object : goal.returns-clause-object
 unfolding named
-returns c = rw (eq-eqb _ _ c.if-bytes-ne6.false)
+returns-clause-object c = rw (eq-eqb _ _ c.if-bytes-ne6.false)
     (ap (λ (f : Fields). f.object % 64) (c.fields_of-f.ensures ∙ ap fields_of_word c.read_word.ensures.0 ∙ fields-word _))

@@ -2,7 +2,8 @@
 -- Assumes nothing.
 use Prim.Native.Nat.{ℕ}
 use native.Mathlib.Omega.{arith}
-use mathlib.Core.Path.{◌≡◌, sym, ap₂, ◌∙◌}
+use mathlib.Core.Path.{◌≡◌, sym, ap, ap₂, ◌∙◌}
+use Rattle.model.specs.Decisions.{checked}
 use mathlib.Core.List.{List, ◌++◌}
 use Rattle.model.specs.declared.Object.{Object}
 use Rattle.model.specs.State.{subject_count, object}
@@ -23,16 +24,22 @@ page-put out ob =
     ∙ put_front out (lines ob subject_count ++ last_line ob) page_size (page-length ob)
 
 pub returns-then-o-ge-OBJECTS : goal.returns-then-o-ge-OBJECTS
-returns-then-o-ge-OBJECTS c = page-above _ _ _ (omega (arith, c.if-o-ge-OBJECTS.true))
+unfolding checked
+returns-then-o-ge-OBJECTS c = let r = page-above _ _ _ (omega (arith, c.if-o-ge-OBJECTS.true)) in (ap checked r.0, r.1)
 
 pub returns-then-not-is_live : goal.returns-then-not-is_live
-returns-then-not-is_live c = page-not-live _ _ _ (omega (arith, c.if-o-ge-OBJECTS.false)) (sym c.is_live.ensures ∙ c.if-not-is_live.true)
+unfolding checked
+returns-then-not-is_live c = let r = page-not-live _ _ _ (omega (arith, c.if-o-ge-OBJECTS.false)) (sym c.is_live.ensures ∙ c.if-not-is_live.true) in (ap checked r.0, r.1)
 
 pub returns-then-out-lt-PAGE_BYTES : goal.returns-then-out-lt-PAGE_BYTES
-returns-then-out-lt-PAGE_BYTES c = page-short _ _ _ (omega (arith, c.if-o-ge-OBJECTS.false)) (sym c.is_live.ensures ∙ c.if-not-is_live.false) (omega (arith, c.if-out-lt-PAGE_BYTES.true))
+unfolding checked
+returns-then-out-lt-PAGE_BYTES c = let r = page-short _ _ _ (omega (arith, c.if-o-ge-OBJECTS.false)) (sym c.is_live.ensures ∙ c.if-not-is_live.false) (omega (arith, c.if-out-lt-PAGE_BYTES.true)) in (ap checked r.0, r.1)
 
 pub returns : goal.returns
-returns c = let ob = object (state_in c.args.unit.now) c.args.o in
-    page-done _ _ _ (omega (arith, c.if-o-ge-OBJECTS.false)) (sym c.is_live.ensures ∙ c.if-not-is_live.false) _ (omega (arith, c.if-out-lt-PAGE_BYTES.false))
+unfolding checked
+returns c =
+    let ob = object (state_in c.args.unit.now) c.args.o in
+    let r = page-done _ _ _ (omega (arith, c.if-o-ge-OBJECTS.false)) (sym c.is_live.ensures ∙ c.if-not-is_live.false) _ (omega (arith, c.if-out-lt-PAGE_BYTES.false))
     (c.put_bytes.ensures ∙ ap₂ (λ x y. put x 240 y) c.put_lines.ensures c.last_line-last.ensures
-    ∙ page-put c.args.out.now ob)
+    ∙ page-put c.args.out.now ob) in
+    (ap checked r.0, r.1)
