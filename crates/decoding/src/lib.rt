@@ -7,9 +7,10 @@ ghost use Rattle.model.specs.Requests.{mode_allowed, unused_zero, parent_within,
 ghost use Rattle.decoding.specs.Word.{fields_of_word};
 
 use labels::{at_least, implies};
-use model::{Creation, Decoded, Fields, Level, Mode, Profile, Request};
+use model::{Creation, Fields, Level, Mode, Profile, Request};
 
 // The fields of 48 bits that were read as one number: kind 4 bits, actor 5, other subject 5, object 7, mode 3, class 4, needs 16, spare 4.
+#[tactic(auto, unfolding(crate::specs::Word::fields_of_word))]
 pub fn fields_of(word: u64) -> Fields
     ensures { result ≡ fields_of_word word }
 {
@@ -27,44 +28,52 @@ pub fn fields_of(word: u64) -> Fields
 
 // ---- which fields are well formed
 
+// A mode stands in kinds 1 to 4; a create with mode 4 gives its owner execute too.
+#[tactic(auto, unfolding(model::specs::Requests::mode_allowed))]
 fn mode_allowed(kind: u8, mode: u8) -> bool
     ensures { result ≡ mode_allowed kind mode }
 {
-    if kind <= 4 {
-        return (1 <= mode) & (mode <= 4);
+    match kind {
+        0..=4 => matches!(mode, 1..=4),
+        5 => matches!(mode, 0 | 4),
+        _ => mode == 0,
     }
-    if kind == 5 {
-        return (mode == 0) | (mode == 4);
-    }
-    mode == 0
 }
 
 // The other subject stands in kinds 3 and 4, class in kind 7 only, needs in kinds 5, 7 and 8, spare in none.
+#[tactic(auto, unfolding(model::specs::Requests::unused_zero))]
 fn unused_zero(f: Fields) -> bool
     ensures { result ≡ unused_zero f }
 {
-    let other = (f.kind == 3) | ((f.kind == 4) | (f.other == 0));
+    let other = matches!(f.kind, 3 | 4) | (f.other == 0);
     let class = (f.kind == 7) | (f.class == 0);
-    let needs = (f.kind == 5) | ((f.kind == 7) | ((f.kind == 8) | (f.needs == 0)));
-    other & (class & (needs & (f.spare == 0)))
+    let needs = matches!(f.kind, 5 | 7 | 8) | (f.needs == 0);
+    other & class & needs & (f.spare == 0)
 }
 
 // The parent of a create, number plus one, is that of one of the first n objects, or none.
+#[tactic(auto, unfolding(model::specs::Requests::parent_within))]
 fn parent_within(n: u8, f: Fields) -> bool
     ensures { result ≡ parent_within n f }
 {
-    implies(f.kind == 5, f.needs <= n as u16)
+    implies(f.kind == 5, f.needs <= u16::from(n))
 }
 
 // What must be so of the fields under every profile.
+#[tactic(auto, unfolding(model::specs::Requests::fields_formed))]
 fn fields_formed(f: Fields) -> bool
     ensures { result ≡ fields_formed f }
 {
     let allowed = mode_allowed(f.kind, f.mode);
     let zero = unused_zero(f);
     let parent = parent_within(64, f);
-    ((1 <= f.kind) & (f.kind <= 8))
-        & ((f.actor < 16) & ((f.other < 16) & ((f.object < 64) & (parent & (allowed & zero)))))
+    matches!(f.kind, 1..=8)
+        & (f.actor < 16)
+        & (f.other < 16)
+        & (f.object < 64)
+        & parent
+        & allowed
+        & zero
 }
 
 // The class and the needs of a request.
@@ -79,14 +88,17 @@ fn level_of(f: Fields) -> Level
 
 // No subject, object, class or need is outside the profile. In kind 5 the needs are a parent, which is an object, and in kind 8 company
 // numbers, which no profile bounds.
+#[tactic(auto, unfolding(model::specs::Requests::within))]
 fn within(p: Profile, f: Fields) -> bool
     ensures { result ≡ within p f }
 {
-    let inside = (f.kind == 5) | ((f.kind == 8) | at_least(p.highest, level_of(f)));
+    let inside = matches!(f.kind, 5 | 8) | at_least(p.highest, level_of(f));
     let parent = parent_within(p.objects, f);
-    (f.actor < p.subjects) & ((f.other < p.subjects) & ((f.object < p.objects) & (parent & inside)))
+    (f.actor < p.subjects) & (f.other < p.subjects) & (f.object < p.objects) & parent & inside
 }
 
+// The fields are those of a request, and inside the profile.
+#[tactic(auto, unfolding(model::specs::Requests::well_formed))]
 pub fn well_formed(p: Profile, f: Fields) -> bool
     ensures { result ≡ well_formed p f }
 {
@@ -95,6 +107,7 @@ pub fn well_formed(p: Profile, f: Fields) -> bool
 
 // ---- the request
 
+// The mode of every number, so that it cannot fail; well-formed fields have 1 to 4 where a mode stands.
 pub fn mode_of(x: u8) -> Mode
     ensures { result ≡ mode_of x }
 {
@@ -106,13 +119,14 @@ pub fn mode_of(x: u8) -> Mode
     }
 }
 
+// The request of well-formed fields.
+#[tactic(auto, unfolding(model::specs::Requests::request))]
 fn request_of(f: Fields) -> Request
     ensures { result ≡ request f }
 {
-    let kind = f.kind;
     let x = mode_of(f.mode);
     let l = level_of(f);
-    match kind {
+    match f.kind {
         1 => Request::Get(f.actor, f.object, x),
         2 => Request::Release(f.actor, f.object, x),
         3 => Request::Give(f.actor, f.other, f.object, x),
@@ -131,22 +145,25 @@ fn request_of(f: Fields) -> Request
     }
 }
 
-pub fn decode_fields(p: Profile, f: Fields) -> Decoded
+// What fields say to a monitor of a profile; none where they are malformed.
+#[tactic(auto, unfolding(model::specs::Requests::decode_fields))]
+pub fn decode_fields(p: Profile, f: Fields) -> Option<Request>
     ensures { result ≡ decode_fields p f }
 {
     if well_formed(p, f) {
-        Decoded::Says(request_of(f))
+        Some(request_of(f))
     } else {
-        Decoded::Malformed
+        None
     }
 }
 
-// What a byte string says to a monitor of a profile.
-pub fn decode(p: Profile, b: &[u8]) -> Decoded
+// What a byte string says to a monitor of a profile; none where it is malformed.
+#[tactic(auto, unfolding(model::specs::Requests::decode))]
+pub fn decode(p: Profile, b: &[u8]) -> Option<Request>
     ensures { result ≡ decode p b.now }
 {
     if b.len() != 6 {
-        return Decoded::Malformed;
+        return None;
     }
     decode_fields(p, fields_of(bits::read_word(b)))
 }

@@ -1,15 +1,16 @@
--- A sequence is determined by its requests: so a contract that fixes the requests fixes the result.
+-- What was found is determined by the requests: so a contract that fixes the requests fixes the result.
 -- Assumes nothing.
 use Prim.Native.Nat.{ℕ}
 use mathlib.Core.Path.{◌≡◌, refl, sym, ap, ◌∙◌}
 use mathlib.Core.List.{List, [], ◌∷◌}
+use Rattle.std.specs.Prelude.{Option, Some, None}
 use Rattle.model.specs.declared.Level.{Level}
 use Rattle.model.specs.declared.Request.{Request}
 use Rattle.model.specs.declared.Request.TheVariants.{Get, Release, Give, Rescind, Create, Delete, ChangeLevel, SetCompanies}
 use Rattle.model.specs.Rules.{target}
 use Rattle.differences.specs.declared.sequence.Sequence.{Sequence}
-use Rattle.differences.specs.declared.sequence.Sequence.TheVariants.{Nothing, One, Remaking, Reading, Replacing}
-use Rattle.differences.specs.Sequences.{requests_of}
+use Rattle.differences.specs.declared.sequence.Sequence.TheVariants.{One, Remaking, Reading}
+use Rattle.differences.specs.Sequences.{reading_of, make_room, requests_of}
 
 -- the subject that asks, and the level that a change of level has
 actor : Request → ℕ
@@ -36,20 +37,25 @@ level_of (ChangeLevel s o l) = l
 level_of (SetCompanies s o n) = none
 
 -- the sequence that has these requests
-sequence_of : List Request → Sequence
-sequence_of [] = Nothing
-sequence_of (a ∷ []) = One a
-sequence_of (a ∷ b ∷ []) = Remaking (actor a) (target a) (target b)
-sequence_of (a ∷ b ∷ c ∷ []) = Reading (target a) (actor a) (level_of b)
-sequence_of (a ∷ b ∷ c ∷ d ∷ l) = Replacing (actor a) (target a) (actor b) (level_of c)
+sequence_of : List Request → Option Sequence
+sequence_of [] = None
+sequence_of (a ∷ []) = Some (One a)
+sequence_of (a ∷ b ∷ []) = Some (Remaking (actor a) (target a) (target b))
+sequence_of (a ∷ b ∷ c ∷ []) = Some (Reading (record { object = target a; owner = None }) (actor a) (level_of b))
+sequence_of (a ∷ b ∷ c ∷ d ∷ l) = Some (Reading (record { object = target a; owner = Some (actor a) }) (actor b) (level_of c))
 
-sequence-back : (q : Sequence) → sequence_of (requests_of q) ≡ q
+reading-back : (o : ℕ) (w : Option ℕ) (s : ℕ) (l : Level)
+    → sequence_of (make_room w o (reading_of s o l)) ≡ Some (Reading (record { object = o; owner = w }) s l)
 unfolding sequence_of actor level_of
-sequence-back Nothing = refl
-sequence-back (One q) = refl
-sequence-back (Remaking w x y) = refl
-sequence-back (Reading o s l) = refl
-sequence-back (Replacing w o s l) = refl
+reading-back o None s l = refl
+reading-back o (Some w) s l = refl
 
-pub requests-determine : (a b : Sequence) → requests_of a ≡ requests_of b → a ≡ b
+sequence-back : (q : Option Sequence) → sequence_of (requests_of q) ≡ q
+unfolding sequence_of actor level_of
+sequence-back None = refl
+sequence-back (Some (One q)) = refl
+sequence-back (Some (Remaking w x y)) = refl
+sequence-back (Some (Reading p s l)) = reading-back p.object p.owner s l
+
+pub requests-determine : (a b : Option Sequence) → requests_of a ≡ requests_of b → a ≡ b
 requests-determine a b e = sym (sequence-back a) ∙ ap sequence_of e ∙ sequence-back b

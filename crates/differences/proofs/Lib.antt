@@ -1,4 +1,4 @@
 -- Laws that the proofs of more than one function use.
 pub mod Searching
-pub mod TwoParents
+pub mod LastFree
 pub mod Determined

@@ -1,21 +1,21 @@
 -- The parts of `distinguish` as the code computes them: from two records and not from two states; the place of a new object from one state.
 -- Assumes nothing.
-use Rattle.std.specs.Prelude.{ℕ, Bool, true, false, cond, not, List, [], eqb, get_or}
+use Rattle.std.specs.Prelude.{ℕ, Bool, true, false, cond, not, List, [], eqb, get_or, Option, Some, None}
+use Rattle.std.specs.Bool.{then_some}
 use Rattle.model.specs.declared.Level.{Level}
-use Rattle.model.specs.declared.Label.{Label}
-use Rattle.model.specs.declared.Label.TheVariants.{Absent, Present}
+use Rattle.model.specs.Levels.{Label, compare, present}
 use Rattle.model.specs.declared.Subject.{Subject}
 use Rattle.model.specs.declared.Object.{Object}
 use Rattle.model.specs.declared.Monitor.{Monitor}
 use Rattle.model.specs.declared.Mode.{Mode}
 use Rattle.model.specs.declared.Request.{Request}
 use Rattle.model.specs.declared.Request.TheVariants.{Get, Release, Delete, SetCompanies}
-use Rattle.model.specs.Levels.{compare, present}
 use Rattle.model.specs.Modes.{has}
 use Rattle.model.specs.State.{subject_count, object_count, clearance_at, object_at, object}
 use Rattle.telling.specs.Distinguish.{by_comparison, or_else, search, search_modes, when, differ, by_parent, to_label, free_below}
 use Rattle.differences.specs.declared.sequence.Place.{Place}
-use Rattle.differences.specs.Sequences.{reading_at, requests_of}
+use Rattle.differences.specs.declared.sequence.Sequence.TheVariants.{Reading}
+use Rattle.differences.specs.Sequences.{requests_in}
 
 -- ---- objects
 
@@ -80,24 +80,27 @@ enrolment_apart s a b = when (differ (present a) (present b)) (Delete s 0)
 unfoldable pub enrolments_apart : List Subject → List Subject → List Request
 enrolments_apart a b = search subject_count (λ s. enrolment_apart s (clearance_at a s) (clearance_at b s))
 
+-- the owner of a live object
+abbrev pub owner_there : Object → Option ℕ
+owner_there o = then_some o.live o.owner
+
 -- where an object is created: in the last free place that is in use, or in that of object 0
 unfoldable pub free_place : Monitor → Place
 free_place m =
     record {
-      live = (object m (free_below object_count m)).live;
-      owner = (object m (free_below object_count m)).owner;
       object = free_below object_count m;
+      owner = owner_there (object m (free_below object_count m));
     }
 
 -- two levels: s reads at the one that the other does not dominate
 unfoldable pub level_apart : Place → ℕ → Level → Level → List Request
-level_apart p s a b = by_comparison (compare a b) (requests_of (reading_at p s a)) (requests_of (reading_at p s b))
+level_apart p s a b = by_comparison (compare a b) (requests_in (Reading p s a)) (requests_in (Reading p s b))
 
 -- two clearances of subject s
 unfoldable pub clearance_apart : Place → ℕ → Label → Label → List Request
-clearance_apart p s Absent b = []
-clearance_apart p s (Present a) Absent = []
-clearance_apart p s (Present a) (Present b) = level_apart p s a b
+clearance_apart p s None b = []
+clearance_apart p s (Some a) None = []
+clearance_apart p s (Some a) (Some b) = level_apart p s a b
 
 -- the first subject whose clearances differ
 unfoldable pub clearances_apart : Place → List Subject → List Subject → List Request

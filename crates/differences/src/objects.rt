@@ -1,60 +1,58 @@
 // The record of one object in two states, and all objects: the first difference gives the request.
-ghost use Rattle.std.specs.Prelude.{◌≡◌, length};
-ghost use Rattle.unit.specs.Rows.{row_count, objects_in};
+ghost use Rattle.std.specs.Prelude.{◌≡◌};
+ghost use Rattle.unit.specs.Rows.{objects_in};
 ghost use Rattle.telling.specs.Distinguish.{to_label};
 ghost use Rattle.differences.specs.Sequences.{requests_of};
 ghost use Rattle.differences.specs.Records.{life_apart, owner_apart, standing_apart, standings_apart, companies_apart, ask_of, mode_apart, set_apart, row_apart, object_apart, objects_apart};
 
-use crate::sequence::{Sequence, differ, is_found, or_else, when};
-use labels::is_level;
+use crate::sequence::Sequence;
 use mode_sets::has;
 use model::{Label, Mode, Monitor, Object, Request};
-use unit::object_in;
+use unit::{Rows, object_in};
 
 // ---- what a record says of the object itself
 
 // Live in one only: a delete by the owner there, 4 or not.
-fn life_apart(o: u8, a: Object, b: Object) -> Sequence
+#[tactic(auto, unfolding(crate::specs::Records::life_apart, telling::specs::Distinguish::when))]
+fn life_apart(o: u8, a: Object, b: Object) -> Option<Sequence>
     ensures { requests_of result ≡ life_apart o a b }
 {
     let owner = if a.live { a.owner } else { b.owner };
-    when(differ(a.live, b.live), Request::Delete(owner, o))
+    (a.live != b.live).then_some(Sequence::One(Request::Delete(owner, o)))
 }
 
 // Another owner: a delete by one of them, 6 or not.
-fn owner_apart(o: u8, a: Object, b: Object) -> Sequence
+#[tactic(auto, unfolding(crate::specs::Records::owner_apart, telling::specs::Distinguish::when))]
+fn owner_apart(o: u8, a: Object, b: Object) -> Option<Sequence>
     ensures { requests_of result ≡ owner_apart o a b }
 {
-    when(a.owner != b.owner, Request::Delete(a.owner, o))
+    (a.owner != b.owner).then_some(Sequence::One(Request::Delete(a.owner, o)))
 }
 
-fn standing_apart(o: u8, a: Object, b: Object) -> Sequence
+// Its life, else its owner: what a deletion tells.
+#[tactic(auto, using(crate::proofs::Searching::joined), unfolding(crate::specs::Records::standing_apart))]
+fn standing_apart(o: u8, a: Object, b: Object) -> Option<Sequence>
     ensures { requests_of result ≡ standing_apart o a b }
 {
-    or_else(life_apart(o, a, b), owner_apart(o, a, b))
+    life_apart(o, a, b).or_else(|| owner_apart(o, a, b))
 }
 
 // Another label: the owner changes the level to one of them, 1 or not.
-fn label_apart(s: u8, o: u8, a: Label, b: Label) -> Sequence
+#[tactic(auto, using(crate::proofs::Searching::when_told), unfolding(telling::specs::Distinguish::to_label, model::specs::Levels::same_label))]
+fn label_apart(s: u8, o: u8, a: Label, b: Label) -> Option<Sequence>
     ensures { requests_of result ≡ to_label s o a b }
 {
-    match a {
-        Label::Absent => match b {
-            Label::Absent => Sequence::Nothing,
-            Label::Present(y) => Sequence::One(Request::ChangeLevel(s, o, y)),
-        },
-        Label::Present(x) => when(!is_level(b, x), Request::ChangeLevel(s, o, x)),
-    }
+    let level = a.or(b)?;
+    (a != b).then_some(Sequence::One(Request::ChangeLevel(s, o, level)))
 }
 
 // Other company numbers: the owner sets those of the first, 1 or not.
-fn companies_apart(o: u8, a: Object, b: Object) -> Sequence
+#[tactic(auto, unfolding(crate::specs::Records::companies_apart, telling::specs::Distinguish::when))]
+fn companies_apart(o: u8, a: Object, b: Object) -> Option<Sequence>
     ensures { requests_of result ≡ companies_apart o a b }
 {
-    when(
-        a.companies != b.companies,
-        Request::SetCompanies(a.owner, o, a.companies),
-    )
+    let request = Request::SetCompanies(a.owner, o, a.companies);
+    (a.companies != b.companies).then_some(Sequence::One(request))
 }
 
 // ---- rights and held accesses
@@ -71,92 +69,55 @@ fn ask_of(held: bool, s: u8, o: u8, x: Mode) -> Request
 }
 
 // The mode is in one of the sets of subject s only.
-fn mode_apart(held: bool, o: u8, s: u8, a: u8, b: u8, x: Mode) -> Sequence
+#[tactic(auto, using(crate::proofs::Searching::when_told), unfolding(crate::specs::Records::mode_apart))]
+fn mode_apart(held: bool, o: u8, s: u8, a: u8, b: u8, x: Mode) -> Option<Sequence>
     ensures { requests_of result ≡ mode_apart held o s a b x }
 {
-    when(differ(has(x, a), has(x, b)), ask_of(held, s, o, x))
+    (has(x, a) != has(x, b)).then_some(Sequence::One(ask_of(held, s, o, x)))
 }
 
 // The first mode in which the two sets of subject s differ.
-fn set_apart(held: bool, o: u8, s: u8, a: u8, b: u8) -> Sequence
+#[tactic(auto, using(crate::proofs::Searching::joined), unfolding(crate::specs::Records::set_apart))]
+fn set_apart(held: bool, o: u8, s: u8, a: u8, b: u8) -> Option<Sequence>
     ensures { requests_of result ≡ set_apart held o s a b }
 {
-    let read = mode_apart(held, o, s, a, b, Mode::Read);
-    let write = mode_apart(held, o, s, a, b, Mode::Write);
-    let append = mode_apart(held, o, s, a, b, Mode::Append);
-    let execute = mode_apart(held, o, s, a, b, Mode::Execute);
-    or_else(read, or_else(write, or_else(append, execute)))
+    let apart = |x| mode_apart(held, o, s, a, b, x);
+    apart(Mode::Read)
+        .or_else(|| apart(Mode::Write))
+        .or_else(|| apart(Mode::Append))
+        .or_else(|| apart(Mode::Execute))
 }
 
 // The first subject whose sets differ in the two rows.
-fn row_apart(held: bool, o: u8, a: [u8; 16], b: [u8; 16]) -> Sequence
+fn row_apart(held: bool, o: u8, a: [u8; 16], b: [u8; 16]) -> Option<Sequence>
     ensures { requests_of result ≡ row_apart held o a b }
 {
-    let mut s: usize = 0;
-    while s < Monitor::SUBJECTS {
-        let q = set_apart(held, o, s as u8, a[s], b[s]);
-        if is_found(q) {
-            return q;
-        }
-        s += 1;
-    }
-    Sequence::Nothing
+    (0..Monitor::SUBJECTS).find_map(|s| set_apart(held, o, s as u8, a[s], b[s]))
 }
 
 // ---- all objects
 
 // The first object of which life or owner differ, in two units.
-pub fn standings_apart(a: &[[u8; 16]], b: &[[u8; 16]]) -> Sequence
-    requires a_len { length a.now ≡ row_count }
-    requires b_len { length b.now ≡ row_count }
+pub fn standings_apart(a: &Rows, b: &Rows) -> Option<Sequence>
     ensures { requests_of result ≡ standings_apart (objects_in a.now) (objects_in b.now) }
 {
-    let mut o: usize = 0;
-    while o < Monitor::OBJECTS {
-        let one = object_in(a, o as u8);
-        let two = object_in(b, o as u8);
-        let q = standing_apart(o as u8, one, two);
-        if is_found(q) {
-            return q;
-        }
-        o += 1;
-    }
-    Sequence::Nothing
+    (0..Monitor::OBJECTS as u8).find_map(|o| standing_apart(o, object_in(a, o), object_in(b, o)))
 }
 
 // The rest of a record.
-fn object_apart(o: u8, a: Object, b: Object) -> Sequence
+#[tactic(auto, using(crate::proofs::Searching::joined), unfolding(crate::specs::Records::object_apart))]
+fn object_apart(o: u8, a: Object, b: Object) -> Option<Sequence>
     ensures { requests_of result ≡ object_apart o a b }
 {
-    let label = a.label;
-    let other_label = b.label;
-    let rights = a.rights;
-    let other_rights = b.rights;
-    let held = a.held;
-    let other_held = b.held;
-    let by_label = label_apart(a.owner, o, label, other_label);
-    let by_companies = companies_apart(o, a, b);
-    let by_right = row_apart(false, o, rights, other_rights);
-    let by_access = row_apart(true, o, held, other_held);
-    let by_sets = or_else(by_right, by_access);
-    or_else(by_label, or_else(by_companies, by_sets))
+    label_apart(a.owner, o, a.label, b.label)
+        .or_else(|| companies_apart(o, a, b))
+        .or_else(|| row_apart(false, o, a.rights, b.rights))
+        .or_else(|| row_apart(true, o, a.held, b.held))
 }
 
 // The first object of which the rest of the records differs, in two units.
-pub fn objects_apart(a: &[[u8; 16]], b: &[[u8; 16]]) -> Sequence
-    requires a_len { length a.now ≡ row_count }
-    requires b_len { length b.now ≡ row_count }
+pub fn objects_apart(a: &Rows, b: &Rows) -> Option<Sequence>
     ensures { requests_of result ≡ objects_apart (objects_in a.now) (objects_in b.now) }
 {
-    let mut o: usize = 0;
-    while o < Monitor::OBJECTS {
-        let one = object_in(a, o as u8);
-        let two = object_in(b, o as u8);
-        let q = object_apart(o as u8, one, two);
-        if is_found(q) {
-            return q;
-        }
-        o += 1;
-    }
-    Sequence::Nothing
+    (0..Monitor::OBJECTS as u8).find_map(|o| object_apart(o, object_in(a, o), object_in(b, o)))
 }

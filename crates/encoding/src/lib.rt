@@ -10,6 +10,8 @@ ghost use Rattle.encoding.specs.Word.{without_level, word_of, word_bytes};
 use buffers::put_bytes;
 use model::{Creation, Fields, Mode, Request};
 
+// The number of a mode in a request.
+// Kept: model declares Mode, and only there a From for it can stand.
 fn mode_number(x: Mode) -> u8
     ensures { result ≡ mode_number x }
 {
@@ -37,24 +39,7 @@ pub fn without_level(kind: u8, actor: u8, other: u8, object: u8, mode: u8) -> Fi
     }
 }
 
-// The parent of a create stands in its needs.
-fn fields_of_create(s: u8, o: u8, how: Creation) -> Fields
-    ensures { result ≡ fields_of (Request.Create s o how) }
-{
-    let mode = if how.execute { 4 } else { 0 };
-    Fields {
-        kind: 5,
-        actor: s,
-        other: 0,
-        object: o,
-        mode,
-        class: 0,
-        needs: how.parent,
-        spare: 0,
-    }
-}
-
-// A field that the kind does not use is 0.
+// A field that the kind does not use is 0; the parent of a create stands in its needs.
 fn fields_of(q: Request) -> Fields
     ensures { result ≡ fields_of q }
 {
@@ -63,57 +48,45 @@ fn fields_of(q: Request) -> Fields
         Request::Release(s, o, x) => without_level(2, s, 0, o, mode_number(x)),
         Request::Give(s, t, o, x) => without_level(3, s, t, o, mode_number(x)),
         Request::Rescind(s, t, o, x) => without_level(4, s, t, o, mode_number(x)),
-        Request::Create(s, o, how) => fields_of_create(s, o, how),
+        Request::Create(s, o, how) => Fields {
+            needs: how.parent,
+            ..without_level(5, s, 0, o, if how.execute { 4 } else { 0 })
+        },
         Request::Delete(s, o) => without_level(6, s, 0, o, 0),
         Request::ChangeLevel(s, o, l) => Fields {
-            kind: 7,
-            actor: s,
-            other: 0,
-            object: o,
-            mode: 0,
             class: l.class,
             needs: l.needs,
-            spare: 0,
+            ..without_level(7, s, 0, o, 0)
         },
         Request::SetCompanies(s, o, n) => Fields {
-            kind: 8,
-            actor: s,
-            other: 0,
-            object: o,
-            mode: 0,
-            class: 0,
             needs: n,
-            spare: 0,
+            ..without_level(8, s, 0, o, 0)
         },
     }
 }
 
 // The 48 bits as one number: kind 4 bits, actor 5, other subject 5, object 7, mode 3, class 4, needs 16, spare 4.
+#[tactic(auto, unfolding(crate::specs::Word::word_of))]
 fn word_of(f: Fields) -> u64
     ensures { result ≡ word_of f }
 {
-    let kind = f.kind as u64 % 16;
-    let actor = kind * 32 + f.actor as u64 % 32;
-    let other = actor * 32 + f.other as u64 % 32;
-    let object = other * 128 + f.object as u64 % 128;
-    let mode = object * 8 + f.mode as u64 % 8;
-    let class = mode * 16 + f.class as u64 % 16;
-    let needs = class * 65536 + f.needs as u64 % 65536;
-    needs * 16 + f.spare as u64 % 16
+    let kind = u64::from(f.kind) % 16;
+    let actor = kind * 32 + u64::from(f.actor) % 32;
+    let other = actor * 32 + u64::from(f.other) % 32;
+    let object = other * 128 + u64::from(f.object) % 128;
+    let mode = object * 8 + u64::from(f.mode) % 8;
+    let class = mode * 16 + u64::from(f.class) % 16;
+    let needs = class * 65536 + u64::from(f.needs) % 65536;
+    needs * 16 + u64::from(f.spare) % 16
 }
 
 // The low 48 bits of the number, in six bytes.
+#[tactic(auto, unfolding(crate::specs::Word::word_bytes))]
 fn bytes_of(word: u64) -> [u8; 6]
     ensures { result ≡ word_bytes 6 word }
 {
-    [
-        ((word >> 40) % 256) as u8,
-        ((word >> 32) % 256) as u8,
-        ((word >> 24) % 256) as u8,
-        ((word >> 16) % 256) as u8,
-        ((word >> 8) % 256) as u8,
-        (word % 256) as u8,
-    ]
+    let [_, _, a, b, c, d, e, f] = word.to_be_bytes();
+    [a, b, c, d, e, f]
 }
 
 // The bytes of the fields, also of such as no request has; each field keeps as many of its low bits as it has room for.
@@ -135,6 +108,5 @@ pub fn put_request(out: &mut [u8], at: usize, q: Request)
     requires { at + request_size ≤ length out.old }
     ensures { out.new ≡ put out.old at (encode q) }
 {
-    let bytes = encode(q);
-    put_bytes(out, at, &bytes);
+    put_bytes(out, at, &encode(q));
 }

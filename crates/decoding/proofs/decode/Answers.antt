@@ -1,15 +1,11 @@
--- `decoding::decode` meets its contract.
+-- The fields of the first 48 bits, where there are six bytes.
 -- Assumes nothing.
 use mathlib.Core.Path.{ap, ◌∙◌}
-use borrow.Author.Tests.{eq-eqb, ne_eqb}
+use borrow.Author.Tests.{eq-eqb}
 use Rattle.model.specs.Requests.{decode_fields, decode}
 use Rattle.decoding.specs.Word.{fields_of_word}
 use Rattle.decoding.proofs.Word.{fields-word}
 use Rattle.decoding.proofs.decode.Goals as goal
-
-pub returns-then-b-ne6 : goal.returns-then-b-ne6
-unfolding decode
-returns-then-b-ne6 c = rw (ne_eqb _ _ c.if-b-ne6.true)
 
 pub returns : goal.returns
 unfolding decode
