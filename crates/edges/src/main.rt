@@ -6,7 +6,6 @@
 mod companies;
 mod parents;
 mod requests;
-mod trial;
 
 use saying::Output;
 use std::io;
@@ -16,7 +15,7 @@ fn main(rt: HostRuntime) -> io::Result<()> {
     let mut out = Output::new(rt.stdout());
     let table = saying::enrolment();
     let mut fresh = [[0u8; 16]; ROWS];
-    image::start_widest(&mut fresh, &table[0..42]);
+    let _ = image::start_widest(&mut fresh, &table[0..42]);
     let one = requests::subjects(&mut out, fresh);
     requests::objects(&mut out, fresh);
     requests::modes(&mut out, one);

@@ -4,15 +4,15 @@
 #![tactic(auto)]
 
 mod beginnings;
-mod buffers;
+mod lent;
 
 use asking::ask;
 use saying::Output;
 use std::io;
-use unit::ROWS;
+use unit::{ROWS, Rows};
 
 // Subject 0 creates object 0 with e, labels it (0, 0000) and reads it.
-fn read_one(unit: &mut [[u8; 16]; ROWS]) {
+fn read_one(unit: &mut Rows) {
     ask(unit, &[0x50, 0x00, 0x04, 0x00, 0x00, 0x00]);
     ask(unit, &[0x70, 0x00, 0x00, 0x00, 0x00, 0x00]);
     ask(unit, &[0x10, 0x00, 0x01, 0x00, 0x00, 0x00]);
@@ -23,9 +23,9 @@ fn main(rt: HostRuntime) -> io::Result<()> {
     beginnings::tables(&mut out);
     let table = saying::enrolment();
     let mut unit = [[0u8; 16]; ROWS];
-    image::start_widest(&mut unit, &table[0..42]);
+    let _ = image::start_widest(&mut unit, &table[0..42]);
     read_one(&mut unit);
     beginnings::images(&mut out, &unit);
-    buffers::buffers(&mut out, &unit);
+    lent::buffers(&mut out, &unit);
     out.finish()
 }

@@ -7,7 +7,6 @@ mod ranges;
 mod requests;
 mod tables;
 
-use profiles::site;
 use saying::Output;
 use std::io;
 use unit::ROWS;
@@ -20,7 +19,7 @@ fn main(rt: HostRuntime) -> io::Result<()> {
     // subject 0 has class 3 and the needs 0 and 1, subject 3 class 0 and no needs
     let table = tables::with_bytes(0x98, 0x18, 0x01, 0);
     let mut fresh = [[0u8; 16]; ROWS];
-    image::start(&mut fresh, site(4, 10, 3, 3), &table);
+    let _ = image::start(&mut fresh, tables::narrow(), &table);
     requests::creates(&mut out, fresh);
     asking::ask(&mut fresh, &[0x50, 0, 0, 0, 0, 0]); // subject 0 creates object 0
     requests::others(&mut out, fresh);
@@ -29,7 +28,7 @@ fn main(rt: HostRuntime) -> io::Result<()> {
     requests::parents(&mut out, fresh);
     print!(out; "after a table that was refused there\n");
     let mut empty = [[0u8; 16]; ROWS];
-    image::start(&mut empty, site(4, 10, 3, 3), &[0u8; 41]);
+    let _ = image::start(&mut empty, tables::narrow(), &[0u8; 41]);
     requests::refused(&mut out, empty);
     out.finish()
 }

@@ -3,40 +3,37 @@
 ghost use Rattle.std.specs.Prelude.{◌≤◌, length};
 
 use crate::tables::start;
+use model::Profile;
 use profiles::site;
 use saying::{Output, say, say_bytes};
 
 // Begins from so many bytes of a table in which nobody is enrolled: of 42 bytes it is accepted under every profile in the ranges.
-fn begin(out: &mut Output, subjects: u8, objects: u8, class: u8, needs: u16, length: usize)
+fn begin(out: &mut Output, profile: Profile, length: usize)
     requires { length ≤ 42 }
 {
-    say(out, "profile of subjects ", subjects as u64);
-    say(out, ", objects ", objects as u64);
-    say(out, ", class ", class as u64);
-    say(out, ", needs ", needs as u64);
+    say(out, "profile of subjects ", profile.subjects);
+    say(out, ", objects ", profile.objects);
+    say(out, ", class ", profile.highest.class);
+    say(out, ", needs ", profile.highest.needs);
     say_bytes(out, ", table of ", length);
     let table = [0u8; 42];
-    start(
-        out,
-        site(subjects, objects, class, needs),
-        &table[0..length],
-    );
+    start(out, profile, &table[0..length]);
 }
 
 // Each number at the ends of its range and next to them. Every set of sixteen needs is in range.
 pub fn ranges(out: &mut Output) {
-    begin(out, 0, 64, 15, 65535, 42); // 16: no subject in use
-    begin(out, 1, 64, 15, 65535, 42); // 0: the first number of subjects
-    begin(out, 16, 64, 15, 65535, 42); // 0: the last numbers of all three, and all needs
-    begin(out, 17, 64, 15, 65535, 42); // 16: more than 16 subjects
-    begin(out, 16, 0, 15, 65535, 42); // 16: no object in use
-    begin(out, 16, 1, 15, 65535, 42); // 0: the first number of objects
-    begin(out, 16, 65, 15, 65535, 42); // 16: more than 64 objects
-    begin(out, 16, 64, 16, 65535, 42); // 16: a class above 15
-    begin(out, 16, 64, 15, 0, 42); // 0: no need in use
-    begin(out, 1, 1, 0, 0, 42); // 0: the first numbers of all
+    begin(out, site(0, 64, 15, 65535), 42); // 16: no subject in use
+    begin(out, site(1, 64, 15, 65535), 42); // 0: the first number of subjects
+    begin(out, site(16, 64, 15, 65535), 42); // 0: the last numbers of all three, and all needs
+    begin(out, site(17, 64, 15, 65535), 42); // 16: more than 16 subjects
+    begin(out, site(16, 0, 15, 65535), 42); // 16: no object in use
+    begin(out, site(16, 1, 15, 65535), 42); // 0: the first number of objects
+    begin(out, site(16, 65, 15, 65535), 42); // 16: more than 64 objects
+    begin(out, site(16, 64, 16, 65535), 42); // 16: a class above 15
+    begin(out, site(16, 64, 15, 0), 42); // 0: no need in use
+    begin(out, site(1, 1, 0, 0), 42); // 0: the first numbers of all
     // a table of another length: 16 for the profile comes "before anything else is read"
-    begin(out, 17, 64, 15, 65535, 41); // 16: the profile is outside the ranges
-    begin(out, 16, 64, 15, 65535, 41); // 10: it is inside
-    begin(out, 4, 10, 3, 3, 41); // 10: it is inside, and not the widest
+    begin(out, site(17, 64, 15, 65535), 41); // 16: the profile is outside the ranges
+    begin(out, site(16, 64, 15, 65535), 41); // 10: it is inside
+    begin(out, site(4, 10, 3, 3), 41); // 10: it is inside, and not the widest
 }

@@ -8,6 +8,11 @@ use profiles::site;
 use saying::{Output, answer};
 use unit::ROWS;
 
+// The profile of these edges.
+pub fn narrow() -> Profile {
+    site(4, 10, 3, 3)
+}
+
 // A table whose bytes are 0 but for these. Subject 0's record is bits 0 to 20: enrolled and the class are 80 and 8 for each class in
 // byte 0, needs 0, 1 and 2 are 08, 10 and 20 in byte 2. Subject 1's is bits 21 to 41. Subject 3's is bits 63 to 83: enrolled is 01 in
 // byte 7. Subject 4's is bits 84 to 104: enrolled is 08 in byte 10.
@@ -32,7 +37,7 @@ pub fn start(out: &mut Output, profile: Profile, table: &[u8]) {
 fn begin(out: &mut Output, words: &str, byte0: u8, byte2: u8, byte7: u8, byte10: u8) {
     print!(out; "table, {words}");
     let table = with_bytes(byte0, byte2, byte7, byte10);
-    start(out, site(4, 10, 3, 3), &table);
+    start(out, narrow(), &table);
 }
 
 // Subjects, classes and needs: the last that is inside and the first that is not. Then two causes at once: 16 is checked after 11.

@@ -9,7 +9,9 @@ ghost use Rattle.page_sets.specs.Sets.{letter, mark, marks, mode_count};
 
 use mode_sets::has;
 use model::Mode;
-use unit::flag;
+
+// The four modes, in the order of the page.
+const MODES: [Mode; 4] = [Mode::Read, Mode::Write, Mode::Append, Mode::Execute];
 
 fn letter(x: Mode) -> u8
     ensures { result ≡ letter x }
@@ -33,28 +35,20 @@ fn mark(set: u8, x: Mode) -> u8
 pub fn marks(set: u8) -> [u8; 4]
     ensures { result ≡ marks set }
 {
-    [
-        mark(set, Mode::Read),
-        mark(set, Mode::Write),
-        mark(set, Mode::Append),
-        mark(set, Mode::Execute),
-    ]
+    MODES.map(|x| mark(set, x))
 }
 
 // 1 where the mode is in the set.
 pub fn bit_of(set: u8, x: Mode) -> u8
     ensures { result ≡ bit (has x set) }
 {
-    flag(has(x, set))
+    u8::from(has(x, set))
 }
 
 // How many of the four modes are in the set.
 pub fn count(set: u8) -> u8
     ensures { result ≡ mode_count set }
 {
-    let r = bit_of(set, Mode::Read);
-    let w = bit_of(set, Mode::Write);
-    let a = bit_of(set, Mode::Append);
-    let e = bit_of(set, Mode::Execute);
+    let [r, w, a, e] = MODES.map(|x| bit_of(set, x));
     r + w + a + e
 }

@@ -6,17 +6,20 @@ ghost use Rattle.std.specs.Prelude.{◌≡◌};
 ghost use Rattle.saying.specs.Enrolment.{enrolled};
 
 mod output;
+mod trial;
 
 use model::{Decision, Fields};
 pub use output::Output;
+use std::fmt::Display;
+pub use trial::{ask, create, get, give, release};
 
 // Some words and a number.
-pub fn say(out: &mut Output, words: &str, n: u64) {
+pub fn say<N: Display + Drop>(out: &mut Output, words: &str, n: N) {
     print!(out; "{words}{n}");
 }
 
 // The same where the number is not 0, and nothing where it is.
-pub fn say_set(out: &mut Output, words: &str, n: u64) {
+fn say_set(out: &mut Output, words: &str, n: u16) {
     if n != 0 {
         say(out, words, n);
     }
@@ -28,40 +31,39 @@ pub fn say_bytes(out: &mut Output, words: &str, length: usize) {
 }
 
 // The end of a line: a number.
-pub fn end(out: &mut Output, n: u64) {
+pub fn end<N: Display + Drop>(out: &mut Output, n: N) {
     print!(out; ": {n}\n");
 }
 
 // The end of a line: the number of an answer.
-pub fn answer(out: &mut Output, d: Decision) {
-    end(out, labels::number(d) as u64);
+pub fn answer(out: &mut Output, answer: Result<(), Decision>) {
+    end(out, labels::number(answer));
 }
 
 // What the kind is called.
-fn name(out: &mut Output, kind: u8) {
-    let number = kind as u64;
+fn name(kind: u8) -> &'static str {
     match kind {
-        1 => say(out, "get, kind ", number),
-        2 => say(out, "release, kind ", number),
-        3 => say(out, "give, kind ", number),
-        5 => say(out, "create, kind ", number),
-        6 => say(out, "delete, kind ", number),
-        7 => say(out, "change level, kind ", number),
-        8 => say(out, "set companies, kind ", number),
-        _ => say(out, "kind ", number),
+        1 => "get, kind ",
+        2 => "release, kind ",
+        3 => "give, kind ",
+        5 => "create, kind ",
+        6 => "delete, kind ",
+        7 => "change level, kind ",
+        8 => "set companies, kind ",
+        _ => "kind ",
     }
 }
 
 // The line of a request up to its number. Of the fields that not every kind uses only those are said that are not 0.
-pub fn describe(out: &mut Output, f: Fields) {
-    name(out, f.kind);
-    say(out, ", by subject ", f.actor as u64);
-    say_set(out, ", other subject ", f.other as u64);
-    say(out, ", object ", f.object as u64);
-    say(out, ", mode ", f.mode as u64);
-    say_set(out, ", class ", f.class as u64);
-    say_set(out, ", needs ", f.needs as u64);
-    say_set(out, ", spare ", f.spare as u64);
+fn describe(out: &mut Output, f: Fields) {
+    say(out, name(f.kind), f.kind);
+    say(out, ", by subject ", f.actor);
+    say_set(out, ", other subject ", u16::from(f.other));
+    say(out, ", object ", f.object);
+    say(out, ", mode ", f.mode);
+    say_set(out, ", class ", u16::from(f.class));
+    say_set(out, ", needs ", f.needs);
+    say_set(out, ", spare ", u16::from(f.spare));
 }
 
 // A table in which subject 0 has (1, 0001), subject 1 (3, 0003), subject 2 (0, 0000), as in table W, and subject 15 (15, FFFF); zeros

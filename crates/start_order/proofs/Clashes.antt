@@ -12,7 +12,7 @@ use Rattle.model.specs.declared.Profile.{Profile}
 use Rattle.model.specs.declared.Monitor.{Monitor}
 use Rattle.model.specs.declared.Mode.{Mode}
 use Rattle.model.specs.declared.Request.TheVariants.{Get}
-use Rattle.model.specs.declared.Decoded.TheVariants.{Says}
+use Rattle.std.specs.Prelude.{Some, None, is_some}
 use Rattle.model.specs.declared.Response.{Response}
 use Rattle.model.specs.State.{object}
 use Rattle.model.specs.Companies.{WallAsks, wall_kept}
@@ -31,30 +31,26 @@ use Rattle.images.proofs.Reached.{sound-reached, respond-says}
 use Rattle.request_orders.specs.StartOrder.{IsGet, StarAndWall, Clash}
 use Rattle.request_orders.proofs.Commuting.{says-granted}
 use Rattle.request_orders.proofs.TwoGets.{together-by-pair}
-use Rattle.start_order.specs.declared.wanted.Wanted.{Wanted}
-use Rattle.start_order.specs.declared.wanted.Wanted.TheVariants.{Access, Nothing}
-use Rattle.start_order.specs.Answers.{wanted_by, wanted, is_access, alone, breaks, clashes}
+use Rattle.start_order.specs.Answers.{Wanted, access, wanted_by, wanted, alone, breaks, clashes}
 use Rattle.start_order.proofs.Trying.{wanted-says}
 
 -- ---- one get
 
 -- what a get asks for
-pub wanted-get : (k : Profile) (b : List ℕ) (s o : ℕ) (x : Mode) → decode k b ≡ Says (Get s o x) → wanted k b ≡ Access s o x
+pub wanted-get : (k : Profile) (b : List ℕ) (s o : ℕ) (x : Mode) → decode k b ≡ Some (Get s o x) → wanted k b ≡ access s o x
 unfolding wanted
 wanted-get k b s o x e = ap wanted_by e
 
 -- bytes that ask for an access say a get, and no others do
-access-in : (k : Profile) (b : List ℕ) (w : Wanted) → wanted k b ≡ w → is_access w ≡ true → IsGet k b
-unfolding is_access
-access-in k b (Access s o x) e t = (s, o, x, wanted-says k b s o x e)
-access-in k b Nothing e t = clash (sym t)
+access-in : (k : Profile) (b : List ℕ) (w : Wanted) → wanted k b ≡ w → is_some w ≡ true → IsGet k b
+access-in k b (Some a) e t = (a.subject, a.object, a.mode, wanted-says k b a.subject a.object a.mode e)
+access-in k b None e t = clash (sym t)
 
-pub access-get : (k : Profile) (b : List ℕ) → (is_access (wanted k b) ≡ true) ↔ IsGet k b
-unfolding is_access
-access-get k b = (access-in k b (wanted k b) refl, λ g. ap is_access (wanted-get k b g.0 g.1 g.2 g.3))
+pub access-get : (k : Profile) (b : List ℕ) → (is_some (wanted k b) ≡ true) ↔ IsGet k b
+access-get k b = (access-in k b (wanted k b) refl, λ g. ap (λ (w : Wanted). is_some w) (wanted-get k b g.0 g.1 g.2 g.3))
 
 -- the test of a get that came alone is its reply, 0 or 1
-alone-reply : (m : Monitor) (b : List ℕ) (s o : ℕ) (x : Mode) → decode m.profile b ≡ Says (Get s o x) → (alone m (wanted m.profile b) ≡ true) ↔ (reply b m < 2)
+alone-reply : (m : Monitor) (b : List ℕ) (s o : ℕ) (x : Mode) → decode m.profile b ≡ Some (Get s o x) → (alone m (wanted m.profile b) ≡ true) ↔ (reply b m < 2)
 unfolding alone
 alone-reply m b s o x e =
     let asked : alone m (wanted m.profile b) ≡ not (refuses (step (Get s o x) m).decision) = ap (alone m) (wanted-get m.profile b s o x e) in
@@ -63,10 +59,10 @@ alone-reply m b s o x e =
       λ h. let k : number (step (Get s o x) m).decision < 2 = omega (arith, h, said) in asked ∙ ap not (lt-leb 2 _ k),
     )
 
-alone-access : (m : Monitor) (w : Wanted) → alone m w ≡ true → is_access w ≡ true
-unfolding alone is_access
-alone-access m (Access s o x) t = refl
-alone-access m Nothing t = clash (sym t)
+alone-access : (m : Monitor) (w : Wanted) → alone m w ≡ true → is_some w ≡ true
+unfolding alone
+alone-access m (Some a) t = refl
+alone-access m None t = clash (sym t)
 
 -- "granted if it came alone": of bytes that say a get and are replied 0 or 1, and of no others
 pub alone-exactly : (m : Monitor) (b : List ℕ) → (alone m (wanted m.profile b) ≡ true) ↔ (IsGet m.profile b × (reply b m < 2))
@@ -78,20 +74,20 @@ alone-exactly m b = (
 -- ---- two gets
 
 -- only two accesses break anything
-pub breaks-accesses : (m : Monitor) (v w : Wanted) → breaks m v w ≡ true → (is_access v ≡ true) × (is_access w ≡ true)
-unfolding breaks is_access
-breaks-accesses m Nothing w e = clash (sym e)
-breaks-accesses m (Access s p x) Nothing e = clash (sym e)
-breaks-accesses m (Access s p x) (Access t q y) e = (refl, refl)
+pub breaks-accesses : (m : Monitor) (v w : Wanted) → breaks m v w ≡ true → (is_some v ≡ true) × (is_some w ≡ true)
+unfolding breaks
+breaks-accesses m None w e = clash (sym e)
+breaks-accesses m (Some v) None e = clash (sym e)
+breaks-accesses m (Some v) (Some w) e = (refl, refl)
 
 -- the test of two accesses
-breaks-at : (m : Monitor) (b c : List ℕ) (s p : ℕ) (x : Mode) (t q : ℕ) (y : Mode) → decode m.profile b ≡ Says (Get s p x) → decode m.profile c ≡ Says (Get t q y)
+breaks-at : (m : Monitor) (b c : List ℕ) (s p : ℕ) (x : Mode) (t q : ℕ) (y : Mode) → decode m.profile b ≡ Some (Get s p x) → decode m.profile c ≡ Some (Get t q y)
     → breaks m (wanted m.profile b) (wanted m.profile c) ≡ (eqb s t && not (kept (entry x y) (object m p).label (object m q).label && wall_kept x y (object m p).companies (object m q).companies))
 unfolding breaks
 breaks-at m b c s p x t q y d e = ap₂ (breaks m) (wanted-get m.profile b s p x d) (wanted-get m.profile c t q y e)
 
-module _ (m : Monitor) (R : Reached m) (b c : List ℕ) (s p : ℕ) (x : Mode) (t q : ℕ) (y : Mode) (d : decode m.profile b ≡ Says (Get s p x))
-    (e : decode m.profile c ≡ Says (Get t q y)) (g : reply b m < 2) (h : reply c m < 2) where
+module _ (m : Monitor) (R : Reached m) (b c : List ℕ) (s p : ℕ) (x : Mode) (t q : ℕ) (y : Mode) (d : decode m.profile b ≡ Some (Get s p x))
+    (e : decode m.profile c ≡ Some (Get t q y)) (g : reply b m < 2) (h : reply c m < 2) where
   -- what is asked of the two objects, as a test and as it is said
   asked : Bool
   asked = kept (entry x y) (object m p).label (object m q).label && wall_kept x y (object m p).companies (object m q).companies

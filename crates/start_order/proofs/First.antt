@@ -9,8 +9,9 @@ use mathlib.Core.Bool.{Bool, true, false, cond}
 use lib.Dec.{ltb}
 use borrow.Author.Count.{below_more}
 use borrow.Author.Tests.{ltb-true, ltb-false, lt-ltb, le-ltb}
-use Rattle.model.proofs.Tests.{cond-all, cond-true, cond-false}
-use Rattle.start_order.specs.First.{first_below}
+use Rattle.model.proofs.Tests.{cond-all, cond-true, cond-false, split}
+use Rattle.start_order.specs.First.{first_below, found}
+use Rattle.std.specs.Prelude.{Option, Some, None}
 
 -- no number below k passes
 abbrev pub NoneBelow : (ℕ → Bool) → ℕ → Type 0
@@ -48,6 +49,35 @@ found_first n count k f c h e w = sym (first-at n k f h e (subst (λ (i : ℕ). 
 
 pub ended-first : (n count k : ℕ) (f : ℕ → Bool) → count ≡ n → NoneBelow f k → count ≤ k → count ≡ first_below n f
 ended-first n count k f c h w = c ∙ sym (first-none n f (λ i v. h i (omega arith)))
+
+-- the same of a place that may be none
+pub found_here : (n count k : ℕ) (f : ℕ → Bool) → count ≡ n → NoneBelow f k → f k ≡ true → k < count → Some k ≡ found n (first_below n f)
+found_here n count k f c h e w =
+    let at : k ≡ first_below n f = found_first n count k f c h e w in
+    let within : first_below n f < n = omega (arith, sym at, c) in
+    ap (λ (i : ℕ). Some i) at ∙ sym (cond-true (ltb (first_below n f) n) (Some (first_below n f)) None (lt-ltb _ _ within))
+
+pub found_none : (n count k : ℕ) (f : ℕ → Bool) → count ≡ n → NoneBelow f k → count ≤ k → ◌≡◌ {A = Option ℕ} None (found n (first_below n f))
+found_none n count k f c h w =
+    let at : count ≡ first_below n f = ended-first n count k f c h w in
+    let end : n ≤ first_below n f = omega (arith, sym at, c) in
+    sym (cond-false (ltb (first_below n f) n) (Some (first_below n f)) None (le-ltb _ _ end))
+
+pub found-some : (n k j : ℕ) → found n k ≡ Some j → (j ≡ k) × (j < n)
+found-some n k j e =
+    split (ltb k n)
+    (λ t.
+    let same : Some k ≡ Some j = sym (cond-true (ltb k n) (Some k) None t) ∙ e in
+    let within : k < n = ltb-true k n t in
+    let at : j ≡ k = cc in
+    (at, omega arith))
+    (λ t. let none : ◌≡◌ {A = Option ℕ} None (Some j) = sym (cond-false (ltb k n) (Some k) None t) ∙ e in absurd (let z : ◌≡◌ {A = ℕ} 0 1 = cc in omega arith))
+
+pub found-not : (n k : ℕ) → found n k ≡ None → n ≤ k
+found-not n k e =
+    split (ltb k n)
+    (λ t. let some : Some k ≡ None = sym (cond-true (ltb k n) (Some k) None t) ∙ e in absurd (let z : ◌≡◌ {A = ℕ} 0 1 = cc in omega arith))
+    (λ t. ltb-false k n t)
 
 -- what the first number is
 pub record First (n : ℕ) (f : ℕ → Bool) (k : ℕ) : Type 0 where

@@ -1,86 +1,95 @@
 // The first piece that is no get, and the first two gets that clash.
-ghost use Rattle.std.specs.Prelude.{◌≡◌, ◌&&◌, [], ◌<◌, length, get_or};
-ghost use Rattle.model.specs.Program.{pieces, piece_count};
-ghost use Rattle.unit.specs.Rows.{row_count, state_in};
-ghost use Rattle.start_order.specs.Answers.{wanted, alone, breaks, Fits, first_other, partner, first_clash};
+ghost use Rattle.std.specs.Prelude.{◌≡◌, ◌&&◌, [], ◌<◌, length, get_or, Some};
+ghost use Rattle.model.specs.State.{object_count};
+ghost use Rattle.model.specs.Program.{pieces};
+ghost use Rattle.unit.specs.Rows.{state_in};
+ghost use Rattle.start_order.specs.First.{found};
+ghost use Rattle.start_order.specs.Answers.{wanted, alone, breaks, first_other, partner, first_clash};
 ghost use Rattle.start_order.specs.Tried.{Tried};
 
-use crate::StartOrder;
-use crate::wanted::{Wanted, breaks, is_access, wanted_at};
+use crate::wanted::{Access, breaks, wanted_at};
+use crate::{MOST, StartOrder};
 use model::Profile;
-use unit::profile_of;
+use turns::piece_count;
+use unit::{Rows, profile_of};
 
-// The place of the first piece that is no well-formed get, or the count where there is none.
-pub fn first_other(p: Profile, requests: &[u8], count: usize) -> usize
-    requires { count ≡ piece_count (length requests.now) }
-    ensures { result ≡ first_other p (pieces requests.now) }
+// The place of the first piece that is no well-formed get.
+pub fn first_other(p: Profile, requests: &[u8]) -> Option<usize>
+    ensures { result ≡ found (length (pieces requests.now)) (first_other p (pieces requests.now)) }
 {
-    let mut i = 0usize;
-    while i < count {
-        if !is_access(wanted_at(p, requests, i)) {
-            return i;
+    for i in 0..piece_count(requests.len()) {
+        if wanted_at(p, requests, i).is_none() {
+            return Some(i);
         }
-        i += 1;
     }
-    count
+    None
 }
 
-// Whether the piece at place j is granted alone and breaks star or the wall together with what is wanted.
-fn clashes_at(
-    unit: &[[u8; 16]],
-    requests: &[u8],
-    count: usize,
-    list: &[u8],
-    first: Wanted,
-    j: usize,
-) -> bool
-    requires unit_len { length unit.now ≡ row_count }
-    requires tried { Tried (state_in unit.now) (pieces requests.now) count list.now }
-    requires fits { Fits first × (j < count) }
-    ensures { result ≡ (alone (state_in unit.now) (wanted (state_in unit.now).profile (get_or (pieces requests.now) j [])) && breaks (state_in unit.now) first (wanted (state_in unit.now).profile (get_or (pieces requests.now) j []))) }
-{
-    if list[j] != 1 {
-        return false;
-    }
-    let profile = profile_of(unit);
-    breaks(unit, first, wanted_at(profile, requests, j))
+// The pieces of a row of requests on a unit, and for each whether it is granted alone.
+#[derive(Drop)]
+pub struct Gets<'a> {
+    pub unit: &'a Rows,
+    pub requests: &'a [u8],
+    pub alone: &'a [bool; MOST],
+    ghost tried: { Tried (state_in unit.now) (pieces requests.now) alone.now },
 }
 
-// The place of the first get behind i that clashes with the one at i, or the count where there is none.
-fn partner(unit: &[[u8; 16]], requests: &[u8], count: usize, list: &[u8], i: usize) -> usize
-    requires unit_len { length unit.now ≡ row_count }
-    requires tried { Tried (state_in unit.now) (pieces requests.now) count list.now }
-    requires i_lt_count { i < count }
-    ensures { result ≡ partner (state_in unit.now) (pieces requests.now) i }
-{
-    if list[i] != 1 {
-        return count;
+impl<'a> Gets<'a> {
+    // How many pieces there are.
+    fn count(&self) -> usize
+        ensures { result ≡ length (pieces self.now.requests.now) }
+    {
+        piece_count(self.requests.len())
     }
-    let profile = profile_of(unit);
-    let first = wanted_at(profile, requests, i);
-    let mut j = i + 1;
-    while j < count {
-        if clashes_at(unit, requests, count, list, first, j) {
-            return j;
-        }
-        j += 1;
-    }
-    count
-}
 
-// The first two gets that clash.
-pub fn first_clash(unit: &[[u8; 16]], requests: &[u8], count: usize, list: &[u8]) -> StartOrder
-    requires unit_len { length unit.now ≡ row_count }
-    requires tried { Tried (state_in unit.now) (pieces requests.now) count list.now }
-    ensures { result ≡ first_clash (state_in unit.now) (pieces requests.now) }
-{
-    let mut i = 0usize;
-    while i < count {
-        let j = partner(unit, requests, count, list, i);
-        if j < count {
-            return StartOrder::Clash(i, j);
-        }
-        i += 1;
+    // What the piece at place i asks for, under the profile of the unit.
+    fn wanted_at(&self, i: usize) -> Option<Access>
+        requires { i < length (pieces self.now.requests.now) }
+        ensures { result ≡ wanted (state_in self.now.unit.now).profile (get_or (pieces self.now.requests.now) i []) }
+    {
+        wanted_at(profile_of(self.unit), self.requests, i)
     }
-    StartOrder::Agree
+
+    // Whether the get at place j is granted alone and breaks star or the wall together with another.
+    fn clashes_at(&self, first: Access, j: usize) -> bool
+        requires inside { (first.object < object_count) × (j < length (pieces self.now.requests.now)) }
+        ensures { result ≡ (alone (state_in self.now.unit.now) (wanted (state_in self.now.unit.now).profile (get_or (pieces self.now.requests.now) j [])) && breaks (state_in self.now.unit.now) (Some first) (wanted (state_in self.now.unit.now).profile (get_or (pieces self.now.requests.now) j []))) }
+    {
+        if !self.alone[j] {
+            return false;
+        }
+        match self.wanted_at(j) {
+            Some(second) => breaks(self.unit, first, second),
+            None => false,
+        }
+    }
+
+    // The place of the first get behind i that clashes with the one at i.
+    fn partner(&self, i: usize) -> Option<usize>
+        requires inside { i < length (pieces self.now.requests.now) }
+        ensures { result ≡ found (length (pieces self.now.requests.now)) (partner (state_in self.now.unit.now) (pieces self.now.requests.now) i) }
+    {
+        if !self.alone[i] {
+            return None;
+        }
+        let first = self.wanted_at(i)?;
+        for j in i + 1..self.count() {
+            if self.clashes_at(first, j) {
+                return Some(j);
+            }
+        }
+        None
+    }
+
+    // The first two gets that clash.
+    pub fn first_clash(&self) -> StartOrder
+        ensures { result ≡ first_clash (state_in self.now.unit.now) (pieces self.now.requests.now) }
+    {
+        for i in 0..self.count() {
+            if let Some(j) = self.partner(i) {
+                return StartOrder::Clash(i, j);
+            }
+        }
+        StartOrder::Agree
+    }
 }

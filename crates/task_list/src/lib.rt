@@ -24,27 +24,29 @@ pub struct TaskList {
     pub tasks: [Task; MOST],
 }
 
-// A list of as many tasks as are lent, before any of them is copied.
-fn no_tasks(count: usize) -> TaskList
-    ensures { result ≡ no_tasks count }
-{
-    let none = Task {
-        subject: 0,
-        start: 0,
-        count: 0,
-    };
-    TaskList {
-        count,
-        tasks: [none; MOST],
-    }
-}
+// A task without a request.
+const NO_TASK: Task = Task {
+    subject: 0,
+    start: 0,
+    count: 0,
+};
 
-// The list with the task at place i.
-fn with_task(list: TaskList, i: usize, task: Task) -> TaskList
-    requires { i < most }
-    ensures { (result.count ≡ list.count) × (result.tasks ≡ set list.tasks i task) }
-{
-    let mut next = list;
-    next.tasks[i] = task;
-    next
+impl TaskList {
+    // A list of as many tasks as are lent, before any of them is copied.
+    fn lent(count: usize) -> TaskList
+        ensures { result ≡ no_tasks count }
+    {
+        TaskList {
+            count,
+            tasks: [NO_TASK; MOST],
+        }
+    }
+
+    // Copies a task to place i.
+    fn put(&mut self, i: usize, task: Task)
+        requires { i < most }
+        ensures { (self.new.count ≡ self.old.count) × (self.new.tasks ≡ set self.old.tasks i task) }
+    {
+        self.tasks[i] = task;
+    }
 }

@@ -5,15 +5,20 @@ use native.Mathlib.Omega.{arith}
 use mathlib.Core.Path.{◌≡◌, refl, sym, ap, ap₂, ◌∙◌}
 use mathlib.Core.List.{List}
 use lib.ListN.{length}
-use borrow.Author.Tests.{eq-eqb, ne_eqb}
+use Rattle.std.specs.Prelude.{Ok, Err}
+use lib.Dec.{eqb}
+use borrow.Author.Tests.{eq-eqb, ne_eqb, eqb-true, eqb-false}
+use Rattle.model.specs.Decisions.{refuses}
+use Rattle.model.proofs.Tests.{split}
 use Rattle.bits.specs.Bits.{join}
+use Rattle.model.specs.declared.Decision.{Decision}
 use Rattle.model.specs.declared.Decision.TheVariants.{Granted, ZeroSeed}
 use Rattle.model.specs.Tests.{unless}
 use Rattle.model.specs.Requests.{request_size, pack}
 use Rattle.model.specs.Buffers.{put, front}
 use Rattle.model.proofs.Buffers.{put-none, put-more, put_front, length-put}
 use Rattle.test_load.specs.Generator.{draw}
-use Rattle.test_load.specs.Load.{made, requests_from, bytes_from, loading, load_count, loaded}
+use Rattle.test_load.specs.Load.{made, requests_from, bytes_from, loading, load_count, load_answer, loaded}
 use Rattle.test_load.proofs.Draws.{draw-add, bytes-more, bytes-length}
 
 -- ---- the answer
@@ -24,6 +29,11 @@ module _ (seed : ℕ) (buffer : List ℕ) where
   unfolding unless loading load_count loaded
   zero-refused e = rw (eq-eqb seed 0 e) (refl, refl, refl)
 
+  -- as the code hands it on
+  pub zero-answer : seed ≡ 0 → (Err ZeroSeed ≡ load_answer seed buffer) × (buffer ≡ loaded seed buffer)
+  unfolding unless loading load_answer loaded
+  zero-answer e = rw (eq-eqb seed 0 e) (refl, refl)
+
   module _ (e : seed ≡ 0 → ⊥) where
     pub seed-taken : loading seed ≡ Granted
     unfolding unless loading
@@ -33,9 +43,25 @@ module _ (seed : ℕ) (buffer : List ℕ) where
     unfolding load_count
     count-taken = rw seed-taken
 
+    pub answer-taken : load_answer seed buffer ≡ Ok (length buffer / request_size)
+    unfolding load_answer
+    answer-taken = rw (seed-taken, count-taken)
+
     pub load-taken : loaded seed buffer ≡ front (request_size * (length buffer / request_size)) (bytes_from (length buffer / request_size) seed) buffer
     unfolding loaded
     load-taken = rw (count-taken, seed-taken)
+
+-- the two answers, each in its parts
+pub answer-refused : (seed : ℕ) (buffer : List ℕ) (d : Decision) → load_answer seed buffer ≡ Err d → (d ≡ loading seed) × (load_count seed buffer ≡ 0)
+unfolding load_answer load_count
+answer-refused seed buffer d =
+    split (refuses (loading seed)) (λ e. rw e (λ h. (let same : d ≡ loading seed = cc in same, refl))) (λ e. rw e (λ h. absurd (let z : ◌≡◌ {A = ℕ} 0 1 = cc in omega arith)))
+
+pub answer-counted : (seed : ℕ) (buffer : List ℕ) (n : ℕ) → load_answer seed buffer ≡ Ok n → (loading seed ≡ Granted) × (n ≡ load_count seed buffer)
+answer-counted seed buffer n h =
+    split (eqb seed 0)
+    (λ e. let r = (zero-answer seed buffer (eqb-true seed 0 e)).0 in absurd (let z : ◌≡◌ {A = ℕ} 0 1 = cc in omega arith))
+    (λ e. let t = eqb-false seed 0 e in (seed-taken seed buffer t, (let same : n ≡ length buffer / request_size = cc (answer-taken seed buffer t) in same) ∙ sym (count-taken seed buffer t)))
 
 -- ---- the loop
 
@@ -74,11 +100,10 @@ module _ (seed : ℕ) (buffer : List ℕ) (count : ℕ) (out : List ℕ) (state 
       }
 
   -- all of them
-  pub ended : (seed ≡ 0 → ⊥) → count ≤ i → (Granted ≡ loading seed) × (count ≡ load_count seed buffer) × (out ≡ loaded seed buffer)
+  pub ended : (seed ≡ 0 → ⊥) → count ≤ i → (Ok count ≡ load_answer seed buffer) × (out ≡ loaded seed buffer)
   ended e h =
       let all : i ≡ length buffer / request_size = omega (arith, F.bound, F.room) in (
-        sym (seed-taken seed buffer e),
-        F.room ∙ sym (count-taken seed buffer e),
+        ap (λ n. Ok n) F.room ∙ sym (answer-taken seed buffer e),
         F.put_so_far ∙ ap (λ k. put buffer 0 (bytes_from k seed)) all
             ∙ put_front buffer (bytes_from (length buffer / request_size) seed) (request_size * (length buffer / request_size)) (bytes-length (length buffer / request_size) seed)
             ∙ sym (load-taken seed buffer e),

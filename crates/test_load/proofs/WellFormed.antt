@@ -13,7 +13,7 @@ use lib.ListN.{get_or}
 use borrow.Author.Tests.{le-leb, eqb-true}
 use Rattle.model.specs.declared.Profile.{Profile}
 use Rattle.model.specs.declared.Monitor.{Monitor}
-use Rattle.model.specs.declared.Decoded.TheVariants.{Says}
+use Rattle.std.specs.Prelude.{Some}
 use Rattle.model.specs.State.{widest}
 use Rattle.model.specs.Requests.{fields, mode_allowed, unused_zero, fields_formed, level_of, within, well_formed, request, decode, pack}
 use Rattle.model.specs.Runs.{reply, replies, respond}
@@ -140,15 +140,15 @@ module _ (x : ℕ) where
   made-fields = fields-packed (made x) made-fits
 
   -- "Every request made this way is well formed"
-  pub made-says : decode widest (pack (made x)) ≡ Says (request (made x))
+  pub made-says : decode widest (pack (made x)) ≡ Some (request (made x))
   made-says =
       says-decode widest (pack (made x)) (pack-length (made x)) (ap (well_formed widest) made-fields ∙ well-formed widest (made x) made-formed made-within)
-      ∙ ap (λ f. Says (request f)) made-fields
+      ∙ ap (λ f. Some (request f)) made-fields
 
   -- no monitor of the widest profile replies 2 to it
   pub made-never-2 : (m : Monitor) → m.profile ≡ widest → reply (pack (made x)) m ≢ 2
   made-never-2 m w e =
-      let says : decode m.profile (pack (made x)) ≡ Says (request (made x)) = ap (λ (p : Profile). decode p (pack (made x))) w ∙ made-says in
+      let says : decode m.profile (pack (made x)) ≡ Some (request (made x)) = ap (λ (p : Profile). decode p (pack (made x))) w ∙ made-says in
       says-not-malformed m.profile (pack (made x)) (request (made x)) says ((reply-2-exactly (pack (made x)) m).0 e)
 
 -- nor at any place of a run of them, whatever the state

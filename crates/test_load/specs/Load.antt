@@ -1,6 +1,6 @@
 -- The requests of a test load (change request §5): what each draw says, how a lent buffer is filled, and what is refused.
 -- Assumes nothing.
-use Rattle.std.specs.Prelude.{ℕ, zero, suc, ◌+◌, ◌*◌, ◌/◌, ◌%◌, Bool, cond, not, ◌||◌, List, [], ◌∷◌, map, length, leb, eqb}
+use Rattle.std.specs.Prelude.{ℕ, zero, suc, ◌+◌, ◌*◌, ◌/◌, ◌%◌, Bool, cond, not, ◌||◌, List, [], ◌∷◌, map, length, leb, eqb, Result, Ok, Err}
 use Rattle.bits.specs.Bits.{join}
 use Rattle.model.specs.declared.Fields.{Fields}
 use Rattle.model.specs.declared.Decision.{Decision}
@@ -74,6 +74,10 @@ loading seed = unless (not (eqb seed 0)) ZeroSeed Granted
 -- "as many whole requests as fit", "with their count beside it"
 unfoldable pub load_count : ℕ → List ℕ → ℕ
 load_count seed buffer = cond (refuses (loading seed)) 0 (length buffer / request_size)
+
+-- the two in one: the refusal, or the count
+unfoldable pub load_answer : ℕ → List ℕ → Result ℕ Decision
+load_answer seed buffer = cond (refuses (loading seed)) (Err (loading seed)) (Ok (load_count seed buffer))
 
 -- "A lent buffer takes as many whole requests as fit ... and the bytes after the last one are left"; 15 "before any byte is written"
 unfoldable pub loaded : ℕ → List ℕ → List ℕ

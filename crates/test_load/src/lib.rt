@@ -6,43 +6,28 @@ mod requests;
 mod xorshift;
 
 ghost use Rattle.std.specs.Prelude.{◌≡◌};
-ghost use Rattle.test_load.specs.Load.{loading, load_count, loaded};
+ghost use Rattle.test_load.specs.Load.{load_answer, loaded};
 
 use buffers::put_bytes;
 use encoding::pack;
 use model::Decision;
-use requests::make;
+use xorshift::Generator;
 
-// The answer to a load, and how many requests were made.
-#[derive(Clone, Copy)]
-pub struct Loaded {
-    pub decision: Decision,
-    pub count: usize,
-}
-
-// As many whole requests as fit, from the front of a lent buffer on; the bytes behind the last one are left. From seed 0 every
-// draw would be 0: it is refused, and every byte is left.
-pub fn fill(seed: u32, out: &mut [u8]) -> Loaded
-    ensures { (result.decision ≡ loading seed) × (result.count ≡ load_count seed out.old) × (out.new ≡ loaded seed out.old) }
+// As many whole requests as fit, from the front of a lent buffer on, and how many they are; the bytes behind the last one are left. From
+// seed 0 every draw would be 0: it is refused, and every byte is left.
+pub fn fill(seed: u32, out: &mut [u8]) -> Result<usize, Decision>
+    ensures answer { result ≡ load_answer seed out.old }
+    ensures filled { out.new ≡ loaded seed out.old }
 {
     if seed == 0 {
-        return Loaded {
-            decision: Decision::ZeroSeed,
-            count: 0,
-        };
+        return Err(Decision::ZeroSeed);
     }
     let count = out.len() / 6;
-    let mut state = seed;
-    let mut i = 0usize;
-    while i < count {
-        let made = make(state);
-        let bytes = pack(made.fields);
+    let mut generator = Generator { state: seed };
+    // Kept: by place, since the contract of `chunks_exact_mut` does not say what the buffer holds in the end.
+    for i in 0..count {
+        let bytes = pack(generator.request());
         put_bytes(out, 6 * i, &bytes);
-        state = made.state;
-        i += 1;
     }
-    Loaded {
-        decision: Decision::Granted,
-        count,
-    }
+    Ok(count)
 }

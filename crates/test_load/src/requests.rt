@@ -3,7 +3,7 @@ ghost use Rattle.std.specs.Prelude.{◌≡◌};
 ghost use Rattle.test_load.specs.Generator.{draw};
 ghost use Rattle.test_load.specs.Load.{kind_drawn, uses_other, other_drawn, mode_drawn, class_drawn, needs_drawn, made};
 
-use crate::xorshift::next;
+use crate::xorshift::Generator;
 use model::{Fields, Level};
 
 fn kind_drawn(d: u32) -> u8
@@ -28,13 +28,11 @@ fn other_drawn(kind: u8, d: u32) -> u8
 fn mode_drawn(kind: u8, d: u32) -> u8
     ensures { result ≡ mode_drawn kind d }
 {
-    if kind <= 4 {
-        return 1 + (d % 4) as u8;
+    match kind {
+        0..=4 => 1 + (d % 4) as u8,
+        5 => 4 * (d % 2) as u8,
+        _ => 0,
     }
-    if kind == 5 {
-        return 4 * (d % 2) as u8;
-    }
-    0
 }
 
 // Class and needs stand in a change of level.
@@ -50,38 +48,28 @@ fn level_drawn(kind: u8, class: u32, needs: u32) -> Level
     }
 }
 
-// A request, and the state behind its seven draws.
-#[derive(Clone, Copy)]
-pub struct Made {
-    pub fields: Fields,
-    pub state: u32,
-}
-
-// All seven are drawn, also for a field that the kind does not use.
-pub fn make(state: u32) -> Made
-    ensures { (result.fields ≡ made state) × (result.state ≡ draw 7 state) }
-{
-    let first = next(state);
-    let actor = next(first);
-    let other = next(actor);
-    let object = next(other);
-    let mode = next(object);
-    let class = next(mode);
-    let needs = next(class);
-    let kind = kind_drawn(first);
-    let level = level_drawn(kind, class, needs);
-    let fields = Fields {
-        kind,
-        actor: (actor % 16) as u8,
-        other: other_drawn(kind, other),
-        object: (object % 64) as u8,
-        mode: mode_drawn(kind, mode),
-        class: level.class,
-        needs: level.needs,
-        spare: 0,
-    };
-    Made {
-        fields,
-        state: needs,
+impl Generator {
+    // A request of the next seven draws. All seven are drawn, also for a field that the kind does not use.
+    pub fn request(&mut self) -> Fields
+        ensures { (result ≡ made self.old.state) × (self.new.state ≡ draw 7 self.old.state) }
+    {
+        let kind = kind_drawn(self.next());
+        let actor = self.next();
+        let other = self.next();
+        let object = self.next();
+        let mode = self.next();
+        let class = self.next();
+        let needs = self.next();
+        let level = level_drawn(kind, class, needs);
+        Fields {
+            kind,
+            actor: (actor % 16) as u8,
+            other: other_drawn(kind, other),
+            object: (object % 64) as u8,
+            mode: mode_drawn(kind, mode),
+            class: level.class,
+            needs: level.needs,
+            spare: 0,
+        }
     }
 }

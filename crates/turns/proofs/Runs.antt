@@ -93,8 +93,6 @@ pub record Looping (requests out₀ : List ℕ) (u₀ : Rows) (count : ℕ) (out
   pub bound : i ≤ count
   pub counted : count ≡ min ((length requests + 5) / 6) (length out₀)
   pub so_far : After (pieces requests) out₀ u₀ out u i
-  pub out_length : length out ≡ length out₀
-  pub rows : length u ≡ row_count
 
 -- as many pieces as were counted are those that have room
 pub taken : {A : Type 0} (l : List A) (room : ℕ) → take (min (length l) room) l ≡ take room l

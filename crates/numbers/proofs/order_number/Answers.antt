@@ -1,6 +1,7 @@
 -- `numbers::order_number` meets its contract.
 -- Assumes nothing.
-use mathlib.Core.Path.{sym, ap}
+use Prim.Native.Nat.{◌+◌, ◌*◌, ◌^◌}
+use mathlib.Core.Path.{sym, ap, ap₂, ◌∙◌}
 use Rattle.numbers.specs.Orders.{order_number}
 use Rattle.numbers.proofs.order_number.Goals as goal
 
@@ -10,11 +11,11 @@ returns-in-Agree c = sym (ap order_number c.in-Agree.is)
 
 pub returns-in-Clash : goal.returns-in-Clash
 unfolding order_number
-returns-in-Clash c = sym (ap order_number c.in-Clash.is)
+returns-in-Clash c = ap₂ (λ m n. 1 + 256 * m + 2 ^ 32 * n) c.place_bits.ensures c.place_bits-in-Clash.ensures ∙ sym (ap order_number c.in-Clash.is)
 
 pub returns-in-NoGet : goal.returns-in-NoGet
 unfolding order_number
-returns-in-NoGet c = sym (ap order_number c.in-NoGet.is)
+returns-in-NoGet c = ap (λ n. 2 + 256 * n) c.place_bits-in-NoGet.ensures ∙ sym (ap order_number c.in-NoGet.is)
 
 pub returns-in-TooMany : goal.returns-in-TooMany
 unfolding order_number

@@ -1,11 +1,7 @@
 -- `turns::run` meets its contract.
 -- Assumes nothing.
-use Prim.Native.Nat.{◌-◌}
 use Rattle.turns.proofs.Runs.{Looping}
 use Rattle.turns.proofs.run.Given as goal
 
 abbrev pub invariant-loop-i : goal.invariant-loop-i
 invariant-loop-i l = Looping l.requests l.initial.out l.initial.unit l.count l.out l.unit l.i
-
-abbrev pub decreases-loop-i : goal.decreases-loop-i
-decreases-loop-i l = l.count - l.i

@@ -17,7 +17,7 @@ pub loop-s-init : goal.loop-s-init
 loop-s-init c = (omega arith, omega arith, no-sum _)
 
 pub loop-s-preserved : goal.loop-s-preserved
-loop-s-preserved c = let held = c.held_by-held in
+loop-s-preserved c = let held = c.held_by in
     let loop = c.loop-s in
     let start = c in
     let x = start.args.x in

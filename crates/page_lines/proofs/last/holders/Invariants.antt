@@ -1,6 +1,6 @@
 -- `page_lines::last::holders` meets its contract: after s turns the holders among the subjects below s are counted.
 -- Assumes nothing.
-use Prim.Native.Nat.{◌-◌, ◌≤◌}
+use Prim.Native.Nat.{◌≤◌}
 use mathlib.Core.Path.{◌≡◌}
 use Rattle.bits.specs.Bits.{bit}
 use Rattle.model.specs.Modes.{has}
@@ -11,6 +11,3 @@ use Rattle.page_lines.proofs.last.holders.Given as goal
 
 abbrev pub invariant-loop-s : goal.invariant-loop-s
 invariant-loop-s l = (l.s ≤ subject_count) × (l.count ≤ l.s) × (l.count ≡ sum_below l.s (λ t. bit (has l.x (held_by (object (state_in l.unit) l.o) t))))
-
-abbrev pub decreases-loop-s : goal.decreases-loop-s
-decreases-loop-s l = subject_count - l.s

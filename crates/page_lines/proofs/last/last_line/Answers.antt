@@ -1,6 +1,9 @@
 -- `page_lines::last::last_line` meets its contract: the sum over the modes is the sum down the lines, and so small that no part of it overflows.
 -- Assumes nothing.
 use native.Mathlib.Omega.{arith}
+use mathlib.Core.List.{[], ◌∷◌, map}
+use Rattle.std.proofs.lemmas.Grind.{common_steps}
+use Rattle.model.specs.declared.Mode.TheVariants.{Read, Write, Append, Execute}
 use mathlib.Core.Path.{◌≡◌, ap, ◌∙◌}
 use Rattle.bits.specs.Bits.{join}
 use Rattle.model.specs.State.{object}
@@ -26,8 +29,8 @@ pub returns : goal.returns
 unfolding last_line join
 returns c = let start = c in
     let ob = object (state_in start.args.unit.now) start.args.o in
-    let all : c.two_digits-all.result ≡ two_digits (total ob) =
-    c.two_digits-all.ensures
+    let shown : c.map.result ≡ map two_digits (holders ob Read ∷ holders ob Write ∷ holders ob Append ∷ holders ob Execute ∷ []) = grind (arith, common_steps, c.holders-read.ensures, c.holders-write.ensures, c.holders-append.ensures, c.holders-execute.ensures) in
+    let all : c.two_digits-all.result ≡ two_digits (total ob) = c.two_digits-all.ensures
     ∙ ap two_digits
     (omega (arith, over-modes (holders ob), total-over-modes ob, c.holders-read.ensures, c.holders-write.ensures, c.holders-append.ensures, c.holders-execute.ensures)) in
-    rw (all, c.two_digits-r.ensures, c.two_digits-w.ensures, c.two_digits-a.ensures, c.two_digits-e.ensures, c.holders-read.ensures, c.holders-write.ensures, c.holders-append.ensures, c.holders-execute.ensures)
+    rw (all, shown)

@@ -23,7 +23,8 @@ loop-s-preserved c = let held = c.held_by-held in
     let s = loop.s in (
       omega (arith, c.loop-s-test.true),
       c.put_bytes.ensures
-          ∙ ap₂ (λ x y. put x (15 * s) y) loop.invariant.1 c.line-new.ensures
+          ∙ ap (λ k. put loop.out (15 * k) c.line.result) c.from.ensures
+          ∙ ap₂ (λ x y. put x (15 * s) y) loop.invariant.1 c.line.ensures
           ∙ put-more start.args.out.now 0 (lines ob s) (line s rights.result held.result) (15 * s) (omega (arith, lines-length ob s)) (omega arith)
           ∙ ap (put start.args.out.now 0) (lines_more ob s rights.result held.result rights.ensures held.ensures),
     )

@@ -1,6 +1,6 @@
 -- `page_lines::lines::put_lines` meets its contract: after s turns the lines of the subjects below s are put.
 -- Assumes nothing.
-use Prim.Native.Nat.{◌-◌, ◌≤◌}
+use Prim.Native.Nat.{◌≤◌}
 use mathlib.Core.Path.{◌≡◌}
 use Rattle.model.specs.State.{subject_count, object}
 use Rattle.model.specs.Buffers.{put}
@@ -10,6 +10,3 @@ use Rattle.page_lines.proofs.lines.put_lines.Given as goal
 
 abbrev pub invariant-loop-s : goal.invariant-loop-s
 invariant-loop-s l = (l.s ≤ subject_count) × (l.out ≡ put l.initial.out 0 (lines (object (state_in l.unit) l.o) l.s))
-
-abbrev pub decreases-loop-s : goal.decreases-loop-s
-decreases-loop-s l = subject_count - l.s

@@ -1,12 +1,12 @@
--- `start_order::wanted::piece` meets its contract.
+-- `turns::piece` meets its contract.
 -- Assumes nothing.
 use Prim.Native.Nat.{◌-◌, ◌*◌}
 use mathlib.Core.Path.{sym, ap, ◌∙◌}
 use lib.ListN.{take, drop}
 use Rattle.turns.proofs.Runs.{piece-at}
-use Rattle.start_order.proofs.wanted.piece.Goals as goal
+use Rattle.turns.proofs.piece.Goals as goal
 
 pub returns : goal.returns
 returns c = let requests = c.args.requests.now in
     let i = c.args.i in
-    ap (λ k. take (k - i * 6) (drop (i * 6) requests)) c.smaller-end.ensures ∙ sym (piece-at requests i c.requires)
+    ap (λ k. take (k - i * 6) (drop (i * 6) requests)) c.min-end.ensures ∙ sym (piece-at requests i c.requires)
