@@ -9,7 +9,7 @@ use native.Mathlib.Omega.{arith}
 use borrow.Author.Tests.{eq-eqb, eqb-true}
 use Rattle.model.specs.declared.Monitor.{Monitor}
 use Rattle.model.specs.declared.Request.TheVariants.{SetCompanies}
-use Rattle.model.specs.declared.Decoded.TheVariants.{Says}
+use Rattle.std.specs.Prelude.{Some}
 use Rattle.model.specs.declared.Decision.TheVariants.{Granted, Already}
 use Rattle.model.specs.declared.Response.{Response}
 use Rattle.model.specs.State.{object}
@@ -23,14 +23,14 @@ use Rattle.invariants.proofs.Outcomes.{step-cases}
 use Rattle.invariants.proofs.WallAdded.{same-companies-granted}
 use Rattle.images.proofs.Reached.{sound-reached, respond-says}
 
-module _ (m : Monitor) (R : Reached m) (g : List ℕ) (o n : ℕ) (says : decode m.profile g ≡ Says (SetCompanies (object m o).owner o n))
+module _ (m : Monitor) (R : Reached m) (g : List ℕ) (o n : ℕ) (says : decode m.profile g ≡ Some (SetCompanies (object m o).owner o n))
     (live : (object m o).live ≡ true) where
   -- the numbers that the object has: nothing changes, so nothing can break
   same_numbers : (object m o).companies ≡ n → reply g m ≡ 1
   unfolding already
   same_numbers e =
       let granted = step-granted (SetCompanies (object m o).owner o (object m o).companies) m (same-companies-granted m (sound-reached m R) o live) in
-      let bytes = subst (λ (k : ℕ). decode m.profile g ≡ Says (SetCompanies (object m o).owner o k)) (sym e) says in
+      let bytes = subst (λ (k : ℕ). decode m.profile g ≡ Some (SetCompanies (object m o).owner o k)) (sym e) says in
       ap (λ (r : Response). number r.decision) (respond-says g _ m bytes ∙ granted)
       ∙ ap (λ (b : Bool). number (cond b Already Granted)) (eq-eqb (object m o).companies _ refl)
 

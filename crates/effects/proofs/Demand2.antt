@@ -10,7 +10,7 @@ use mathlib.Core.List.{List}
 use Rattle.model.specs.declared.Monitor.{Monitor}
 use Rattle.model.specs.declared.Mode.{Mode}
 use Rattle.model.specs.declared.Request.TheVariants.{Get}
-use Rattle.model.specs.declared.Decoded.TheVariants.{Says}
+use Rattle.std.specs.Prelude.{Some}
 use Rattle.model.specs.declared.Response.{Response}
 use Rattle.model.specs.State.{enrolled, object, WellFormed}
 use Rattle.model.specs.Profiles.{Inside}
@@ -38,7 +38,7 @@ module _ (m : Monitor) (R : Reached m) where
 
   -- "a well-formed get by an enrolled subject on a live object is refused exactly when adding that access would break one of them"; well formed under
   -- the profile of the monitor
-  pub get-exactly : (g : List ℕ) (s o : ℕ) (x : Mode) → decode m.profile g ≡ Says (Get s o x) → enrolled m s ≡ true → (object m o).live ≡ true
+  pub get-exactly : (g : List ℕ) (s o : ℕ) (x : Mode) → decode m.profile g ≡ Some (Get s o x) → enrolled m s ≡ true → (object m o).live ≡ true
       → (2 ≤ reply g m) ↔ (Secure (with_access m s o x) → ⊥)
   get-exactly g s o x d there live =
       subst (λ (r : Response). (2 ≤ number r.decision) ↔ (Secure (with_access m s o x) → ⊥)) (sym (respond-says g (Get s o x) m d))

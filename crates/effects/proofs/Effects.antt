@@ -10,7 +10,7 @@ use Rattle.model.specs.declared.Monitor.{Monitor}
 use Rattle.model.specs.declared.Mode.TheVariants.{Read, Write, Append, Execute}
 use Rattle.model.specs.declared.Request.{Request}
 use Rattle.model.specs.declared.Request.TheVariants.{Get, Release, Give, Rescind, Create, Delete, ChangeLevel, SetCompanies}
-use Rattle.model.specs.declared.Decoded.TheVariants.{Says}
+use Rattle.std.specs.Prelude.{Some}
 use Rattle.model.specs.declared.Decision.TheVariants.{Granted}
 use Rattle.model.specs.declared.Response.{Response}
 use Rattle.model.specs.Modes.{has}
@@ -78,7 +78,7 @@ module _ (m : Monitor) (W : WellFormed m) where
       ∙ object-there q m W (target_below q r))
 
 -- reply 0 or 1 to any bytes that say a request, on any reached monitor: the state left has its effect
-pub reply-effect : (m : Monitor) → Reached m → (g : List ℕ) (q : Request) → decode m.profile g ≡ Says q → reply g m < 2 → Effect q (respond g m).monitor
+pub reply-effect : (m : Monitor) → Reached m → (g : List ℕ) (q : Request) → decode m.profile g ≡ Some q → reply g m < 2 → Effect q (respond g m).monitor
 reply-effect m R g q e h =
     let same = respond-says g q m e in
     subst (λ (k : Response). Effect q k.monitor) (sym same)

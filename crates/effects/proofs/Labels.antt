@@ -8,18 +8,16 @@ use mathlib.Core.Bool.{Bool, true, false, cond}
 use mathlib.Core.List.{List}
 use lib.ListN.{take}
 use Rattle.model.specs.declared.Level.{Level}
-use Rattle.model.specs.declared.Label.{Label}
-use Rattle.model.specs.declared.Label.TheVariants.{Absent, Present}
+use Rattle.model.specs.Levels.{Label, Dominates, same_label}
+use Rattle.std.specs.Prelude.{Some, None}
 use Rattle.model.specs.declared.Subject.{Subject}
 use Rattle.model.specs.declared.Object.{Object}
 use Rattle.model.specs.declared.Monitor.{Monitor}
 use Rattle.model.specs.declared.Mode.{Mode}
 use Rattle.model.specs.declared.Request.{Request}
 use Rattle.model.specs.declared.Request.TheVariants.{Get, Release, Give, Rescind, Create, Delete, ChangeLevel, SetCompanies}
-use Rattle.model.specs.declared.Decoded.TheVariants.{Says}
 use Rattle.model.specs.declared.Decision.TheVariants.{Granted, Already}
 use Rattle.model.specs.declared.Response.{Response}
-use Rattle.model.specs.Levels.{Dominates, same_label}
 use Rattle.model.specs.Modes.{observes}
 use Rattle.model.specs.State.{clearance, clearance_at, object}
 use Rattle.model.specs.Properties.{Holds}
@@ -41,7 +39,7 @@ use Rattle.effects.proofs.Lives.{DeletesWith, live-kept}
 
 -- a label, where there is one, is dominated by the later one
 Rises : Label → Label → Type 0
-Rises old new = old ≢ Absent → Dominates new old
+Rises old new = old ≢ None → Dominates new old
 
 -- ---- one request
 
@@ -76,7 +74,7 @@ respond-rises g m o live =
 
 -- whatever the bytes and the monitor: the label of a live object is dominated by the next one, or the bytes say a delete of the object or of one
 -- that it is below
-pub label-ends-by-delete : (m : Monitor) (g : List ℕ) (o : ℕ) → (object m o).live ≡ true → (object m o).label ≢ Absent
+pub label-ends-by-delete : (m : Monitor) (g : List ℕ) (o : ℕ) → (object m o).live ≡ true → (object m o).label ≢ None
     → Dominates (object (respond g m).monitor o).label (object m o).label ⊎ DeletesWith g m o
 unfolding Rises
 label-ends-by-delete m g o live there = kept (live-kept m g o live)
@@ -88,23 +86,23 @@ label-ends-by-delete m g o live there = kept (live-kept m g o live)
 
 -- ---- what is never refused
 
-module _ (m : Monitor) (R : Reached m) (g : List ℕ) (o : ℕ) (l : Level) (says : decode m.profile g ≡ Says (ChangeLevel (object m o).owner o l))
+module _ (m : Monitor) (R : Reached m) (g : List ℕ) (o : ℕ) (l : Level) (says : decode m.profile g ≡ Some (ChangeLevel (object m o).owner o l))
     (live : (object m o).live ≡ true) where
   -- the reply to the owner's change of level, where it is granted
-  owner-reply : (was : Bool) → checks (ChangeLevel (object m o).owner o l) m ≡ Granted → same_label (object m o).label (Present l) ≡ was
+  owner-reply : (was : Bool) → checks (ChangeLevel (object m o).owner o l) m ≡ Granted → same_label (object m o).label (Some l) ≡ was
       → reply g m ≡ number (cond was Already Granted)
   unfolding already
   owner-reply was e is =
       ap (λ (r : Response). number r.decision) (respond-says g _ m says ∙ step-granted _ m e) ∙ ap (λ (b : Bool). number (cond b Already Granted)) is
 
   -- "the same label still replies 1"
-  pub same-label-replies-1 : (object m o).label ≡ Present l → reply g m ≡ 1
+  pub same-label-replies-1 : (object m o).label ≡ Some l → reply g m ≡ 1
   same-label-replies-1 e = owner-reply true (same-label-granted m (sound-reached m R) o l live e) (label_same _ _ e)
 
   -- "a first label is free", under a parent where it dominates that of the parent (change request §11)
-  pub first-label-replies-0 : (object m o).label ≡ Absent → ((p : ℕ) → (object m o).parent ≡ suc p → Dominates (Present l) (object m p).label) → reply g m ≡ 0
+  pub first-label-replies-0 : (object m o).label ≡ None → ((p : ℕ) → (object m o).parent ≡ suc p → Dominates (Some l) (object m p).label) → reply g m ≡ 0
   unfolding same_label
-  first-label-replies-0 e fits = owner-reply false (first-label-granted m (sound-reached m R) o l live e fits) (ap (λ (k : Label). same_label k (Present l)) e)
+  first-label-replies-0 e fits = owner-reply false (first-label-granted m (sound-reached m R) o l live e fits) (ap (λ (k : Label). same_label k (Some l)) e)
 
 -- ---- lists of requests
 
@@ -133,7 +131,7 @@ module _ (m : Monitor) (gs : List (List ℕ)) (o i : ℕ) where
 -- over every list and from every monitor: of an object that is live after each prefix from i requests to j, the label after j dominates that after i
 pub label-never-falls : (m : Monitor) (gs : List (List ℕ)) (o i j : ℕ) → i ≤ j
     → ((k : ℕ) → i ≤ k → k ≤ j → (object (after (take k gs) m) o).live ≡ true)
-    → (object (after (take i gs) m) o).label ≢ Absent
+    → (object (after (take i gs) m) o).label ≢ None
     → Dominates (object (after (take j gs) m) o).label (object (after (take i gs) m) o).label
 unfolding LiveTo label_after Rises
 label-never-falls m gs o i j h live there = rises_by m gs o i (j - i) j (omega (arith, h)) live there
@@ -141,7 +139,7 @@ label-never-falls m gs o i j h live there = rises_by m gs o i (j - i) j (omega (
 -- so it is never published: who reads the object after j requests, by r or w, has a clearance that dominates the label after i
 pub never-published : (m : Monitor) → Reached m → (gs : List (List ℕ)) (o i j : ℕ) → i ≤ j
     → ((k : ℕ) → i ≤ k → k ≤ j → (object (after (take k gs) m) o).live ≡ true)
-    → (object (after (take i gs) m) o).label ≢ Absent
+    → (object (after (take i gs) m) o).label ≢ None
     → (s : ℕ) (x : Mode) → Holds (after (take j gs) m) s o x → observes x ≡ true → Dominates (clearance m s) (object (after (take i gs) m) o).label
 never-published m R gs o i j h live there s x held reads =
     let simple = (sound-reached _ (reached-after m R (take j gs))).secure.simple s o x held reads in

@@ -11,7 +11,7 @@ use Rattle.model.specs.declared.Monitor.{Monitor}
 use Rattle.model.specs.declared.Creation.{Creation}
 use Rattle.model.specs.declared.Request.{Request}
 use Rattle.model.specs.declared.Request.TheVariants.{Get, Release, Give, Rescind, Create, Delete, ChangeLevel, SetCompanies}
-use Rattle.model.specs.declared.Decoded.TheVariants.{Says}
+use Rattle.std.specs.Prelude.{Some}
 use Rattle.model.specs.declared.Response.{Response}
 use Rattle.model.specs.State.{no_object, object}
 use Rattle.model.specs.Hierarchy.{Below, Hierarchy}
@@ -55,7 +55,7 @@ step-life q m o =
 
 -- a delete of object o, or of one that it is below
 abbrev pub DeletesWith : List ℕ → Monitor → ℕ → Type 0
-DeletesWith g m o = (s : ℕ) × (t : ℕ) × (decode m.profile g ≡ Says (Delete s t)) × ((o ≡ t) ⊎ Below m.objects t o)
+DeletesWith g m o = (s : ℕ) × (t : ℕ) × (decode m.profile g ≡ Some (Delete s t)) × ((o ≡ t) ⊎ Below m.objects t o)
 
 -- whatever the bytes and the monitor: a live object ends only by a delete of it or of one that it is below
 pub live-kept : (m : Monitor) (g : List ℕ) (o : ℕ) → (object m o).live ≡ true → ((object (respond g m).monitor o).live ≡ true) ⊎ DeletesWith g m o
@@ -64,16 +64,16 @@ live-kept m g o live =
     (λ q d. elim (step-life q m o) [
       | stays e ↦ inl (e ∙ live)
       | begins s c e f ↦ inl f
-      | ends s e f ↦ inr (s, o, d ∙ ap Says e, inl refl)
-      | taken t f ↦ inr (t.0, t.1, d ∙ ap Says t.2, inr t.3)
+      | ends s e f ↦ inr (s, o, d ∙ ap Some e, inl refl)
+      | taken t f ↦ inr (t.0, t.1, d ∙ ap Some t.2, inr t.3)
     ])
 
 -- and one that is not live begins only by a create of it
 pub live-by-create : (m : Monitor) (g : List ℕ) (o : ℕ) → (object m o).live ≡ false
-    → ((object (respond g m).monitor o).live ≡ false) ⊎ ((s : ℕ) × (c : Creation) × (decode m.profile g ≡ Says (Create s o c)))
+    → ((object (respond g m).monitor o).live ≡ false) ⊎ ((s : ℕ) × (c : Creation) × (decode m.profile g ≡ Some (Create s o c)))
 live-by-create m g o dead =
-    respond-all (λ (r : Response). ((object r.monitor o).live ≡ false) ⊎ ((s : ℕ) × (c : Creation) × (decode m.profile g ≡ Says (Create s o c)))) g m (λ e. inl dead)
-    (λ q d. elim (step-life q m o) [ stays e ↦ inl (e ∙ dead) | begins s c e f ↦ inr (s, c, d ∙ ap Says e) | ends s e f ↦ inl f | taken t f ↦ inl f ])
+    respond-all (λ (r : Response). ((object r.monitor o).live ≡ false) ⊎ ((s : ℕ) × (c : Creation) × (decode m.profile g ≡ Some (Create s o c)))) g m (λ e. inl dead)
+    (λ q d. elim (step-life q m o) [ stays e ↦ inl (e ∙ dead) | begins s c e f ↦ inr (s, c, d ∙ ap Some e) | ends s e f ↦ inl f | taken t f ↦ inl f ])
 
 -- ---- objects under objects, on every reached monitor
 
@@ -81,7 +81,7 @@ live-by-create m g o dead =
 pub always-hierarchy : (m : Monitor) → Reached m → Hierarchy m
 always-hierarchy m R = (sound-reached m R).hierarchy
 
-module _ (m : Monitor) (R : Reached m) (g : List ℕ) (s o : ℕ) (says : decode m.profile g ≡ Says (Delete s o)) (granted : reply g m < 2) where
+module _ (m : Monitor) (R : Reached m) (g : List ℕ) (s o : ℕ) (says : decode m.profile g ≡ Some (Delete s o)) (granted : reply g m < 2) where
   left : (respond g m).monitor ≡ (step (Delete s o) m).monitor
   left = ap (λ (r : Response). r.monitor) (respond-says g (Delete s o) m says)
 

@@ -8,7 +8,7 @@ use mathlib.Core.Bool.{false, not}
 use borrow.Author.Tests.{eq-eqb}
 use Rattle.model.specs.declared.Object.{Object}
 use Rattle.model.specs.declared.Monitor.{Monitor}
-use Rattle.model.specs.declared.Label.TheVariants.{Present}
+use Rattle.std.specs.Prelude.{Some}
 use Rattle.model.specs.declared.Request.{Request}
 use Rattle.model.specs.declared.Request.TheVariants.{Get, Release, Give, Rescind, Create, Delete, ChangeLevel, SetCompanies}
 use Rattle.model.specs.declared.Decision.TheVariants.{Granted}
@@ -58,7 +58,7 @@ module _ (m : Monitor) (W : WellFormed m) where
       apart (ap (λ (k : Object). k.live) (sym w)) (not_on _ (granted-create m s o c g).free)
   record-differs (Delete s o) r g e w =
       apart (granted-delete m s o g).live (ap (λ (k : Object). k.live) (sym w))
-  record-differs (ChangeLevel s o l) r g e w = apart (label_same _ (Present l) (ap (λ (k : Object). k.label) (sym w))) e
+  record-differs (ChangeLevel s o l) r g e w = apart (label_same _ (Some l) (ap (λ (k : Object). k.label) (sym w))) e
   record-differs (SetCompanies s o n) r g e w = apart (eq-eqb _ n (ap (λ (k : Object). k.companies) (sym w))) e
 
 pub state-differs : (q : Request) (m : Monitor) → WellFormed m → InRange q → checks q m ≡ Granted → already q (object m (target q)) ≡ false → afterwards q m ≢ m

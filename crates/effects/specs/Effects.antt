@@ -1,9 +1,8 @@
 -- The effect of each kind, stated once more as a proposition over the state after it, and who gains or loses what.
 -- Assumes nothing.
-use Rattle.std.specs.Prelude.{ℕ, ◌≡◌, ◌≢◌, ◌⊎◌, true}
+use Rattle.std.specs.Prelude.{ℕ, ◌≡◌, ◌≢◌, ◌⊎◌, true, Some, None}
 use Rattle.model.specs.declared.Level.{Level}
-use Rattle.model.specs.declared.Label.{Label}
-use Rattle.model.specs.declared.Label.TheVariants.{Absent, Present}
+use Rattle.model.specs.Levels.{Label}
 use Rattle.model.specs.declared.Monitor.{Monitor}
 use Rattle.model.specs.declared.Mode.{Mode}
 use Rattle.model.specs.declared.Mode.TheVariants.{Read, Write, Append, Execute}
@@ -20,7 +19,7 @@ use Rattle.model.specs.Properties.{Holds, Permits}
 pub record Created (n : Monitor) (s o : ℕ) (c : Creation) : Type 0 where
   pub live : (object n o).live ≡ true
   pub owned : (object n o).owner ≡ s
-  pub unlabelled : (object n o).label ≡ Absent
+  pub unlabelled : (object n o).label ≡ None
   pub no-company : (object n o).companies ≡ 0
   pub under : (object n o).parent ≡ c.parent
   pub read : Permits n s o Read
@@ -43,7 +42,7 @@ Effect (Create s o c) n = Created n s o c
 -- "no longer live, its rights and accesses gone"
 Effect (Delete s o) n = object n o ≡ no_object
 -- "the label becomes class and needs"
-Effect (ChangeLevel s o l) n = (object n o).label ≡ Present l
+Effect (ChangeLevel s o l) n = (object n o).label ≡ Some l
 -- "lets the owner set them" (change request §10)
 Effect (SetCompanies s o k) n = (object n o).companies ≡ k
 
@@ -65,7 +64,7 @@ GivesRight q t o x = (s : ℕ) × (q ≡ Give s t o x)
 
 -- it changes the level of object o to the label
 abbrev pub ChangesLabel : Request → ℕ → Label → Type 0
-ChangesLabel q o a = (s : ℕ) × (l : Level) × (q ≡ ChangeLevel s o l) × (Present l ≡ a)
+ChangesLabel q o a = (s : ℕ) × (l : Level) × (q ≡ ChangeLevel s o l) × (Some l ≡ a)
 
 -- it sets the company numbers of object o to k
 abbrev pub SetsNumbers : Request → ℕ → ℕ → Type 0

@@ -7,14 +7,13 @@ use mathlib.Core.Bool.{Bool, true, false, cond, ◌||◌}
 use mathlib.Core.List.{List, []}
 use lib.Dec.{leb}
 use borrow.Author.Tests.{leb-true}
-use Rattle.model.specs.declared.Label.{Label}
-use Rattle.model.specs.declared.Label.TheVariants.{Absent, Present}
+use Rattle.model.specs.Levels.{Label, compare, equal_or_above, level_dominates}
+use Rattle.std.specs.Prelude.{Some, None}
 use Rattle.model.specs.declared.Profile.{Profile}
 use Rattle.model.specs.declared.Monitor.{Monitor}
 use Rattle.model.specs.declared.Comparison.{Comparison}
 use Rattle.model.specs.declared.Comparison.TheVariants.{Equal, Above, Below, Apart}
 use Rattle.model.specs.declared.Request.{Request}
-use Rattle.model.specs.Levels.{compare, equal_or_above, level_dominates}
 use Rattle.model.specs.State.{object_count, widest, object}
 use Rattle.model.proofs.Tests.{split}
 use Rattle.model.proofs.Comparisons.{mirror, level-back}
@@ -37,17 +36,17 @@ by_tests Apart x y = refl
 
 -- the list as it was chosen before there were four answers
 abbrev clearance_before : Monitor → ℕ → Label → Label → List Request
-clearance_before m s Absent b = []
-clearance_before m s (Present a) Absent = []
-clearance_before m s (Present a) (Present b) =
+clearance_before m s None b = []
+clearance_before m s (Some a) None = []
+clearance_before m s (Some a) (Some b) =
     cond (level_dominates b a) (cond (level_dominates a b) [] (read_at m (free_below object_count m) s b)) (read_at m (free_below object_count m) s a)
 
 -- what tells two clearances apart is what it was
 pub lists-as-before : (m : Monitor) (s : ℕ) (a b : Label) → to_clearance m s a b ≡ clearance_before m s a b
 unfolding to_clearance level_dominates
-lists-as-before m s Absent b = refl
-lists-as-before m s (Present a) Absent = refl
-lists-as-before m s (Present a) (Present b) = by_tests (compare a b) _ _ ∙ rw (level-back a b)
+lists-as-before m s None b = refl
+lists-as-before m s (Some a) None = refl
+lists-as-before m s (Some a) (Some b) = by_tests (compare a b) _ _ ∙ rw (level-back a b)
 
 -- ---- the slot
 

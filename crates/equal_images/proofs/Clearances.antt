@@ -11,8 +11,8 @@ use lib.Seq.{get_or-set_same}
 use lib.Dec.{leb, lit≤}
 use borrow.Author.Tests.{le-leb}
 use Rattle.model.specs.declared.Level.{Level}
-use Rattle.model.specs.declared.Label.{Label}
-use Rattle.model.specs.declared.Label.TheVariants.{Absent, Present}
+use Rattle.model.specs.Levels.{Label, compare, equal_or_above, dominates, level_dominates, present}
+use Rattle.std.specs.Prelude.{Some, None}
 use Rattle.model.specs.declared.Comparison.{Comparison}
 use Rattle.model.specs.declared.Object.{Object}
 use Rattle.model.specs.declared.Profile.{Profile}
@@ -22,7 +22,6 @@ use Rattle.model.specs.declared.Request.{Request}
 use Rattle.model.specs.declared.Request.TheVariants.{Get, Create, Delete, ChangeLevel}
 use Rattle.model.specs.declared.Decision.TheVariants.{Granted, NotEnrolled, NotLive, NoRight, NoLabel, SimpleBroken, StarBroken, WallBroken}
 use Rattle.model.specs.Tests.{implies, unless}
-use Rattle.model.specs.Levels.{compare, equal_or_above, dominates, level_dominates, present}
 use Rattle.model.specs.Modes.{has}
 use Rattle.model.specs.State.{no_modes, clearance, enrolled, object, rights_of, with_label, LevelFits, LabelFits}
 use Rattle.model.specs.Profiles.{LevelInside}
@@ -97,11 +96,11 @@ module _ (p : Profile) (s o : ℕ) (l : Level) (I : InUse p s o l) where
     unfolding ready
     under-ready = under-afterwards p (made m) under-made (ChangeLevel s o l) change-formed level-granted
 
-    object-ready : object (ready m) o ≡ with_label (created s (creation false 0)) (Present l)
+    object-ready : object (ready m) o ≡ with_label (created s (creation false 0)) (Some l)
     unfolding ready changed
     object-ready =
         object-there (ChangeLevel s o l) (made m) under-made.sound.formed I.o-below
-        ∙ ap (λ (k : Object). with_label k (Present l)) object-made
+        ∙ ap (λ (k : Object). with_label k (Some l)) object-made
 
     clearance-ready : clearance (ready m) s ≡ clearance m s
     unfolding ready made
@@ -109,7 +108,7 @@ module _ (p : Profile) (s o : ℕ) (l : Level) (I : InUse p s o l) where
 
     -- what is left of the get: 8, then 9 and 18
     reading : checks (Get s o Read) (ready m)
-        ≡ unless (dominates (clearance m s) (Present l)) SimpleBroken
+        ≡ unless (dominates (clearance m s) (Some l)) SimpleBroken
         (unless (star_for s (afterwards (Get s o Read) (ready m)).objects) StarBroken
         (unless (wall_for s (afterwards (Get s o Read) (ready m)).objects) WallBroken Granted))
     unfolding checks has implies
@@ -123,7 +122,7 @@ module _ (p : Profile) (s o : ℕ) (l : Level) (I : InUse p s o l) where
   -- two states in which s is enrolled and the object is not live, one of whose clearances dominates the level
   module _ (m n : Monitor) (S : Under p m) (N : Under p n) (here : enrolled m s ≡ true) (there : enrolled n s ≡ true)
       (free : (object m o).live ≡ false) (empty : (object n o).live ≡ false)
-      (above : dominates (clearance m s) (Present l) ≡ true) (not_above : dominates (clearance n s) (Present l) ≡ false) where
+      (above : dominates (clearance m s) (Some l) ≡ true) (not_above : dominates (clearance n s) (Some l) ≡ false) where
     tells-clearance : Differs (Create s o (creation false 0) ∷ ChangeLevel s o l ∷ Get s o Read ∷ []) m n
     unfolding ready made
     tells-clearance =
@@ -144,7 +143,7 @@ gone p m S o h w = ap (λ (k : Object). k.live) (object-there (Delete w o) m S.s
 module _ (p : Profile) (s o : ℕ) (l : Level) (I : InUse p s o l) where
   -- the owner that both have
   read-differs : (m n : Monitor) → Under p m → Under p n → object m o ≡ object n o → enrolled m s ≡ true → enrolled n s ≡ true
-      → dominates (clearance m s) (Present l) ≡ true → dominates (clearance n s) (Present l) ≡ false → Differs (read_at m o s l) m n
+      → dominates (clearance m s) (Some l) ≡ true → dominates (clearance n s) (Some l) ≡ false → Differs (read_at m o s l) m n
   unfolding read_at
   read-differs m n S N same here there above not_above =
       let w = (object m o).owner in
@@ -217,38 +216,38 @@ module _ (p : Profile) (m n : Monitor) (S : Under p m) (N : Under p n) (objects 
       }
 
   -- the level of the one, which the other does not dominate
-  of-first : (x y : Level) → clearance m s ≡ Present x → clearance n s ≡ Present y → level_dominates y x ≡ false
-      → Probe p m n (read_at m slot s x) (Present x ≡ Present y)
+  of-first : (x y : Level) → clearance m s ≡ Some x → clearance n s ≡ Some y → level_dominates y x ≡ false
+      → Probe p m n (read_at m slot s x) (Some x ≡ Some y)
   unfolding dominates
   of-first x y f g h =
-      let e = here_of (Present x) f refl in
+      let e = here_of (Some x) f refl in
       let I = all-inside x (subst LabelFits f (S.sound.formed.clearances_fit s)) (clearance-in p m S s x f) e.0 in
       apart (read-formed p s slot x I m S) (read_short p s slot x I m)
       (read-differs p s slot x I m n S N (objects slot slot-below) e.0 e.1
-      (ap (λ (v : Label). dominates v (Present x)) f ∙ level-refl x) (ap (λ (v : Label). dominates v (Present x)) g ∙ h))
+      (ap (λ (v : Label). dominates v (Some x)) f ∙ level-refl x) (ap (λ (v : Label). dominates v (Some x)) g ∙ h))
 
-  of-second : (x y : Level) → clearance m s ≡ Present x → clearance n s ≡ Present y → level_dominates x y ≡ false
-      → Probe p m n (read_at m slot s y) (Present x ≡ Present y)
+  of-second : (x y : Level) → clearance m s ≡ Some x → clearance n s ≡ Some y → level_dominates x y ≡ false
+      → Probe p m n (read_at m slot s y) (Some x ≡ Some y)
   unfolding dominates
   of-second x y f g h =
-      let e = here_of (Present x) f refl in
+      let e = here_of (Some x) f refl in
       let I = all-inside y (subst LabelFits g (N.sound.formed.clearances_fit s)) (clearance-in p n N s y g) e.0 in
       let same-slot = objects slot slot-below in
       apart (read-formed p s slot y I m S) (read_short p s slot y I m)
       (subst (λ (qs : List Request). Differs qs m n) (read_same p s slot y I m n same-slot)
       (differs-sym (read_at n slot s y) n m
       (read-differs p s slot y I n m N S (sym same-slot) e.1 e.0
-      (ap (λ (v : Label). dominates v (Present y)) g ∙ level-refl y) (ap (λ (v : Label). dominates v (Present y)) f ∙ h))))
+      (ap (λ (v : Label). dominates v (Some y)) g ∙ level-refl y) (ap (λ (v : Label). dominates v (Some y)) f ∙ h))))
 
   -- s has clearance a in the one and b in the other
   clearance-probe : (a b : Label) → clearance m s ≡ a → clearance n s ≡ b → Probe p m n (to_clearance m s a b) (a ≡ b)
   unfolding to_clearance slot level_dominates
-  clearance-probe Absent Absent f g = alike refl refl
-  clearance-probe Absent (Present y) f g = tests.apart (ap present g) (sym (same s s-below) ∙ ap present f)
-  clearance-probe (Present x) Absent f g = tests.apart (here_of (Present x) f refl).1 (ap present g)
-  clearance-probe (Present x) (Present y) f g =
-      comparison-all (λ (qs : List Request). Probe p m n qs (Present x ≡ Present y)) (compare x y) _ _
-      (λ e. alike refl (ap Present ((equal-exactly x y (subst LabelFits f (S.sound.formed.clearances_fit s)).1 (subst LabelFits g (N.sound.formed.clearances_fit s)).1).0 e)))
+  clearance-probe None None f g = alike refl refl
+  clearance-probe None (Some y) f g = tests.apart (ap present g) (sym (same s s-below) ∙ ap present f)
+  clearance-probe (Some x) None f g = tests.apart (here_of (Some x) f refl).1 (ap present g)
+  clearance-probe (Some x) (Some y) f g =
+      comparison-all (λ (qs : List Request). Probe p m n qs (Some x ≡ Some y)) (compare x y) _ _
+      (λ e. alike refl (ap Some ((equal-exactly x y (subst LabelFits f (S.sound.formed.clearances_fit s)).1 (subst LabelFits g (N.sound.formed.clearances_fit s)).1).0 e)))
       (λ e. of-first x y f g (level-back x y ∙ ap (λ (c : Comparison). equal_or_above (mirror c)) e))
       (λ e. of-second x y f g (ap equal_or_above e))
       (λ e. of-first x y f g (level-back x y ∙ ap (λ (c : Comparison). equal_or_above (mirror c)) e))

@@ -7,15 +7,14 @@ use mathlib.Core.Bool.{true, false, not, cond}
 use lib.Dec.{eqb}
 use borrow.Author.Tests.{eq-eqb, eqb-true}
 use Rattle.model.specs.declared.Level.{Level}
-use Rattle.model.specs.declared.Label.{Label}
-use Rattle.model.specs.declared.Label.TheVariants.{Absent, Present}
+use Rattle.model.specs.Levels.{Label, present, same_label}
+use Rattle.std.specs.Prelude.{Some, None}
 use Rattle.model.specs.declared.Object.{Object}
 use Rattle.model.specs.declared.Profile.{Profile}
 use Rattle.model.specs.declared.Monitor.{Monitor}
 use Rattle.model.specs.declared.Mode.{Mode}
 use Rattle.model.specs.declared.Request.{Request}
 use Rattle.model.specs.declared.Request.TheVariants.{Get, Release, Delete, ChangeLevel, SetCompanies}
-use Rattle.model.specs.Levels.{present, same_label}
 use Rattle.model.specs.Modes.{has}
 use Rattle.model.specs.State.{enrolled, object, rights_of, held_by}
 use Rattle.model.specs.Decisions.{number}
@@ -33,7 +32,7 @@ use Rattle.equal_images.proofs.Objects.{tells-enrolment, tells-life, tells-owner
 swap : {a b : ℕ} → a ≢ b → b ≢ a
 swap h e = h (sym e)
 
-unlike : (y : Level) → same_label Absent (Present y) ≡ false
+unlike : (y : Level) → same_label None (Some y) ≡ false
 unfolding same_label
 unlike y = refl
 
@@ -82,23 +81,23 @@ module _ (p : Profile) (m n : Monitor) (S : Under p m) (N : Under p n) where
       module _ (owned : (object m o).owner ≡ (object n o).owner) where
         label-probe : (a b : Label) → (object m o).label ≡ a → (object n o).label ≡ b → Probe p m n (to_label (object m o).owner o a b) (a ≡ b)
         unfolding to_label when Told
-        label-probe Absent Absent j q = alike refl refl
-        label-probe Absent (Present y) j q =
+        label-probe None None j q = alike refl refl
+        label-probe None (Some y) j q =
             probe-when p m n S.profile N.profile true (ChangeLevel (object m o).owner o y) (λ e. clash e)
             (λ e. live-or-same
             (λ a b.
-            let t = tells-label p n m N S back o o-below b a y q (ap (λ (k : Label). same_label k (Present y)) j ∙ unlike y) in
+            let t = tells-label p n m N S back o o-below b a y q (ap (λ (k : Label). same_label k (Some y)) j ∙ unlike y) in
             subst (λ (w : ℕ). Told (ChangeLevel w o y)) (sym owned) (t.0, swap t.1))
             (λ w. label-clash (object n o).label (object m o).label (ap present q) (ap present j) (sym (ap (λ (k : Object). k.label) w))))
-        label-probe (Present x) b j q =
-            probe-when p m n S.profile N.profile (not (same_label (Present x) b)) (ChangeLevel (object m o).owner o x)
-            (λ e. same-label (Present x) b (not-off _ e))
+        label-probe (Some x) b j q =
+            probe-when p m n S.profile N.profile (not (same_label (Some x) b)) (ChangeLevel (object m o).owner o x)
+            (λ e. same-label (Some x) b (not-off _ e))
             (λ e. live-or-same
-            (λ a c. tells-label p m n S N same o o-below a c x j (ap (λ (k : Label). same_label k (Present x)) q ∙ turned b (not_on _ e)))
-            (λ w. tests.apart (label_same (Present x) b (sym j ∙ ap (λ (k : Object). k.label) w ∙ q)) (not_on _ e)))
+            (λ a c. tells-label p m n S N same o o-below a c x j (ap (λ (k : Label). same_label k (Some x)) q ∙ turned b (not_on _ e)))
+            (λ w. tests.apart (label_same (Some x) b (sym j ∙ ap (λ (k : Object). k.label) w ∙ q)) (not_on _ e)))
           where
-            turned : (b : Label) → same_label (Present x) b ≡ false → same_label b (Present x) ≡ false
-            turned b h = split (same_label b (Present x)) (λ e. tests.apart (label_same (Present x) b (sym (same-label b (Present x) e))) h) (λ e. e)
+            turned : (b : Label) → same_label (Some x) b ≡ false → same_label b (Some x) ≡ false
+            turned b h = split (same_label b (Some x)) (λ e. tests.apart (label_same (Some x) b (sym (same-label b (Some x) e))) h) (λ e. e)
 
       probe-label : (object m o).owner ≡ (object n o).owner → Probe p m n (by_label m n o) ((object m o).label ≡ (object n o).label)
       unfolding by_label

@@ -10,7 +10,7 @@ use lib.ListN.{drop}
 use lib.Dec.{eqb, lit<}
 use borrow.Author.Tests.{eq-eqb, eqb-true, leb-true}
 use Rattle.model.specs.declared.Level.{Level}
-use Rattle.model.specs.declared.Label.TheVariants.{Present}
+use Rattle.std.specs.Prelude.{Some}
 use Rattle.model.specs.declared.Profile.{Profile}
 use Rattle.model.specs.declared.Monitor.{Monitor}
 use Rattle.model.specs.declared.Mode.{Mode}
@@ -130,7 +130,7 @@ module _ (p : Profile) (m n : Monitor) (S : Under p m) (N : Under p n) where
               split (owns (object m o).owner (object n o))
               (λ e. apart (eq-eqb (object m o).owner (object n o).owner (sym (eqb-true (object n o).owner (object m o).owner e))) h) (λ e. e)
 
-      pub tells-label : (l : Level) → (object m o).label ≡ Present l → same_label (object n o).label (Present l) ≡ false
+      pub tells-label : (l : Level) → (object m o).label ≡ Some l → same_label (object n o).label (Some l) ≡ false
           → Formed p (ChangeLevel (object m o).owner o l)
           × (number (step (ChangeLevel (object m o).owner o l) m).decision ≢ number (step (ChangeLevel (object m o).owner o l) n).decision)
       unfolding already

@@ -13,10 +13,9 @@ use Rattle.model.specs.declared.Monitor.{Monitor}
 use Rattle.model.specs.declared.Mode.{Mode}
 use Rattle.model.specs.declared.Mode.TheVariants.{Read, Write, Append, Execute}
 use Rattle.model.specs.declared.Request.{Request}
-use Rattle.model.specs.declared.Decoded.{Decoded}
+use Rattle.model.specs.Requests.{Decoded, encode, decode}
 use Rattle.model.specs.declared.Response.{Response}
 use Rattle.model.specs.Decisions.{number}
-use Rattle.model.specs.Requests.{encode, decode}
 use Rattle.model.specs.Rules.{step}
 use Rattle.model.specs.Runs.{carry_out, respond, replies}
 use Rattle.model.proofs.Tests.{clash}

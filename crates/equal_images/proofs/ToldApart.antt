@@ -9,13 +9,12 @@ use mathlib.Core.List.{List, [], ◌∷◌, map}
 use lib.ListN.{length}
 use Rattle.bits.specs.Bits.{Bytes}
 use Rattle.model.specs.declared.Level.{Level}
-use Rattle.model.specs.declared.Label.{Label}
-use Rattle.model.specs.declared.Label.TheVariants.{Absent, Present}
+use Rattle.model.specs.Levels.{Label, compare}
+use Rattle.std.specs.Prelude.{Some, None}
 use Rattle.model.specs.declared.Profile.{Profile}
 use Rattle.model.specs.declared.Monitor.{Monitor}
 use Rattle.model.specs.declared.Mode.{Mode}
 use Rattle.model.specs.declared.Request.{Request}
-use Rattle.model.specs.Levels.{compare}
 use Rattle.model.specs.State.{empty_monitor, clearance, object}
 use Rattle.model.specs.Decisions.{refuses}
 use Rattle.model.specs.Requests.{encode}
@@ -57,9 +56,9 @@ few-modes f h = few-or _ _ (h _) (few-or _ _ (h _) (few-or _ _ (h _) (h _)))
 module _ (m n : Monitor) where
   few-label : (s o : ℕ) (a b : Label) → Few (to_label s o a b)
   unfolding to_label
-  few-label s o Absent Absent = omega arith
-  few-label s o Absent (Present b) = omega arith
-  few-label s o (Present a) b = few-when _ _
+  few-label s o None None = omega arith
+  few-label s o None (Some b) = omega arith
+  few-label s o (Some a) b = few-when _ _
 
   few-object : (o : ℕ) → Few (by_object m n o)
   unfolding by_object by_label by_companies by_right by_access
@@ -74,9 +73,9 @@ few-read m o s l = cond-all Few (object m o).live _ _ (λ e. omega arith) (λ e.
 
 few-clearance : (m : Monitor) (s : ℕ) (a b : Label) → Few (to_clearance m s a b)
 unfolding to_clearance
-few-clearance m s Absent b = omega arith
-few-clearance m s (Present a) Absent = omega arith
-few-clearance m s (Present a) (Present b) =
+few-clearance m s None b = omega arith
+few-clearance m s (Some a) None = omega arith
+few-clearance m s (Some a) (Some b) =
     comparison-all Few (compare a b) _ _ (λ e. omega arith) (λ e. few-read m _ s a) (λ e. few-read m _ s b) (λ e. few-read m _ s a)
 
 pub at-most-four : (m n : Monitor) → length (distinguish m n) ≤ 4

@@ -4,7 +4,7 @@ use Prim.Native.Nat.{ℕ, ◌<◌}
 use mathlib.Core.Path.{◌≡◌, sym, subst}
 use mathlib.Core.Bool.{true}
 use Rattle.model.specs.declared.Level.{Level}
-use Rattle.model.specs.declared.Label.TheVariants.{Present}
+use Rattle.std.specs.Prelude.{Some}
 use Rattle.model.specs.declared.Profile.{Profile}
 use Rattle.model.specs.declared.Monitor.{Monitor}
 use Rattle.model.specs.declared.Request.{Request}
@@ -32,10 +32,10 @@ module _ (p : Profile) (m : Monitor) (U : Under p m) where
   pub first-in : 0 < p.objects
   first-in = subst (λ (k : Profile). 0 < k.objects) U.profile U.sound.inside.fitting_profile.one_object
 
-  pub clearance-in : (s : ℕ) (l : Level) → clearance m s ≡ Present l → LevelInside p l
+  pub clearance-in : (s : ℕ) (l : Level) → clearance m s ≡ Some l → LevelInside p l
   clearance-in s l e = subst (λ (k : Profile). LevelInside k l) U.profile (subst (LabelInside m.profile) e (U.sound.inside.clearances_inside s))
 
-  pub label-in : (o : ℕ) (l : Level) → (object m o).label ≡ Present l → LevelInside p l
+  pub label-in : (o : ℕ) (l : Level) → (object m o).label ≡ Some l → LevelInside p l
   label-in o l e = subst (λ (k : Profile). LevelInside k l) U.profile (subst (LabelInside m.profile) e (U.sound.inside.labels_inside o))
 
   pub under-afterwards : (q : Request) → Formed p q → checks q m ≡ Granted → Under p (afterwards q m)

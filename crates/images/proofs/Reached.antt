@@ -9,17 +9,15 @@ use mathlib.Core.List.{List, ◌++◌, map}
 use lib.ListN.{take}
 use Rattle.bits.specs.Laws.{length-bits_to_bytes}
 use Rattle.model.specs.declared.Level.{Level}
-use Rattle.model.specs.declared.Label.TheVariants.{Present}
+use Rattle.std.specs.Prelude.{Some}
 use Rattle.model.specs.declared.Profile.{Profile}
 use Rattle.model.specs.declared.Monitor.{Monitor}
 use Rattle.model.specs.declared.Request.{Request}
-use Rattle.model.specs.declared.Decoded.{Decoded}
-use Rattle.model.specs.declared.Decoded.TheVariants.{Says}
+use Rattle.model.specs.Requests.{Decoded, decode}
 use Rattle.model.specs.declared.Decision.TheVariants.{Granted, ShortBuffer}
 use Rattle.model.specs.State.{widest, empty_monitor, clearance, enrolled, object}
 use Rattle.model.specs.Profiles.{ProfileFits, LevelInside, LabelInside, Inside}
 use Rattle.model.specs.Decisions.{number, refuses}
-use Rattle.model.specs.Requests.{decode}
 use Rattle.model.specs.Rules.{step}
 use Rattle.model.specs.Runs.{carry_out, respond, after}
 use Rattle.model.specs.Journal.{Journaled, without_entries, Act, asks}
@@ -101,8 +99,8 @@ reached-inside m R = (sound-reached m R).inside
 pub left-inside : (b : Beginning) → Accepted b → (k : List Act) → ProfileFits (beginning_profile b)
     × ((s : ℕ) → enrolled (left b k) s ≡ true → s < (beginning_profile b).subjects)
     × ((o : ℕ) → (object (left b k) o).live ≡ true → o < (beginning_profile b).objects)
-    × ((s : ℕ) (l : Level) → clearance (left b k) s ≡ Present l → LevelInside (beginning_profile b) l)
-    × ((o : ℕ) (l : Level) → (object (left b k) o).label ≡ Present l → LevelInside (beginning_profile b) l)
+    × ((s : ℕ) (l : Level) → clearance (left b k) s ≡ Some l → LevelInside (beginning_profile b) l)
+    × ((o : ℕ) (l : Level) → (object (left b k) o).label ≡ Some l → LevelInside (beginning_profile b) l)
 left-inside b e k =
     let I = (sound-left b e k).inside in
     let p = left-profile b e k in (
@@ -126,6 +124,6 @@ fills m buffer e =
 -- ---- what a byte string says
 
 -- the response to bytes that say a request to the monitor, under its profile
-pub respond-says : (g : List ℕ) (q : Request) (m : Monitor) → decode m.profile g ≡ Says q → respond g m ≡ step q m
+pub respond-says : (g : List ℕ) (q : Request) (m : Monitor) → decode m.profile g ≡ Some q → respond g m ≡ step q m
 unfolding respond
 respond-says g q m e = ap (λ (d : Decoded). carry_out d m) e

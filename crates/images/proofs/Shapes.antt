@@ -9,7 +9,7 @@ use lib.ListN.{length, take, drop, length-map, length-replicate}
 use Rattle.bits.specs.Bits.{bytes_to_bits, first}
 use Rattle.bits.specs.Laws.{from_bits-take}
 use Rattle.bits.specs.Records.{length_cut}
-use Rattle.model.specs.declared.Label.TheVariants.{Absent}
+use Rattle.std.specs.Prelude.{None}
 use Rattle.model.specs.declared.Subject.{Subject}
 use Rattle.model.specs.declared.Profile.{Profile}
 use Rattle.model.specs.declared.Monitor.{Monitor}
@@ -45,7 +45,7 @@ fresh-shape p l t =
 
 label-shape : (b : List Bool) → LabelFits (label_from b)
 unfolding label_from
-label-shape b = cond-all LabelFits (first b) _ Absent (λ e. (from_bits-take class_width (drop 1 b), from_bits-take needs_width (drop (1 + class_width) b))) (λ e. tt)
+label-shape b = cond-all LabelFits (first b) _ None (λ e. (from_bits-take class_width (drop 1 b), from_bits-take needs_width (drop (1 + class_width) b))) (λ e. tt)
 
 live-shape : (b : List Bool) → ObjectShape (live_from b)
 live-shape b =

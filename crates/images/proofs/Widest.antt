@@ -9,19 +9,17 @@ use mathlib.Core.List.{List, [], ◌∷◌}
 use lib.ListN.{length}
 use lib.Dec.{eqb}
 use Rattle.model.specs.declared.Level.{Level}
-use Rattle.model.specs.declared.Label.{Label}
-use Rattle.model.specs.declared.Label.TheVariants.{Absent, Present}
+use Rattle.model.specs.Levels.{Label}
+use Rattle.std.specs.Prelude.{Some, None}
 use Rattle.model.specs.declared.Object.{Object}
 use Rattle.model.specs.declared.Profile.{Profile}
 use Rattle.model.specs.declared.Monitor.{Monitor}
-use Rattle.model.specs.declared.Decoded.{Decoded}
-use Rattle.model.specs.declared.Decoded.TheVariants.{Malformed, Says}
+use Rattle.model.specs.Requests.{Decoded, fields, fields_formed, level_of, well_formed, request, decode_fields, decode}
 use Rattle.model.specs.declared.Decision.{Decision}
 use Rattle.model.specs.declared.Decision.TheVariants.{WrongLength, StrayBits, OutsideProfile}
 use Rattle.model.specs.Tests.{unless, first_failing}
 use Rattle.model.specs.State.{widest, no_object, clearance, object, fresh, LabelFits}
 use Rattle.model.specs.Profiles.{ProfileFits, profile_fits, LevelInside, LabelInside, absent_beyond, Inside}
-use Rattle.model.specs.Requests.{fields, fields_formed, level_of, well_formed, request, decode_fields, decode}
 use Rattle.model.specs.Runs.{carry_out, respond}
 use Rattle.model.specs.Layout.{table_size, image_size}
 use Rattle.model.specs.Reading.{table_from, table_form, image_form, monitor_from, state_list, beginning_list, table_checks, image_checks, begin, read_table, read_image}
@@ -62,7 +60,7 @@ formed-widest b = and_same (fields_formed (fields b)) _ (λ e. fields_within wid
 
 pub decode-widest : (b : List ℕ) → decode widest b ≡ base_decode b
 unfolding decode decode_fields base_decode
-decode-widest b = ap (λ (w : Bool). cond (eqb (length b) 6) (cond w (Says (request (fields b))) Malformed) Malformed) (formed-widest b)
+decode-widest b = ap (λ (w : Bool). cond (eqb (length b) 6) (cond w (Some (request (fields b))) None) None) (formed-widest b)
 
 -- the response of a monitor of the widest profile
 pub respond-widest : (b : List ℕ) (m : Monitor) → m.profile ≡ widest → respond b m ≡ carry_out (base_decode b) m
@@ -72,8 +70,8 @@ respond-widest b m e = ap (λ (d : Decoded). carry_out d m) (ap (λ (p : Profile
 -- ---- tables and images
 
 label-widest : (l : Label) → LabelFits l → LabelInside widest l
-label-widest Absent f = tt
-label-widest (Present l) f = level-widest l f.0
+label-widest None f = tt
+label-widest (Some l) f = level-widest l f.0
 
 fits-widest : ProfileFits widest
 unfolding profile_fits

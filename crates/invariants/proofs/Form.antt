@@ -10,13 +10,12 @@ use lib.Dec.{lit<}
 use Rattle.model.specs.declared.Subject.{Subject}
 use Rattle.model.specs.declared.Object.{Object}
 use Rattle.model.specs.declared.Monitor.{Monitor}
-use Rattle.model.specs.declared.Label.{Label}
-use Rattle.model.specs.declared.Label.TheVariants.{Present}
+use Rattle.model.specs.Levels.{Label, present}
+use Rattle.std.specs.Prelude.{Some}
 use Rattle.model.specs.declared.Creation.{Creation}
 use Rattle.model.specs.declared.Request.{Request}
 use Rattle.model.specs.declared.Request.TheVariants.{Get, Release, Give, Rescind, Create, Delete, ChangeLevel, SetCompanies}
 use Rattle.model.specs.declared.Decision.TheVariants.{Granted}
-use Rattle.model.specs.Levels.{present}
 use Rattle.model.specs.State.{no_modes, no_object, clearance_at, enrolled, object, rights_of, with_held, with_rights, with_label, with_companies, LabelFits, ObjectShape, WellFormedObject, WellFormed}
 use Rattle.model.specs.Modes.{remove}
 use Rattle.model.specs.Requests.{InRange}
@@ -173,5 +172,5 @@ module _ (m : Monitor) where
       let g = granted-create m s o c e in
       created-formed m.subjects s c r.0 r.2 g.there
   changed-formed (Delete s o) r W e = no-object-formed m.subjects
-  changed-formed (ChangeLevel s o v) r W e = rest-formed m.subjects (object m o) (Present v) _ (W.objects_formed o) (granted-change m s o v e).live r.2 (W.objects_formed o).shape.companies_fit
+  changed-formed (ChangeLevel s o v) r W e = rest-formed m.subjects (object m o) (Some v) _ (W.objects_formed o) (granted-change m s o v e).live r.2 (W.objects_formed o).shape.companies_fit
   changed-formed (SetCompanies s o n) r W e = rest-formed m.subjects (object m o) _ n (W.objects_formed o) (granted-companies m s o n e).live (W.objects_formed o).shape.label_fits r.2

@@ -4,7 +4,7 @@ use Prim.Native.Nat.{ℕ}
 use mathlib.Core.Path.{◌≡◌, refl}
 use mathlib.Core.Bool.{true, not, ◌&&◌}
 use Rattle.model.specs.declared.Level.{Level}
-use Rattle.model.specs.declared.Label.TheVariants.{Present}
+use Rattle.std.specs.Prelude.{Some}
 use Rattle.model.specs.declared.Monitor.{Monitor}
 use Rattle.model.specs.declared.Mode.{Mode}
 use Rattle.model.specs.declared.Creation.{Creation}
@@ -115,7 +115,7 @@ pub record GrantedChange (m : Monitor) (s o : ℕ) (l : Level) : Type 0 where
   pub there : enrolled m s ≡ true
   pub live : (object m o).live ≡ true
   pub owned : owns s (object m o) ≡ true
-  pub raised : not_lowered (object m o).label (Present l) ≡ true
+  pub raised : not_lowered (object m o).label (Some l) ≡ true
   pub simple : simple_all m.subjects (changed (ChangeLevel s o l) (object m o)) ≡ true
   pub star : star_all (afterwards (ChangeLevel s o l) m).objects ≡ true
   pub rise : labels_rise (afterwards (ChangeLevel s o l) m).objects ≡ true

@@ -13,11 +13,10 @@ use lib.ListN.{set}
 use Rattle.model.specs.declared.Object.{Object}
 use Rattle.model.specs.declared.Monitor.{Monitor}
 use Rattle.model.specs.declared.Creation.{Creation}
-use Rattle.model.specs.declared.Label.{Label}
+use Rattle.model.specs.Levels.{Label, Dominates, present}
 use Rattle.model.specs.declared.Request.{Request}
 use Rattle.model.specs.declared.Request.TheVariants.{Get, Release, Give, Rescind, Create, Delete, ChangeLevel, SetCompanies}
 use Rattle.model.specs.declared.Decision.TheVariants.{Granted}
-use Rattle.model.specs.Levels.{Dominates, present}
 use Rattle.model.specs.State.{no_object, object_at, object, ObjectShape, WellFormed}
 use Rattle.model.specs.Hierarchy.{parent_at, Meets, here, further, Ends, none, onward, Below, below, without_below, parent_live, label_under, labels_rise, Hierarchy}
 use Rattle.model.specs.Requests.{InRange}

@@ -6,8 +6,8 @@ use mathlib.Core.Logic.{◌↔◌, ◌≢◌, ⊎_elim}
 use mathlib.Core.Bool.{true}
 use mathlib.Core.List.{List}
 use Rattle.model.specs.declared.Object.{Object}
-use Rattle.model.specs.declared.Label.{Label}
-use Rattle.model.specs.declared.Label.TheVariants.{Absent}
+use Rattle.model.specs.Levels.{Label}
+use Rattle.std.specs.Prelude.{None}
 use Rattle.model.specs.declared.Monitor.{Monitor}
 use Rattle.model.specs.declared.Mode.{Mode}
 use Rattle.model.specs.Modes.{needs_label}
@@ -39,7 +39,7 @@ module _ (m : Monitor) (S : Sound m) (s o : ℕ) (x : Mode) (s-below : s < 16) (
   label_same : (p : ℕ) → (object (with_access m s o x) p).label ≡ (object m p).label
   label_same p = ap (λ (ob : Object). ob.label) (same-unheld m s o x p)
 
-  table-added : (needs_label x ≡ true → (object m o).label ≢ Absent) → KeptByHeld m s o x → Tabled (with_access m s o x)
+  table-added : (needs_label x ≡ true → (object m o).label ≢ None) → KeptByHeld m s o x → Tabled (with_access m s o x)
   table-added there K t p q y z g h =
       rw (label_same p, label_same q)
       (⊎_elim
@@ -54,7 +54,7 @@ module _ (m : Monitor) (S : Sound m) (s o : ℕ) (x : Mode) (s-below : s < 16) (
       (held-or-added m S.formed s o x t p y g))
 
   -- adding the access, to an object that is labelled where its mode needs it, keeps star exactly where the entry with each access held is kept
-  pub star-added : (needs_label x ≡ true → (object m o).label ≢ Absent) → Star (with_access m s o x) ↔ KeptByHeld m s o x
+  pub star-added : (needs_label x ≡ true → (object m o).label ≢ None) → Star (with_access m s o x) ↔ KeptByHeld m s o x
   star-added there = (
     λ T p h e.
         let k = (star-table (with_access m s o x)).0 T s p o h x (held-still m S.formed s o x s p h e) (holds-now m S s o x s-below o-below) in

@@ -8,7 +8,7 @@ use mathlib.Core.Bool.{Bool, true, false, not, cond}
 use borrow.Author.Tests.{leb-true, eqb-true}
 use Rattle.model.specs.declared.Object.{Object}
 use Rattle.model.specs.declared.Monitor.{Monitor}
-use Rattle.model.specs.declared.Label.TheVariants.{Present}
+use Rattle.std.specs.Prelude.{Some}
 use Rattle.model.specs.declared.Request.{Request}
 use Rattle.model.specs.declared.Request.TheVariants.{Get, Release, Give, Rescind, Create, Delete, ChangeLevel, SetCompanies}
 use Rattle.model.specs.declared.Decision.TheVariants.{Granted, Already}
@@ -38,7 +38,7 @@ record_same (Rescind s t o x) ob e =
 record_same (Create s o c) ob e = clash (sym e)
 record_same (Delete s o) ob e = clash (sym e)
 record_same (ChangeLevel s o l) ob e =
-    with-label-same ob (Present l) (sym (same-label ob.label (Present l) e))
+    with-label-same ob (Some l) (sym (same-label ob.label (Some l) e))
 record_same (SetCompanies s o n) ob e = with-companies-same ob n (sym (eqb-true ob.companies n e))
 
 pub state-same : (q : Request) (m : Monitor) → already q (object m (target q)) ≡ true → afterwards q m ≡ m

@@ -9,7 +9,7 @@ use Rattle.model.specs.declared.Subject.{Subject}
 use Rattle.model.specs.declared.Object.{Object}
 use Rattle.model.specs.declared.Monitor.{Monitor}
 use Rattle.model.specs.declared.Mode.{Mode}
-use Rattle.model.specs.declared.Label.TheVariants.{Present}
+use Rattle.std.specs.Prelude.{Some}
 use Rattle.model.specs.declared.Request.{Request}
 use Rattle.model.specs.declared.Request.TheVariants.{Get, Release, Give, Rescind, Create, Delete, ChangeLevel, SetCompanies}
 use Rattle.model.specs.declared.Decision.TheVariants.{Granted}
@@ -134,7 +134,7 @@ module _ (m : Monitor) (W : WellFormed m) (S : Secure m) where
       record {
         discretionary = λ j. S.discretionary j o;
         labelled = λ j y w n. refl;
-        simple = simple-out m.subjects (with_label (object m o) (Present v)) (W.objects_formed o).shape.held_length (granted-change m s o v e).simple;
+        simple = simple-out m.subjects (with_label (object m o) (Some v)) (W.objects_formed o).shape.held_length (granted-change m s o v e).simple;
       }
   changed-secure (SetCompanies s o n) e =
       record { discretionary = λ j. S.discretionary j o; labelled = λ j. S.labelled j o; simple = λ j. S.simple j o }

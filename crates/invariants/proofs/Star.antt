@@ -8,12 +8,11 @@ use lib.ListN.{length, set}
 use Rattle.model.specs.declared.Object.{Object}
 use Rattle.model.specs.declared.Monitor.{Monitor}
 use Rattle.model.specs.declared.Mode.{Mode}
-use Rattle.model.specs.declared.Label.{Label}
+use Rattle.model.specs.Levels.{Label, Dominates}
 use Rattle.model.specs.declared.Request.{Request}
 use Rattle.model.specs.declared.Request.TheVariants.{Get, Release, Give, Rescind, Create, Delete, ChangeLevel, SetCompanies}
 use Rattle.model.specs.declared.Decision.TheVariants.{Granted}
 use Rattle.model.specs.Tests.{implies}
-use Rattle.model.specs.Levels.{Dominates}
 use Rattle.model.specs.Modes.{has, observes, alters, needs_label}
 use Rattle.model.specs.State.{no_object, object_at, held_by, WellFormed}
 use Rattle.model.specs.Properties.{Secure, Star}

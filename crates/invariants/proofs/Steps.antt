@@ -8,15 +8,14 @@ use mathlib.Core.Bool.{true, cond}
 use mathlib.Core.List.{List, [], ◌∷◌}
 use Rattle.model.specs.declared.Monitor.{Monitor}
 use Rattle.model.specs.declared.Request.{Request}
-use Rattle.model.specs.declared.Decoded.{Decoded}
-use Rattle.model.specs.declared.Decoded.TheVariants.{Malformed, Says}
+use Rattle.model.specs.Requests.{Decoded, decode, InRange, Within}
+use Rattle.std.specs.Prelude.{Some, None}
 use Rattle.model.specs.declared.Decision.TheVariants.{Granted, Already}
 use Rattle.model.specs.declared.Response.{Response}
 use Rattle.model.specs.State.{no_object, object_at, object, WellFormedObject}
 use Rattle.model.specs.Profiles.{Inside}
 use Rattle.model.specs.Properties.{Secure}
 use Rattle.model.specs.Decisions.{refuses}
-use Rattle.model.specs.Requests.{decode, InRange, Within}
 use Rattle.model.specs.Rules.{target, already, afterwards, check_list, checks, answer, step}
 use Rattle.model.specs.Runs.{carry_out, respond, after}
 use Rattle.model.proofs.Tests.{cond-true, cond-false}
@@ -94,13 +93,13 @@ sound-step q m r v S = step-all Sound q m S (sound-afterwards q m r v S)
 
 -- the request that bytes say, or none
 pub respond-all : (P : Response → Type 0) (b : List ℕ) (m : Monitor)
-    → (decode m.profile b ≡ Malformed → P (carry_out Malformed m)) → ((q : Request) → decode m.profile b ≡ Says q → P (step q m)) → P (respond b m)
+    → (decode m.profile b ≡ None → P (carry_out None m)) → ((q : Request) → decode m.profile b ≡ Some q → P (step q m)) → P (respond b m)
 unfolding respond
 respond-all P b m f g = go (decode m.profile b) f g
   where
-    go : (d : Decoded) → (d ≡ Malformed → P (carry_out Malformed m)) → ((q : Request) → d ≡ Says q → P (step q m)) → P (carry_out d m)
-    go Malformed f g = f refl
-    go (Says q) f g = g q refl
+    go : (d : Decoded) → (d ≡ None → P (carry_out None m)) → ((q : Request) → d ≡ Some q → P (step q m)) → P (carry_out d m)
+    go None f g = f refl
+    go (Some q) f g = g q refl
 
 pub sound-respond : (b : List ℕ) (m : Monitor) → Sound m → Sound (respond b m).monitor
 sound-respond b m S =

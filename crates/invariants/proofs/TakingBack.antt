@@ -14,12 +14,11 @@ use lib.Dec.{eqb}
 use borrow.Author.Tests.{eqb-true, eq-eqb, ne_eqb}
 use Rattle.model.specs.declared.Monitor.{Monitor}
 use Rattle.model.specs.declared.Request.{Request}
-use Rattle.model.specs.declared.Decoded.{Decoded}
-use Rattle.model.specs.declared.Decoded.TheVariants.{Malformed, Says}
+use Rattle.model.specs.Requests.{Decoded, decode}
+use Rattle.std.specs.Prelude.{Some, None}
 use Rattle.model.specs.declared.Decision.TheVariants.{Granted}
 use Rattle.model.specs.State.{with_object}
 use Rattle.model.specs.Decisions.{number}
-use Rattle.model.specs.Requests.{decode}
 use Rattle.model.specs.Rules.{step}
 use Rattle.model.specs.Runs.{carry_out, respond, reply, after, replies}
 use Rattle.model.specs.Journal.{Entry, Journaled, journal_size, entered, without_entries, entry_of, takes_children, journal_after, ask, restored, take_back, taking_back, Act, asks, takes_back, answer_to, acted, answers}
@@ -41,7 +40,7 @@ pub record Enters (j k : Journaled) : Type 0 where
 leaves : Decoded → Journaled → Journaled
 leaves d j = record { monitor = (carry_out d j.monitor).monitor; journal = journal_after d j.monitor j.journal }
 
-unchanged : (q : Request) (j : Journaled) → number (step q j.monitor).decision ≢ 0 → (step q j.monitor).monitor ≡ j.monitor → leaves (Says q) j ≡ j
+unchanged : (q : Request) (j : Journaled) → number (step q j.monitor).decision ≢ 0 → (step q j.monitor).monitor ≡ j.monitor → leaves (Some q) j ≡ j
 unfolding leaves
 unchanged q j n s =
     let same = cond-false (eqb (number (step q j.monitor).decision) 0) _ j.journal (ne_eqb _ 0 n) in
@@ -52,8 +51,8 @@ said-cases : {P : Type 0} (d : Decoded) (j : Journaled)
     → (number (carry_out d j.monitor).decision ≡ 0 → said_to_take d j.monitor ≡ true → (leaves d j).journal ≡ [] → P)
     → (number (carry_out d j.monitor).decision ≢ 0 → leaves d j ≡ j → P) → P
 unfolding leaves
-said-cases Malformed j f t g = g (λ e. absurd (omega (arith, e))) refl
-said-cases (Says q) j f t g =
+said-cases None j f t g = g (λ e. absurd (omega (arith, e))) refl
+said-cases (Some q) j f t g =
     let m = j.monitor in
     step-cases q m
     (λ granted was n s. let other : number (step q m).decision ≢ 0 = λ e. absurd (omega (arith, n, e)) in g other (unchanged q j other s))

@@ -1,11 +1,9 @@
 -- What is said of takings-back (change request §9): which requests took children, how many requests changed the state, a state that
 -- requests alone reach, and a history of whole states.
 -- Assumes nothing.
-use Rattle.std.specs.Prelude.{ℕ, suc, ◌≡◌, Bool, true, false, cond, not, ◌&&◌, List, [], ◌∷◌, take, eqb}
+use Rattle.std.specs.Prelude.{ℕ, suc, ◌≡◌, Bool, true, false, cond, not, ◌&&◌, List, [], ◌∷◌, take, eqb, Some, None}
 use Rattle.model.specs.declared.Monitor.{Monitor}
-use Rattle.model.specs.declared.Decoded.{Decoded}
-use Rattle.model.specs.declared.Decoded.TheVariants.{Malformed, Says}
-use Rattle.model.specs.Requests.{decode}
+use Rattle.model.specs.Requests.{Decoded, decode}
 use Rattle.model.specs.Runs.{respond, reply, after}
 use Rattle.model.specs.Journal.{takes_children, Act, asks, takes_back}
 
@@ -16,8 +14,8 @@ zeros (r ∷ rs) = cond (eqb r 0) (suc (zeros rs)) (zeros rs)
 
 -- the bytes were granted and are "A deletion that took children" (change request §11)
 abbrev pub said_to_take : Decoded → Monitor → Bool
-said_to_take Malformed m = false
-said_to_take (Says q) m = takes_children q m
+said_to_take None m = false
+said_to_take (Some q) m = takes_children q m
 
 unfoldable pub took_children : List ℕ → Monitor → Bool
 took_children b m = eqb (reply b m) 0 && said_to_take (decode m.profile b) m

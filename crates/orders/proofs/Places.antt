@@ -8,7 +8,7 @@ use mathlib.Core.Logic.{inl, inr}
 use mathlib.Core.List.Permᴰ
 use mathlib.Core.List.{List, [], ◌∷◌}
 use lib.ListN.{length, get_or}
-use Rattle.orders.specs.Orders.{OrderOf, Each, Some, StandsIn}
+use Rattle.orders.specs.Orders.{OrderOf, Each, OneOf, StandsIn}
 
 -- what holds of each element holds of each in every order
 pub each-order : {A : Type 0} (P : A → Type 0) {xs ys : List A} → OrderOf xs ys → Each P xs → Each P ys
@@ -23,7 +23,7 @@ each_map f [] p = tt
 each_map f (x ∷ xs) p = (f x p.0, each_map f xs p.1)
 
 -- what holds of some element holds of some in every order
-pub some-order : {A : Type 0} (P : A → Type 0) {xs ys : List A} → OrderOf xs ys → Some P xs → Some P ys
+pub some-order : {A : Type 0} (P : A → Type 0) {xs ys : List A} → OrderOf xs ys → OneOf P xs → OneOf P ys
 some-order P Permᴰ.nil q = q
 some-order P (Permᴰ.cons e d) (inl q) = inl (subst P e q)
 some-order P (Permᴰ.cons e d) (inr q) = inr (some-order P d q)
@@ -33,7 +33,7 @@ some-order P (Permᴰ.swap e f) (inr (inr q)) = inr (inr q)
 some-order P (Permᴰ.trans d k) q = some-order P k (some-order P d q)
 
 -- what follows for one element of which both are so
-pub some_out : {A B : Type 0} {P Q : A → Type 0} → ((x : A) → P x → Q x → B) → (xs : List A) → Each P xs → Some Q xs → B
+pub some_out : {A B : Type 0} {P Q : A → Type 0} → ((x : A) → P x → Q x → B) → (xs : List A) → Each P xs → OneOf Q xs → B
 some_out f [] p q = absurd q
 some_out f (x ∷ xs) p (inl q) = f x p.0 q
 some_out f (x ∷ xs) p (inr q) = some_out f xs p.1 q
@@ -42,7 +42,7 @@ some_out f (x ∷ xs) p (inr q) = some_out f xs p.1 q
 pub each_of : {A : Type 0} (P : A → Type 0) {x : A} (xs : List A) → Each P xs → StandsIn x xs → P x
 each_of P xs p = some_out (λ y q e. subst P e q) xs p
 
-pub some_of : {A : Type 0} (P : A → Type 0) {x : A} (xs : List A) → StandsIn x xs → P x → Some P xs
+pub some_of : {A : Type 0} (P : A → Type 0) {x : A} (xs : List A) → StandsIn x xs → P x → OneOf P xs
 some_of P [] q p = q
 some_of P (y ∷ ys) (inl e) p = inl (subst P (sym e) p)
 some_of P (y ∷ ys) (inr q) p = inr (some_of P ys q p)

@@ -20,10 +20,10 @@ Each P [] = Unit {0}
 Each P (x ∷ xs) = P x × Each P xs
 
 -- what holds of some element
-abbrev pub Some : {A : Type 0} → (A → Type 0) → List A → Type 0
-Some P [] = ⊥
-Some P (x ∷ xs) = P x ⊎ Some P xs
+abbrev pub OneOf : {A : Type 0} → (A → Type 0) → List A → Type 0
+OneOf P [] = ⊥
+OneOf P (x ∷ xs) = P x ⊎ OneOf P xs
 
 -- it is an element of the list
 abbrev pub StandsIn : {A : Type 0} → A → List A → Type 0
-StandsIn x xs = Some (λ y. y ≡ x) xs
+StandsIn x xs = OneOf (λ y. y ≡ x) xs

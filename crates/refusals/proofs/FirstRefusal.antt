@@ -11,14 +11,13 @@ use Rattle.model.specs.declared.Profile.{Profile}
 use Rattle.model.specs.declared.Monitor.{Monitor}
 use Rattle.model.specs.declared.Request.{Request}
 use Rattle.model.specs.declared.Request.TheVariants.{Get, Release, Give, Rescind, Create, Delete, ChangeLevel, SetCompanies}
-use Rattle.model.specs.declared.Decoded.{Decoded}
-use Rattle.model.specs.declared.Decoded.TheVariants.{Malformed, Says}
+use Rattle.model.specs.Requests.{Decoded, decode}
+use Rattle.std.specs.Prelude.{Some, None}
 use Rattle.model.specs.declared.Decision.{Decision}
 use Rattle.model.specs.declared.Decision.TheVariants.{Granted, MalformedRequest}
 use Rattle.model.specs.declared.Response.{Response}
 use Rattle.model.specs.State.{empty_monitor}
 use Rattle.model.specs.Decisions.{number, refuses}
-use Rattle.model.specs.Requests.{decode}
 use Rattle.model.specs.Rules.{check_list, checks, step}
 use Rattle.model.specs.Runs.{carry_out, respond, reply}
 use Rattle.model.specs.Reading.{table_checks, image_checks, begin, read_table, read_image}
@@ -64,13 +63,13 @@ pub reply-2-exactly : (g : List ℕ) (m : Monitor) → (reply g m ≡ 2) ↔ Mal
 unfolding respond
 reply-2-exactly g m = (
   λ e. (malformed-exactly m.profile g).0
-      (respond-all (λ (r : Response). number r.decision ≡ 2 → decode m.profile g ≡ Malformed) g m (λ w z. w)
+      (respond-all (λ (r : Response). number r.decision ≡ 2 → decode m.profile g ≡ None) g m (λ w z. w)
       (λ q d z. absurd (never-malformed q m ((reply-is q m MalformedRequest refl).0 z))) e),
   λ w. ap (λ (d : Decoded). number (carry_out d m).decision) ((malformed-exactly m.profile g).1 w),
 )
 
 -- 3 to 9, 14 and 18: the reply is k exactly when cause k holds and no earlier one does
-pub reply-first-cause : (m : Monitor) → Reached m → (g : List ℕ) (q : Request) → decode m.profile g ≡ Says q → (d : Decision) → refuses d ≡ true
+pub reply-first-cause : (m : Monitor) → Reached m → (g : List ℕ) (q : Request) → decode m.profile g ≡ Some q → (d : Decision) → refuses d ≡ true
     → (reply g m ≡ number d) ↔ FirstIn (request_causes q m) d
 reply-first-cause m R g q e d r =
     let A = request-answers m (sound-reached m R) q (decode-range m.profile g q e) in
@@ -79,7 +78,7 @@ reply-first-cause m R g q e d r =
     (λ w. (A.refused d r).0 (a.0 w), λ w. a.1 ((A.refused d r).1 w))
 
 -- 0 or 1: exactly when there is none
-pub reply-no-cause : (m : Monitor) → Reached m → (g : List ℕ) (q : Request) → decode m.profile g ≡ Says q
+pub reply-no-cause : (m : Monitor) → Reached m → (g : List ℕ) (q : Request) → decode m.profile g ≡ Some q
     → (reply g m < 2) ↔ NoneIn (request_causes q m)
 reply-no-cause m R g q e =
     let A = request-answers m (sound-reached m R) q (decode-range m.profile g q e) in

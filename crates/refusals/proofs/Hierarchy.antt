@@ -8,13 +8,12 @@ use mathlib.Core.Logic.{◌⊎◌, inl, inr, ⊎_elim, ◌≢◌}
 use mathlib.Core.Bool.{Bool, true, false}
 use lib.Seq.{get_or-set_other}
 use Rattle.model.specs.declared.Level.{Level}
-use Rattle.model.specs.declared.Label.{Label}
-use Rattle.model.specs.declared.Label.TheVariants.{Absent}
+use Rattle.model.specs.Levels.{Label, Dominates, dominates, present}
+use Rattle.std.specs.Prelude.{None}
 use Rattle.model.specs.declared.Object.{Object}
 use Rattle.model.specs.declared.Monitor.{Monitor}
 use Rattle.model.specs.declared.Request.TheVariants.{ChangeLevel}
 use Rattle.model.specs.Tests.{all_of}
-use Rattle.model.specs.Levels.{Dominates, dominates, present}
 use Rattle.model.specs.State.{object_count, no_object, object}
 use Rattle.model.specs.Hierarchy.{ends, parent_live, parents_hold, label_under, labels_rise}
 use Rattle.model.specs.Rules.{afterwards}
@@ -77,7 +76,7 @@ parents-19 m S e =
 
 -- ---- 20
 
-not-absent : (a : Label) → a ≢ Absent → present a ≡ true
+not-absent : (a : Label) → a ≢ None → present a ≡ true
 not-absent a n = split (present a) (λ e. e) (λ e. absurd (n (absent a e)))
 
 pub rising : (m : Monitor) → labels_rise m.objects ≡ true → ((o : ℕ) × (p : ℕ) × LabelBelow m o p) → ⊥
@@ -89,7 +88,7 @@ not-rising m e =
     all-false (λ (ob : Object). label_under m.objects ob.label ob.parent) no_object m.objects e
     (λ o h u. let b = below (object m o).label (object m o).parent u in (o, b.0, (b.1, b.2, b.3)))
   where
-    below : (a : Label) (q : ℕ) → label_under m.objects a q ≡ false → (p : ℕ) × (q ≡ suc p) × (a ≢ Absent) × (Dominates a (object m p).label → ⊥)
+    below : (a : Label) (q : ℕ) → label_under m.objects a q ≡ false → (p : ℕ) × (q ≡ suc p) × (a ≢ None) × (Dominates a (object m p).label → ⊥)
     below a zero u = clash u
     below a (suc p) u =
         let i = implies-false (present a) (dominates a (object m p).label) u in

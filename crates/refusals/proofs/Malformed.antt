@@ -12,9 +12,8 @@ use borrow.Author.Tests.{eq-eqb, eqb-true, le-leb, leb-true, leb-false, ltb-fals
 use Rattle.model.specs.declared.Profile.{Profile}
 use Rattle.model.specs.declared.Fields.{Fields}
 use Rattle.model.specs.declared.Request.{Request}
-use Rattle.model.specs.declared.Decoded.{Decoded}
-use Rattle.model.specs.declared.Decoded.TheVariants.{Malformed, Says}
-use Rattle.model.specs.Requests.{fields, mode_allowed, unused_zero, parent_within, fields_formed, level_of, within, well_formed, decode}
+use Rattle.model.specs.Requests.{Decoded, fields, mode_allowed, unused_zero, parent_within, fields_formed, level_of, within, well_formed, decode}
+use Rattle.std.specs.Prelude.{Some, None}
 use Rattle.model.specs.Profiles.{level_inside}
 use Rattle.model.proofs.Tests.{split, apart, clash, and_left, and_right, and-false, implies-false, or_cases, or-false, cond-true, cond-false, le-or-lt}
 use Rattle.model.proofs.Within.{within-fields, formed-of, within_of}
@@ -160,7 +159,7 @@ no-class f k e =
     (λ w. absurd (unused-passes f e (inr (inl (k, eqb-false _ _ w)))))
 
 -- bytes that say a request are none of these
-pub says-not-malformed : (p : Profile) (b : List ℕ) (q : Request) → decode p b ≡ Says q → MalformedBytes p b → ⊥
+pub says-not-malformed : (p : Profile) (b : List ℕ) (q : Request) → decode p b ≡ Some q → MalformedBytes p b → ⊥
 says-not-malformed p b q e w =
     let d = decode-says p b q e in
     let f = fields b in
@@ -188,7 +187,7 @@ says-not-malformed p b q e w =
       | parent_outside k h ↦ absurd (omega (arith, h, I.parent (eq-eqb _ _ k)))
     ]
 
-pub malformed-exactly : (p : Profile) (b : List ℕ) → (decode p b ≡ Malformed) ↔ MalformedBytes p b
+pub malformed-exactly : (p : Profile) (b : List ℕ) → (decode p b ≡ None) ↔ MalformedBytes p b
 malformed-exactly p b = (
   λ e. split (eqb (length b) 6)
       (λ l. split (well_formed p (fields b)) (λ w. absurd (not-both (sym e ∙ says-decode p b (eqb-true (length b) 6 l) w))) (fields-fail p b))
@@ -197,12 +196,12 @@ malformed-exactly p b = (
 )
   where
     is_says : Decoded → Bool
-    is_says Malformed = false
-    is_says (Says q) = true
+    is_says None = false
+    is_says (Some q) = true
 
-    not-both : {q : Request} → Malformed ≡ Says q → ⊥
+    not-both : {q : Request} → None ≡ Some q → ⊥
     not-both e = clash (sym (ap is_says e))
 
-    go : (d : Decoded) → ((q : Request) → d ≡ Says q → ⊥) → d ≡ Malformed
-    go Malformed h = refl
-    go (Says q) h = absurd (h q refl)
+    go : (d : Decoded) → ((q : Request) → d ≡ Some q → ⊥) → d ≡ None
+    go None h = refl
+    go (Some q) h = absurd (h q refl)

@@ -4,12 +4,11 @@ use Prim.Native.Nat.{ℕ, ◌<◌}
 use mathlib.Core.Path.{◌≡◌, refl, ap, subst}
 use mathlib.Core.Logic.{◌↔◌, ◌≢◌, ◌⊎◌, ⊎_elim, inl, inr}
 use mathlib.Core.List.{List}
-use Rattle.model.specs.declared.Label.TheVariants.{Absent}
+use Rattle.std.specs.Prelude.{Some, None}
 use Rattle.model.specs.declared.Monitor.{Monitor}
 use Rattle.model.specs.declared.Mode.{Mode}
 use Rattle.model.specs.declared.Mode.TheVariants.{Execute}
 use Rattle.model.specs.declared.Request.TheVariants.{Get}
-use Rattle.model.specs.declared.Decoded.TheVariants.{Says}
 use Rattle.model.specs.declared.Decision.TheVariants.{StarBroken, WallBroken}
 use Rattle.model.specs.declared.Response.{Response}
 use Rattle.model.specs.Modes.{needs_label}
@@ -32,9 +31,9 @@ use Rattle.refusals.specs.First.{FirstIn, row, none}
 use Rattle.refusals.proofs.First.{over}
 use Rattle.refusals.proofs.FirstRefusal.{reply-first-cause, reply-no-cause}
 
-module _ (m : Monitor) (R : Reached m) (g : List ℕ) (s o : ℕ) (x : Mode) (says : decode m.profile g ≡ Says (Get s o x)) where
+module _ (m : Monitor) (R : Reached m) (g : List ℕ) (s o : ℕ) (x : Mode) (says : decode m.profile g ≡ Some (Get s o x)) where
   -- where no label is missing, the star property after the get is the table's
-  by-held : ((x ≢ Execute) × ((object m o).label ≡ Absent) → ⊥) → Star (afterwards (Get s o x) m) ↔ KeptByHeld m s o x
+  by-held : ((x ≢ Execute) × ((object m o).label ≡ None) → ⊥) → Star (afterwards (Get s o x) m) ↔ KeptByHeld m s o x
   unfolding changed
   by-held h =
       let b = decode-range m.profile g (Get s o x) says in

@@ -8,14 +8,13 @@ use mathlib.Core.Bool.{true, false, ◌&&◌}
 use lib.Dec.{leb}
 use borrow.Author.Tests.{leb-false, ltb-false}
 use Rattle.model.specs.declared.Level.{Level}
-use Rattle.model.specs.declared.Label.{Label}
-use Rattle.model.specs.declared.Label.TheVariants.{Absent, Present}
+use Rattle.model.specs.Levels.{Label, need, subset, present}
+use Rattle.std.specs.Prelude.{Some, None}
 use Rattle.model.specs.declared.Subject.{Subject}
 use Rattle.model.specs.declared.Object.{Object}
 use Rattle.model.specs.declared.Profile.{Profile}
 use Rattle.model.specs.declared.Monitor.{Monitor}
 use Rattle.model.specs.Tests.{all_below, implies}
-use Rattle.model.specs.Levels.{need, subset, present}
 use Rattle.model.specs.State.{subject_count, object_count, nobody, no_object, clearance, object}
 use Rattle.model.specs.Profiles.{profile_fits, LevelInside, level_inside, LabelInside, label_inside, clearance_inside, object_label_inside, levels_inside}
 use Rattle.model.proofs.Tests.{split, apart, clash, and_left, and_right, and-false, below_out, below_false, implies-out, implies-false, beyond, le-or-lt}
@@ -62,12 +61,12 @@ level-not-outside p l I w =
     (λ (h : NeedOutside p l.needs). apart (I.needs h.0 h.1 h.2) h.3) w
 
 -- a label that is there and outside
-label-outside : (p : Profile) (a : Label) → label_inside p a ≡ false → (l : Level) × (a ≡ Present l) × LevelOutside p l
+label-outside : (p : Profile) (a : Label) → label_inside p a ≡ false → (l : Level) × (a ≡ Some l) × LevelOutside p l
 unfolding label_inside
-label-outside p Absent e = clash e
-label-outside p (Present l) e = (l, refl, level-outside p l e)
+label-outside p None e = clash e
+label-outside p (Some l) e = (l, refl, level-outside p l e)
 
-label-not-outside : (p : Profile) (a : Label) → LabelInside p a → (l : Level) → a ≡ Present l → LevelOutside p l → ⊥
+label-not-outside : (p : Profile) (a : Label) → LabelInside p a → (l : Level) → a ≡ Some l → LevelOutside p l → ⊥
 label-not-outside p a I l e w = level-not-outside p l (subst (LabelInside p) e I) w
 
 -- ---- "a clearance or label outside its profile"

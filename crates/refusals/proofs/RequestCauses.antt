@@ -7,8 +7,8 @@ use mathlib.Core.Bool.{Bool, true, false, ◌&&◌}
 use lib.ListN.{length}
 use borrow.Author.Tests.{eq-eqb, eqb-true}
 use Rattle.model.specs.declared.Level.{Level}
-use Rattle.model.specs.declared.Label.{Label}
-use Rattle.model.specs.declared.Label.TheVariants.{Absent, Present}
+use Rattle.model.specs.Levels.{Label, present, dominates, Dominates}
+use Rattle.std.specs.Prelude.{Some, None}
 use Rattle.model.specs.declared.Object.{Object}
 use Rattle.model.specs.declared.Monitor.{Monitor}
 use Rattle.model.specs.declared.Mode.{Mode}
@@ -17,7 +17,6 @@ use Rattle.model.specs.declared.Request.{Request}
 use Rattle.model.specs.declared.Request.TheVariants.{Get, Release, Give, Rescind, Create, Delete, ChangeLevel, SetCompanies}
 use Rattle.model.specs.declared.Decision.TheVariants.{NotEnrolled, NotLive, AlreadyLive, NoRight, NoLabel, SimpleBroken, StarBroken, LabelLowered, WallBroken, ParentNotLive, HierarchyBroken}
 use Rattle.model.specs.Tests.{implies}
-use Rattle.model.specs.Levels.{present, dominates, Dominates}
 use Rattle.model.specs.Modes.{has, observes, needs_label}
 use Rattle.model.specs.State.{clearance, enrolled, object, rights_of, held_by, with_label}
 use Rattle.model.specs.Properties.{Simple, Star, Wall, Permits}
@@ -41,7 +40,7 @@ use Rattle.refusals.proofs.First.{answers-end, answers-check}
 
 -- ---- what each test says of its cause
 
-not-absent : (a : Label) → present a ≡ true → a ≡ Absent → ⊥
+not-absent : (a : Label) → present a ≡ true → a ≡ None → ⊥
 not-absent a e w = apart e (ap present w)
 
 not-owner : (s : ℕ) (ob : Object) → owns s ob ≡ false → ob.owner ≢ s
@@ -55,10 +54,10 @@ fails : {b : Bool} → b ≡ false → b ≡ true → ⊥
 fails e w = apart w e
 
 -- the new label of a change of level: 14
-not-falling : (old new : Label) → not_lowered old new ≡ true → ((old ≢ Absent) × (Dominates new old → ⊥)) → ⊥
+not-falling : (old new : Label) → not_lowered old new ≡ true → ((old ≢ None) × (Dominates new old → ⊥)) → ⊥
 not-falling old new e w = w.1 ((not-lowered-decides old new).0 e w.0)
 
-falling : (old new : Label) → not_lowered old new ≡ false → (old ≢ Absent) × (Dominates new old → ⊥)
+falling : (old new : Label) → not_lowered old new ≡ false → (old ≢ None) × (Dominates new old → ⊥)
 falling old new e = (
   λ w. fails e ((not-lowered-decides old new).1 (λ h. absurd (h w))),
   λ d. fails e ((not-lowered-decides old new).1 (λ h. d)),
@@ -93,12 +92,12 @@ module _ (m : Monitor) (S : Sound m) where
   may-not-give s o x e = and-false (owns s (object m o)) (has x (rights_of (object m o) s)) e (λ u. inl (not-owner s (object m o) u)) (λ u. inr (fails u))
 
   -- the label, for the modes that need one: "7 (not e)"
-  label-missing : (o : ℕ) (x : Mode) → implies (needs_label x) (present (object m o).label) ≡ false → (x ≢ Execute) × ((object m o).label ≡ Absent)
+  label-missing : (o : ℕ) (x : Mode) → implies (needs_label x) (present (object m o).label) ≡ false → (x ≢ Execute) × ((object m o).label ≡ None)
   label-missing o x e =
       let p = implies-false (needs_label x) (present (object m o).label) e in
       (λ w. apart p.0 (ap needs_label w), absent (object m o).label p.1)
 
-  label-there : (o : ℕ) (x : Mode) → implies (needs_label x) (present (object m o).label) ≡ true → ((x ≢ Execute) × ((object m o).label ≡ Absent)) → ⊥
+  label-there : (o : ℕ) (x : Mode) → implies (needs_label x) (present (object m o).label) ≡ true → ((x ≢ Execute) × ((object m o).label ≡ None)) → ⊥
   label-there o x e w = not-absent (object m o).label (implies-out (needs_label x) _ e (not-execute x w.0)) w.1
 
   -- every row of accesses has sixteen sets
@@ -113,7 +112,7 @@ module _ (m : Monitor) (S : Sound m) where
 
   -- a change of level: simple at the object for all subjects, star over all
   module _ (s o : ℕ) (l : Level) (o-below : o < 64) where
-    labelled-now : object (afterwards (ChangeLevel s o l) m) o ≡ with_label (object m o) (Present l)
+    labelled-now : object (afterwards (ChangeLevel s o l) m) o ≡ with_label (object m o) (Some l)
     unfolding changed
     labelled-now = object-there (ChangeLevel s o l) m S.formed o-below
 
@@ -122,12 +121,12 @@ module _ (m : Monitor) (S : Sound m) where
     simple-change-in e t p y =
         objects-after (λ j ob. has y (held_by ob t) ≡ true → observes y ≡ true → Dominates (clearance m t) ob.label) (ChangeLevel s o l) m
         (λ j. S.secure.simple t j y) (λ j e. none-held y _ (no-modes t) e)
-        (simple-out m.subjects (with_label (object m o) (Present l)) (S.formed.objects_formed o).shape.held_length e t y) p
+        (simple-out m.subjects (with_label (object m o) (Some l)) (S.formed.objects_formed o).shape.held_length e t y) p
 
     simple-change-out : Simple (afterwards (ChangeLevel s o l) m) → simple_all m.subjects (changed (ChangeLevel s o l) (object m o)) ≡ true
     unfolding changed
     simple-change-out T =
-        simple-in m.subjects (with_label (object m o) (Present l))
+        simple-in m.subjects (with_label (object m o) (Some l))
         (λ t y. subst (λ (b : Object). has y (held_by b t) ≡ true → observes y ≡ true → Dominates (clearance m t) b.label) labelled-now (T t o y))
 
     star-change-in : star_all (afterwards (ChangeLevel s o l) m).objects ≡ true → Star (afterwards (ChangeLevel s o l) m)
@@ -192,7 +191,7 @@ module _ (m : Monitor) (S : Sound m) where
       answers-check _ NotEnrolled _ _ _ refl (not-absent (clearance m s)) (absent (clearance m s))
       (answers-check _ NotLive _ _ _ refl (λ e w. w e) fails
       (answers-check _ NoRight _ _ _ refl (is-owner s (object m o)) (not-owner s (object m o))
-      (answers-check _ LabelLowered _ _ _ refl (not-falling (object m o).label (Present l)) (falling (object m o).label (Present l))
+      (answers-check _ LabelLowered _ _ _ refl (not-falling (object m o).label (Some l)) (falling (object m o).label (Some l))
       (answers-check _ SimpleBroken _ _ _ refl
       (λ e w. w (simple-change-in s o l r.1 e)) (λ e T. fails e (simple-change-out s o l r.1 T))
       (answers-check _ StarBroken _ _ _ refl

@@ -12,7 +12,7 @@ use borrow.Author.Tests.{ltb-true, ltb-false}
 use Rattle.bits.specs.Bits.{bytes_to_bits, first, all_zero}
 use Rattle.bits.specs.Records.{length_cut}
 use Rattle.model.specs.declared.Level.{Level}
-use Rattle.model.specs.declared.Label.TheVariants.{Absent, Present}
+use Rattle.std.specs.Prelude.{Some, None}
 use Rattle.model.specs.declared.Subject.{Subject}
 use Rattle.model.specs.declared.Object.{Object}
 use Rattle.model.specs.declared.Profile.{Profile}
@@ -112,7 +112,7 @@ mapped f g h d e p q [] i = p
 mapped f g h d e p q (x ∷ l) zero = q x
 mapped f g h d e p q (x ∷ l) (suc i) = mapped f g h d e p q l i
 
-present-cond : (b : Bool) (l : Level) → present (cond b (Present l) Absent) ≡ b
+present-cond : (b : Bool) (l : Level) → present (cond b (Some l) None) ≡ b
 present-cond true l = refl
 present-cond false l = refl
 

@@ -7,7 +7,7 @@ use mathlib.Core.List.{List}
 use Rattle.model.specs.declared.Monitor.{Monitor}
 use Rattle.model.specs.declared.Mode.{Mode}
 use Rattle.model.specs.declared.Request.TheVariants.{Get}
-use Rattle.model.specs.declared.Decoded.TheVariants.{Says}
+use Rattle.std.specs.Prelude.{Some}
 use Rattle.model.specs.declared.Decision.TheVariants.{WallBroken}
 use Rattle.model.specs.declared.Response.{Response}
 use Rattle.model.specs.Properties.{Wall}
@@ -26,7 +26,7 @@ use Rattle.images.proofs.Reached.{sound-reached, respond-says}
 use Rattle.refusals.proofs.First.{over}
 use Rattle.refusals.proofs.FirstRefusal.{reply-first-cause}
 
-module _ (m : Monitor) (R : Reached m) (g : List ℕ) (s o : ℕ) (x : Mode) (says : decode m.profile g ≡ Says (Get s o x)) where
+module _ (m : Monitor) (R : Reached m) (g : List ℕ) (s o : ℕ) (x : Mode) (says : decode m.profile g ≡ Some (Get s o x)) where
   -- the wall after the get
   by-held : Wall (afterwards (Get s o x) m) ↔ WallByHeld m s o x
   unfolding changed

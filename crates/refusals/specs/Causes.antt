@@ -1,9 +1,8 @@
 -- "Refused causes", stated once more as propositions from the scope's tables, independent of the tests that the rules use.
 -- Assumes nothing.
-use Rattle.std.specs.Prelude.{ℕ, suc, ◌<◌, ◌≤◌, ◌≡◌, ◌≢◌, ◌⊎◌, Bool, true, false, List, [], length, get_or, take, drop}
+use Rattle.std.specs.Prelude.{ℕ, suc, ◌<◌, ◌≤◌, ◌≡◌, ◌≢◌, ◌⊎◌, Bool, true, false, List, [], length, get_or, take, drop, Some, None}
 use Rattle.bits.specs.Bits.{first}
 use Rattle.model.specs.declared.Level.{Level}
-use Rattle.model.specs.declared.Label.TheVariants.{Absent, Present}
 use Rattle.model.specs.declared.Subject.{Subject}
 use Rattle.model.specs.declared.Object.{Object}
 use Rattle.model.specs.declared.Profile.{Profile}
@@ -81,7 +80,7 @@ pub data MalformedBytes (p : Profile) (b : List ℕ) : Type 0 where
 
 -- a subject that is absent
 abbrev pub NotIn : Monitor → ℕ → Type 0
-NotIn m s = clearance m s ≡ Absent
+NotIn m s = clearance m s ≡ None
 
 -- a subject that lacks the right x at object o
 abbrev pub Lacks : Monitor → ℕ → ℕ → Mode → Type 0
@@ -89,7 +88,7 @@ Lacks m s o x = Permits m s o x → ⊥
 
 -- "A labelled child has a labelled parent whose label it dominates" (change request §11): object o, which is under object p, breaks the rule
 abbrev pub LabelBelow : Monitor → ℕ → ℕ → Type 0
-LabelBelow m o p = ((object m o).parent ≡ suc p) × ((object m o).label ≢ Absent) × (Dominates (object m o).label (object m p).label → ⊥)
+LabelBelow m o p = ((object m o).parent ≡ suc p) × ((object m o).label ≢ None) × (Dominates (object m o).label (object m p).label → ⊥)
 
 -- 3: "actor, or in kinds 3 and 4 the other subject, not enrolled"; 4: "object not live"; 5: "create on a live object"; 6: "right or
 -- ownership missing"; 7: "no label"; 8: "simple property would break"; 9: "star property would break", both in the state after it;
@@ -102,7 +101,7 @@ request_causes (Get s o x) m =
     row NotEnrolled (NotIn m s)
     (row NotLive ((object m o).live ≢ true)
     (row NoRight (Lacks m s o x)
-    (row NoLabel ((x ≢ Execute) × ((object m o).label ≡ Absent))
+    (row NoLabel ((x ≢ Execute) × ((object m o).label ≡ None))
     (row SimpleBroken (Simple (afterwards (Get s o x) m) → ⊥)
     (row StarBroken (Star (afterwards (Get s o x) m) → ⊥)
     (row WallBroken (Wall (afterwards (Get s o x) m) → ⊥)
@@ -142,7 +141,7 @@ request_causes (ChangeLevel s o l) m =
     row NotEnrolled (NotIn m s)
     (row NotLive ((object m o).live ≢ true)
     (row NoRight ((object m o).owner ≢ s)
-    (row LabelLowered (((object m o).label ≢ Absent) × (Dominates (Present l) (object m o).label → ⊥))
+    (row LabelLowered (((object m o).label ≢ None) × (Dominates (Some l) (object m o).label → ⊥))
     (row SimpleBroken (Simple (afterwards (ChangeLevel s o l) m) → ⊥)
     (row StarBroken (Star (afterwards (ChangeLevel s o l) m) → ⊥)
     (row HierarchyBroken
@@ -181,10 +180,10 @@ StrayInObjects p b =
 
 -- "a clearance .. outside its profile", "a .. label outside its profile": of somebody enrolled, of some object
 abbrev pub ClearanceOutside : Profile → List Subject → Type 0
-ClearanceOutside p l = (s : ℕ) × (a : Level) × (clearance_at l s ≡ Present a) × LevelOutside p a
+ClearanceOutside p l = (s : ℕ) × (a : Level) × (clearance_at l s ≡ Some a) × LevelOutside p a
 
 abbrev pub LabelOutside : Profile → List Object → Type 0
-LabelOutside p l = (o : ℕ) × (a : Level) × ((object_at l o).label ≡ Present a) × LevelOutside p a
+LabelOutside p l = (o : ℕ) × (a : Level) × ((object_at l o).label ≡ Some a) × LevelOutside p a
 
 -- "an absent subject owns, has a right or holds"
 abbrev pub AbsentActs : Monitor → Type 0

@@ -12,12 +12,11 @@ use lib.ListN.{length, get_or}
 use Rattle.model.specs.declared.Profile.{Profile}
 use Rattle.model.specs.declared.Monitor.{Monitor}
 use Rattle.model.specs.declared.Request.{Request}
-use Rattle.model.specs.declared.Decoded.{Decoded}
-use Rattle.model.specs.declared.Decoded.TheVariants.{Malformed, Says}
+use Rattle.model.specs.Requests.{Decoded, decode}
+use Rattle.std.specs.Prelude.{Some, None}
 use Rattle.model.specs.declared.Decision.TheVariants.{Granted}
 use Rattle.model.specs.declared.Response.{Response}
 use Rattle.model.specs.Decisions.{number, refuses}
-use Rattle.model.specs.Requests.{decode}
 use Rattle.model.specs.Rules.{afterwards, checks, step}
 use Rattle.model.specs.Runs.{carry_out, respond, reply, after, replies}
 use Rattle.model.proofs.Tests.{apart, cond-true, cond-false}
@@ -40,21 +39,21 @@ pub record Commuting (m : Monitor) (I : Monitor → Type 0) (Q : Request → Typ
 
 -- what is decoded is such a request, or malformed; and bytes of which this is so under a profile
 abbrev pub Only : (Request → Type 0) → Decoded → Type 0
-Only Q d = (q : Request) → d ≡ Says q → Q q
+Only Q d = (q : Request) → d ≡ Some q → Q q
 
 abbrev pub Saying : Profile → (Request → Type 0) → List ℕ → Type 0
 Saying k Q b = Only Q (decode k b)
 
 -- bytes say one request
-pub says-one : {d : Decoded} {q r : Request} → d ≡ Says q → d ≡ Says r → q ≡ r
+pub says-one : {d : Decoded} {q r : Request} → d ≡ Some q → d ≡ Some r → q ≡ r
 says-one {q = q} e f = ap said (sym e ∙ f)
   where
     said : Decoded → Request
-    said Malformed = q
-    said (Says k) = k
+    said None = q
+    said (Some k) = k
 
 -- bytes that say a request are granted where it is
-pub says-granted : (b : List ℕ) (q : Request) (n : Monitor) → decode n.profile b ≡ Says q → (reply b n < 2) ↔ (checks q n ≡ Granted)
+pub says-granted : (b : List ℕ) (q : Request) (n : Monitor) → decode n.profile b ≡ Some q → (reply b n < 2) ↔ (checks q n ≡ Granted)
 says-granted b q n e =
     subst (λ (r : Response). (number r.decision < 2) ↔ (checks q n ≡ Granted)) (sym (respond-says b q n e)) (reply-granted q n)
 
@@ -94,20 +93,20 @@ module _ (m : Monitor) (I : Monitor → Type 0) (Q : Request → Type 0) (S : Co
 
   -- the same of what bytes say, or where they are malformed and leave the state
   keeps-turn : (d : Decoded) → Only Q d → (n : Monitor) → I n → I (carry_out d n).monitor
-  keeps-turn Malformed w n i = i
-  keeps-turn (Says q) w n i = keeps-step q n (w q refl) i
+  keeps-turn None w n i = i
+  keeps-turn (Some q) w n i = keeps-step q n (w q refl) i
 
   turns-comm : (d e : Decoded) → Only Q d → Only Q e → (n : Monitor) → I n
       → (carry_out e (carry_out d n).monitor).monitor ≡ (carry_out d (carry_out e n).monitor).monitor
-  turns-comm Malformed e v w n i = refl
-  turns-comm (Says q) Malformed v w n i = refl
-  turns-comm (Says q) (Says r) v w n i = steps-comm q r n (v q refl) (w r refl) i
+  turns-comm None e v w n i = refl
+  turns-comm (Some q) None v w n i = refl
+  turns-comm (Some q) (Some r) v w n i = steps-comm q r n (v q refl) (w r refl) i
 
   -- a reply is 0 or 1 exactly where it is if the bytes came alone
   granted-turn : (d : Decoded) → Only Q d → (n : Monitor) → I n
       → IsGranted (number (carry_out d n).decision) ↔ IsGranted (number (carry_out d m).decision)
-  granted-turn Malformed w n i = (λ h. h, λ h. h)
-  granted-turn (Says q) w n i =
+  granted-turn None w n i = (λ h. h, λ h. h)
+  granted-turn (Some q) w n i =
       let same = S.alone q n (w q refl) i in
       (λ h. (reply-granted q m).1 (same.0 ((reply-granted q n).0 h)), λ h. (reply-granted q n).1 (same.1 ((reply-granted q m).0 h)))
 

@@ -11,11 +11,10 @@ use Rattle.model.specs.declared.Profile.{Profile}
 use Rattle.model.specs.declared.Monitor.{Monitor}
 use Rattle.model.specs.declared.Mode.{Mode}
 use Rattle.model.specs.declared.Request.TheVariants.{Get}
-use Rattle.model.specs.declared.Decoded.{Decoded}
-use Rattle.model.specs.declared.Decoded.TheVariants.{Says}
+use Rattle.model.specs.Requests.{Decoded, decode}
+use Rattle.std.specs.Prelude.{Some}
 use Rattle.model.specs.declared.Response.{Response}
 use Rattle.model.specs.Properties.{Holds}
-use Rattle.model.specs.Requests.{decode}
 use Rattle.model.specs.Rules.{changed, step}
 use Rattle.model.specs.Runs.{respond, reply, after, replies}
 use Rattle.model.proofs.Requests.{decode-range}
@@ -62,7 +61,7 @@ gained-all k (b ∷ bs) p n u S =
 
 -- a get that is granted first holds to the end
 first_holds : (k : Profile) (b : List ℕ) (bs : List (List ℕ)) (s o : ℕ) (x : Mode) (n : Monitor) → n.profile ≡ k → Sound n → Each (IsGet k) bs
-    → decode k b ≡ Says (Get s o x) → reply b n < 2 → Holds (after (b ∷ bs) n) s o x
+    → decode k b ≡ Some (Get s o x) → reply b n < 2 → Holds (after (b ∷ bs) n) s o x
 unfolding after changed
 first_holds k b bs s o x n u S p e h =
     let d = said_under k b n u e in
@@ -74,7 +73,7 @@ first_holds k b bs s o x n u S p e h =
 
 -- and so does one that is granted at any place
 granted-holds : (k : Profile) (bs : List (List ℕ)) → Each (IsGet k) bs → (n : Monitor) → n.profile ≡ k → Sound n → (i : ℕ) → i < length bs → (s o : ℕ) (x : Mode)
-    → decode k (get_or bs i []) ≡ Says (Get s o x) → GrantedAt bs n i → Holds (after bs n) s o x
+    → decode k (get_or bs i []) ≡ Some (Get s o x) → GrantedAt bs n i → Holds (after bs n) s o x
 unfolding after replies
 granted-holds k [] p n u S i h s o x d g = absurd (not-suc-le-zero h)
 granted-holds k (b ∷ bs) p n u S zero h s o x d g = first_holds k b bs s o x n u S p.1 d g

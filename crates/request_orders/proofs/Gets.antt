@@ -13,7 +13,7 @@ use Rattle.model.specs.declared.Monitor.{Monitor}
 use Rattle.model.specs.declared.Mode.{Mode}
 use Rattle.model.specs.declared.Request.{Request}
 use Rattle.model.specs.declared.Request.TheVariants.{Get}
-use Rattle.model.specs.declared.Decoded.TheVariants.{Says}
+use Rattle.std.specs.Prelude.{Some}
 use Rattle.model.specs.declared.Decision.TheVariants.{Granted}
 use Rattle.model.specs.State.{object}
 use Rattle.model.specs.Properties.{Holds}
@@ -34,7 +34,7 @@ use Rattle.request_orders.proofs.PairProperties.{PairProperty}
 pub record Asked (k : Profile) (bs : List (List ℕ)) (s o : ℕ) (x : Mode) : Type 0 where
   pub at : ℕ
   pub within : at < length bs
-  pub says : decode k (get_or bs at []) ≡ Says (Get s o x)
+  pub says : decode k (get_or bs at []) ≡ Some (Get s o x)
 
 pub data Getting (k : Profile) (bs : List (List ℕ)) : Request → Type 0 where
   getting : (s o : ℕ) (x : Mode) → Asked k bs s o x → Getting k bs (Get s o x)

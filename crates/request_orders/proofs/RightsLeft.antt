@@ -14,15 +14,14 @@ use Rattle.model.specs.declared.Monitor.{Monitor}
 use Rattle.model.specs.declared.Mode.{Mode}
 use Rattle.model.specs.declared.Request.{Request}
 use Rattle.model.specs.declared.Request.TheVariants.{Release, Give}
-use Rattle.model.specs.declared.Decoded.{Decoded}
-use Rattle.model.specs.declared.Decoded.TheVariants.{Malformed, Says}
+use Rattle.model.specs.Requests.{Decoded, decode}
+use Rattle.std.specs.Prelude.{Some, None}
 use Rattle.model.specs.declared.Decision.TheVariants.{Granted}
 use Rattle.model.specs.declared.Response.{Response}
 use Rattle.model.specs.Modes.{has}
 use Rattle.model.specs.State.{no_modes, no_object, clearance_at, enrolled, object, WellFormed}
 use Rattle.model.specs.Properties.{Holds, Permits}
 use Rattle.model.specs.Decisions.{number}
-use Rattle.model.specs.Requests.{decode}
 use Rattle.model.specs.Rules.{checks, step}
 use Rattle.model.specs.Runs.{carry_out, respond, reply, after}
 use Rattle.model.specs.Beginnings.{Reached}
@@ -38,7 +37,7 @@ use Rattle.images.proofs.Reached.{sound-reached, reached-after}
 use Rattle.effects.specs.Effects.{Effect, GivesRight}
 use Rattle.effects.proofs.Effects.{granted-effect}
 use Rattle.effects.proofs.Frames.{right-by-give, right_kept, access-by-get, access-kept}
-use Rattle.orders.specs.Orders.{OrderOf, Each, Some}
+use Rattle.orders.specs.Orders.{OrderOf, Each, OneOf}
 use Rattle.orders.proofs.Places.{each-order, some-order}
 use Rattle.request_orders.specs.AnyOrder.{IsGranted, OrdersAgree}
 use Rattle.request_orders.specs.RightsLists.{Gives, Releases, NothingElse, Left}
@@ -109,13 +108,13 @@ module _ (m : Monitor) (S : Sound m) where
 
   -- ---- what bytes say
 
-  says-give : (q : Request) (t o : ℕ) (x : Mode) → GivesRight q t o x ↔ ((s : ℕ) × (Says q ≡ Says (Give s t o x)))
-  says-give q t o x = (λ k. (k.0, ap Says k.1), λ k. (k.0, says-one refl k.1))
+  says-give : (q : Request) (t o : ℕ) (x : Mode) → GivesRight q t o x ↔ ((s : ℕ) × (Some q ≡ Some (Give s t o x)))
+  says-give q t o x = (λ k. (k.0, ap Some k.1), λ k. (k.0, says-one refl k.1))
 
   right-turn : (d : Decoded) → Only Ranged d → (n : Monitor) → OwnersKept m n → (t o : ℕ) (x : Mode)
-      → Permits (carry_out d n).monitor t o x ↔ (Permits n t o x ⊎ (((s : ℕ) × (d ≡ Says (Give s t o x))) × IsGranted (number (carry_out d m).decision)))
-  right-turn Malformed w n P t o x = (λ h. inl h, ⊎_elim (λ h. h) (λ k. absurd (omega (arith, k.1))))
-  right-turn (Says q) w n P t o x =
+      → Permits (carry_out d n).monitor t o x ↔ (Permits n t o x ⊎ (((s : ℕ) × (d ≡ Some (Give s t o x))) × IsGranted (number (carry_out d m).decision)))
+  right-turn None w n P t o x = (λ h. inl h, ⊎_elim (λ h. h) (λ k. absurd (omega (arith, k.1))))
+  right-turn (Some q) w n P t o x =
       let one = right-step q (w q refl) n P o t x in
       let by = says-give q t o x in
       let granted = reply-granted q m in (
@@ -124,11 +123,11 @@ module _ (m : Monitor) (S : Sound m) where
       )
 
   access-turn : (d : Decoded) → Only Ranged d → (n : Monitor) → OwnersKept m n → (s o : ℕ) (x : Mode)
-      → Holds (carry_out d n).monitor s o x ↔ (Holds n s o x × (d ≡ Says (Release s o x) → ⊥))
-  access-turn Malformed w n P s o x = (λ h. (h, λ e. let z : ◌≡◌ {A = ℕ} 0 1 = cc in omega arith), λ h. h.0)
-  access-turn (Says q) w n P s o x =
+      → Holds (carry_out d n).monitor s o x ↔ (Holds n s o x × (d ≡ Some (Release s o x) → ⊥))
+  access-turn None w n P s o x = (λ h. (h, λ e. let z : ◌≡◌ {A = ℕ} 0 1 = cc in omega arith), λ h. h.0)
+  access-turn (Some q) w n P s o x =
       let one = access-step q (w q refl) n P o s x in
-      (λ h. let k = one.0 h in (k.0, λ e. k.1 (says-one refl e)), λ h. one.1 (h.0, λ e. h.1 (ap Says e)))
+      (λ h. let k = one.0 h in (k.0, λ e. k.1 (says-one refl e)), λ h. one.1 (h.0, λ e. h.1 (ap Some e)))
 
   -- and to a monitor of the profile
   right-one : (b : List ℕ) → Saying m.profile Ranged b → (n : Monitor) → OwnersKept m n → (t o : ℕ) (x : Mode)
@@ -147,7 +146,7 @@ module _ (m : Monitor) (S : Sound m) where
   -- ---- lists
 
   rights-all : (bs : List (List ℕ)) → Each (Saying m.profile Ranged) bs → (n : Monitor) → OwnersKept m n → (t o : ℕ) (x : Mode)
-      → Permits (after bs n) t o x ↔ (Permits n t o x ⊎ Some (λ b. Gives m.profile t o x b × IsGranted (reply b m)) bs)
+      → Permits (after bs n) t o x ↔ (Permits n t o x ⊎ OneOf (λ b. Gives m.profile t o x b × IsGranted (reply b m)) bs)
   unfolding after
   rights-all [] p n P t o x = (λ h. inl h, ⊎_elim (λ h. h) (λ k. absurd k))
   rights-all (b ∷ bs) p n P t o x =

@@ -14,11 +14,10 @@ use Rattle.model.specs.declared.Monitor.{Monitor}
 use Rattle.model.specs.declared.Mode.{Mode}
 use Rattle.model.specs.declared.Request.{Request}
 use Rattle.model.specs.declared.Request.TheVariants.{Get, Release, Give, Rescind, Create, Delete, ChangeLevel, SetCompanies}
-use Rattle.model.specs.declared.Decoded.{Decoded}
-use Rattle.model.specs.declared.Decoded.TheVariants.{Malformed, Says}
+use Rattle.model.specs.Requests.{Decoded, decode, encode, InRange, Within}
+use Rattle.std.specs.Prelude.{Some, None}
 use Rattle.model.specs.declared.Response.{Response}
 use Rattle.model.specs.Decisions.{number, refuses}
-use Rattle.model.specs.Requests.{decode, encode, InRange, Within}
 use Rattle.model.specs.Runs.{carry_out, respond, reply, replies}
 use Rattle.model.specs.Beginnings.{Reached}
 use Rattle.model.proofs.Requests.{decode-range, encode-decode}
@@ -52,8 +51,8 @@ module _ (m : Monitor) (S : Sound m) where
   -- a refusal has the number that it has alone
   refused-turn : (d : Decoded) → Only Ranged d → (n : Monitor) → OwnersKept m n → 2 ≤ number (carry_out d n).decision
       → number (carry_out d n).decision ≡ number (carry_out d m).decision
-  refused-turn Malformed w n P h = refl
-  refused-turn (Says q) w n P h =
+  refused-turn None w n P h = refl
+  refused-turn (Some q) w n P h =
       let same = same-checks m q n (w q refl).1 P in
       granted-or-refused q n (λ g. absurd (omega (arith, h, (reply-granted q n).1 g)))
       (λ k. ap (λ (r : Response). number r.decision) (step-refused q n k) ∙ ap number same
@@ -109,34 +108,34 @@ pub every-release : (k : Profile) (s o : ℕ) (x : Mode) → InRange (Release s 
 every-release k s o x r v = (s, o, x, encode-decode k (Release s o x) r v)
 
 -- malformed bytes say nothing
-not-said : {d : Decoded} {q : Request} → d ≡ Malformed → d ≡ Says q → ⊥
+not-said : {d : Decoded} {q : Request} → d ≡ None → d ≡ Some q → ⊥
 not-said e f = let z : ◌≡◌ {A = ℕ} 0 1 = cc in omega arith
 
 -- and nothing else stands in a list that has both but malformed bytes
-pub nothing-else-exactly : (k : Profile) (b : List ℕ) → NothingElse k b ↔ (IsGive k b ⊎ IsRelease k b ⊎ (decode k b ≡ Malformed))
+pub nothing-else-exactly : (k : Profile) (b : List ℕ) → NothingElse k b ↔ (IsGive k b ⊎ IsRelease k b ⊎ (decode k b ≡ None))
 nothing-else-exactly k b = (
   go (decode k b) refl,
   ⊎_elim (λ w. (gives-only k (b ∷ []) (w, tt)).0) (⊎_elim (λ w. (releases-only k (b ∷ []) (w, tt)).0) (λ e q f. absurd (not-said e f))),
 )
   where
-    named : (q : Request) → decode k b ≡ Says q → GiveOrRelease q → IsGive k b ⊎ IsRelease k b ⊎ (decode k b ≡ Malformed)
+    named : (q : Request) → decode k b ≡ Some q → GiveOrRelease q → IsGive k b ⊎ IsRelease k b ⊎ (decode k b ≡ None)
     named _ e (give s t o x) = inl (t, o, x, (s, e))
     named _ e (release s o x) = inr (inl (s, o, x, e))
 
-    go : (d : Decoded) → decode k b ≡ d → NothingElse k b → IsGive k b ⊎ IsRelease k b ⊎ (decode k b ≡ Malformed)
-    go Malformed e w = inr (inr e)
-    go (Says q) e w = named q e (w q e)
+    go : (d : Decoded) → decode k b ≡ d → NothingElse k b → IsGive k b ⊎ IsRelease k b ⊎ (decode k b ≡ None)
+    go None e w = inr (inr e)
+    go (Some q) e w = named q e (w q e)
 
 -- gives, releases and malformed bytes are three kinds
 pub apart-kinds : (k : Profile) (b : List ℕ)
-    → (IsGive k b → IsRelease k b → ⊥) × (IsGive k b → decode k b ≡ Malformed → ⊥) × (IsRelease k b → decode k b ≡ Malformed → ⊥)
+    → (IsGive k b → IsRelease k b → ⊥) × (IsGive k b → decode k b ≡ None → ⊥) × (IsRelease k b → decode k b ≡ None → ⊥)
 apart-kinds k b = (λ v w. give-release v.3.1 w.3, λ v e. not-said e v.3.1, λ v e. not-said e v.3)
   where
-    give-release : {s t o u p : ℕ} {x y : Mode} → decode k b ≡ Says (Give s t o x) → decode k b ≡ Says (Release u p y) → ⊥
+    give-release : {s t o u p : ℕ} {x y : Mode} → decode k b ≡ Some (Give s t o x) → decode k b ≡ Some (Release u p y) → ⊥
     give-release e f = let z : ◌≡◌ {A = ℕ} 0 1 = cc in omega arith
 
 -- and what says another request is none of them
-pub no-other-kind : (k : Profile) (b : List ℕ) (q : Request) → decode k b ≡ Says q → NothingElse k b ↔ GiveOrRelease q
+pub no-other-kind : (k : Profile) (b : List ℕ) (q : Request) → decode k b ≡ Some q → NothingElse k b ↔ GiveOrRelease q
 no-other-kind k b q e = (λ w. w q e, λ g r f. subst GiveOrRelease (says-one e f) g)
 
 -- of the eight kinds these are two

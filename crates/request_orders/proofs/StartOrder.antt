@@ -10,7 +10,7 @@ use lib.ListN.{length, get_or}
 use Rattle.model.specs.declared.Monitor.{Monitor}
 use Rattle.model.specs.declared.Mode.{Mode}
 use Rattle.model.specs.declared.Request.TheVariants.{Get}
-use Rattle.model.specs.declared.Decoded.TheVariants.{Says}
+use Rattle.std.specs.Prelude.{Some}
 use Rattle.model.specs.declared.Response.{Response}
 use Rattle.model.specs.declared.Decision.{Decision}
 use Rattle.model.specs.declared.Decision.TheVariants.{Granted, StarBroken, WallBroken}
@@ -108,35 +108,35 @@ clash-turned m r b c K =
 
 -- ---- two gets by their replies
 
-module _ (m : Monitor) (S : Sound m) (b c : List ℕ) (s p : ℕ) (x : Mode) (t q : ℕ) (y : Mode) (Says-first : decode m.profile b ≡ Says (Get s p x))
-    (Says-second : decode m.profile c ≡ Says (Get t q y)) (first_alone : reply b m < 2) (second_alone : reply c m < 2) where
+module _ (m : Monitor) (S : Sound m) (b c : List ℕ) (s p : ℕ) (x : Mode) (t q : ℕ) (y : Mode) (Some-first : decode m.profile b ≡ Some (Get s p x))
+    (Some-second : decode m.profile c ≡ Some (Get t q y)) (first_alone : reply b m < 2) (second_alone : reply c m < 2) where
   first-granted : checks (Get s p x) m ≡ Granted
-  first-granted = (says-granted b (Get s p x) m Says-first).0 first_alone
+  first-granted = (says-granted b (Get s p x) m Some-first).0 first_alone
 
   second-granted : checks (Get t q y) m ≡ Granted
-  second-granted = (says-granted c (Get t q y) m Says-second).0 second_alone
+  second-granted = (says-granted c (Get t q y) m Some-second).0 second_alone
 
   -- the state that the first leaves
   after_first : (respond b m).monitor ≡ with_access m s p x
   unfolding changed
-  after_first = ap (λ (r : Response). r.monitor) (respond-says b (Get s p x) m Says-first ∙ step-granted (Get s p x) m first-granted)
+  after_first = ap (λ (r : Response). r.monitor) (respond-says b (Get s p x) m Some-first ∙ step-granted (Get s p x) m first-granted)
 
   -- where they would together break star or the wall, the second gets 9 or 18 there, and else it is granted
   refused-there : (d : Decision) → refuses d ≡ true → checks (Get t q y) (with_access m s p x) ≡ d → reply c (respond b m).monitor ≡ number d
   refused-there d r broken =
-      ap (reply c) after_first ∙ ap (λ (r : Response). number r.decision) (respond-says c (Get t q y) (with_access m s p x) Says-second)
+      ap (reply c) after_first ∙ ap (λ (r : Response). number r.decision) (respond-says c (Get t q y) (with_access m s p x) Some-second)
       ∙ ap (λ (r : Response). number r.decision) (step-refused (Get t q y) (with_access m s p x) (ap refuses broken ∙ r)) ∙ ap number broken
 
   second-refused : (StarAndWall (with_access (with_access m s p x) t q y) → ⊥) → (reply c (respond b m).monitor ≡ 9) ⊎ (reply c (respond b m).monitor ≡ 18)
   second-refused n =
       ⊎_elim (λ e. inl (refused-there StarBroken refl e)) (λ e. inr (refused-there WallBroken refl e))
-      (refused-after-first m S s p x t q y (decode-range m.profile b _ Says-first) (decode-range m.profile c _ Says-second) first-granted second-granted n)
+      (refused-after-first m S s p x t q y (decode-range m.profile b _ Some-first) (decode-range m.profile c _ Some-second) first-granted second-granted n)
 
   second_below : StarAndWall (with_access (with_access m s p x) t q y) → reply c (respond b m).monitor < 2
   second_below T =
       subst (λ (n : Monitor). reply c n < 2) (sym after_first)
-      ((says-granted c (Get t q y) (with_access m s p x) Says-second).1
-      (granted-after-first m S s p x t q y (decode-range m.profile b _ Says-first) (decode-range m.profile c _ Says-second) first-granted second-granted T))
+      ((says-granted c (Get t q y) (with_access m s p x) Some-second).1
+      (granted-after-first m S s p x t q y (decode-range m.profile b _ Some-first) (decode-range m.profile c _ Some-second) first-granted second-granted T))
 
 -- two gets clash exactly where each gets 0 or 1 if it came alone, and the second gets 9 or 18 after the first
 pub clash-by-replies : (m : Monitor) → Reached m → (b c : List ℕ) → IsGet m.profile b → IsGet m.profile c

@@ -11,12 +11,11 @@ use lib.ListN.{length, get_or}
 use Rattle.model.specs.declared.Monitor.{Monitor}
 use Rattle.model.specs.declared.Mode.{Mode}
 use Rattle.model.specs.declared.Request.TheVariants.{Get}
-use Rattle.model.specs.declared.Decoded.{Decoded}
-use Rattle.model.specs.declared.Decoded.TheVariants.{Says}
+use Rattle.model.specs.Requests.{Decoded, decode}
+use Rattle.std.specs.Prelude.{Some}
 use Rattle.model.specs.declared.Decision.TheVariants.{Granted}
 use Rattle.model.specs.State.{object}
 use Rattle.model.specs.Properties.{Holds}
-use Rattle.model.specs.Requests.{decode}
 use Rattle.model.specs.Rules.{changed, checks}
 use Rattle.model.proofs.Tests.{split, apart, le-or-lt}
 use Rattle.invariants.specs.Access.{with_access, unheld}
@@ -31,7 +30,7 @@ use Rattle.request_orders.proofs.PairProperties.{PairProperty}
 use Rattle.request_orders.proofs.Gets.{asked-range, beside, HeldTogether}
 
 -- the object and the mode of a get
-same-get : (d : Decoded) (s p q : ℕ) (x y : Mode) → d ≡ Says (Get s p x) → d ≡ Says (Get s q y) → (p ≡ q) × (x ≡ y)
+same-get : (d : Decoded) (s p q : ℕ) (x y : Mode) → d ≡ Some (Get s p x) → d ≡ Some (Get s q y) → (p ≡ q) × (x ≡ y)
 same-get d s p q x y e f = (cc, cc)
 
 module _ (Property : Monitor → Type 0) (R : PairProperty Property) (bs : List (List ℕ)) (m : Monitor) (S : Sound m) where
@@ -43,8 +42,8 @@ module _ (Property : Monitor → Type 0) (R : PairProperty Property) (bs : List 
   module _ (N : NoClash Property bs m) where
     -- two gets of one subject at two places
     two-places : (i j : ℕ) → i < j → j < length bs → (s p q : ℕ) (x y : Mode)
-        → decode m.profile (get_or bs i []) ≡ Says (Get s p x) → checks (Get s p x) m ≡ Granted
-        → decode m.profile (get_or bs j []) ≡ Says (Get s q y) → checks (Get s q y) m ≡ Granted
+        → decode m.profile (get_or bs i []) ≡ Some (Get s p x) → checks (Get s p x) m ≡ Granted
+        → decode m.profile (get_or bs j []) ≡ Some (Get s q y) → checks (Get s q y) m ≡ Granted
         → (u v : ℕ) (a b : Mode)
         → Holds (with_access (with_access m s p x) s q y) s u a → Holds (with_access (with_access m s p x) s q y) s v b
         → R.test (unheld (object m u)) a (unheld (object m v)) b ≡ true

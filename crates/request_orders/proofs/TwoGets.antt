@@ -5,15 +5,14 @@ use Prim.Native.Nat.{ℕ, ◌<◌}
 use mathlib.Core.Path.{◌≡◌, refl, sym, ap, ◌∙◌, subst, subst₂}
 use mathlib.Core.Logic.{◌↔◌, ◌≢◌, ◌⊎◌, inl, inr}
 use mathlib.Core.Bool.{Bool, true}
-use Rattle.model.specs.declared.Label.{Label}
-use Rattle.model.specs.declared.Label.TheVariants.{Absent}
+use Rattle.model.specs.Levels.{Label, dominates, present}
+use Rattle.std.specs.Prelude.{None}
 use Rattle.model.specs.declared.Object.{Object}
 use Rattle.model.specs.declared.Monitor.{Monitor}
 use Rattle.model.specs.declared.Mode.{Mode}
 use Rattle.model.specs.declared.Request.TheVariants.{Get}
 use Rattle.model.specs.declared.Decision.TheVariants.{Granted, NotEnrolled, NotLive, NoRight, NoLabel, SimpleBroken, StarBroken, WallBroken}
 use Rattle.model.specs.Tests.{implies, unless}
-use Rattle.model.specs.Levels.{dominates, present}
 use Rattle.model.specs.Modes.{has, observes, needs_label}
 use Rattle.model.specs.Companies.{WallAsks}
 use Rattle.model.specs.State.{clearance, object, rights_of}
@@ -34,7 +33,7 @@ use Rattle.invariants.proofs.WallAdded.{wall-added}
 use Rattle.request_orders.specs.StartOrder.{StarAndWall}
 
 -- a get that is granted has a label to ask of, where its mode needs one
-labelled : (m : Monitor) (s o : ℕ) (x : Mode) → checks (Get s o x) m ≡ Granted → needs_label x ≡ true → (object m o).label ≢ Absent
+labelled : (m : Monitor) (s o : ℕ) (x : Mode) → checks (Get s o x) m ≡ Granted → needs_label x ≡ true → (object m o).label ≢ None
 labelled m s o x g n e = clash (sym (implies-out _ _ (granted-get m s o x g).labelled n) ∙ ap present e)
 
 module _ (m : Monitor) (S : Sound m) (s p : ℕ) (x : Mode) (t q : ℕ) (y : Mode)
@@ -74,7 +73,7 @@ module _ (m : Monitor) (S : Sound m) (s p : ℕ) (x : Mode) (t q : ℕ) (y : Mod
   star-together : Star (with_access (with_access m s p x) t q y) ↔ ((s ≡ t) → Kept (entry x y) (object m p).label (object m q).label)
   unfolding one
   star-together =
-      let there : needs_label y ≡ true → (object one q).label ≢ Absent = λ n e. labelled m t q y second n (sym (label_same q) ∙ e) in
+      let there : needs_label y ≡ true → (object one q).label ≢ None = λ n e. labelled m t q y second n (sym (label_same q) ∙ e) in
       let by-held = star-added one sound-one t q y second_range.0 second_range.1 there in
       let beside = (star-added m S t q y second_range.0 second_range.1 (labelled m t q y second)).0 sound-other.secure.star in (
         λ T e. subst₂ (λ (k l : Label). Kept (entry x y) k l) (label_same p) (label_same q) (by-held.0 T p x (first-held e)),

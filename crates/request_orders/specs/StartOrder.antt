@@ -1,11 +1,10 @@
 -- Lists of gets in any order ("Start order of tasks", change request §6; with the wall, change request §10).
 -- Assumes nothing.
-use Rattle.std.specs.Prelude.{ℕ, ◌<◌, ◌≡◌, List, [], length, get_or}
+use Rattle.std.specs.Prelude.{ℕ, ◌<◌, ◌≡◌, List, [], length, get_or, Some}
 use Rattle.model.specs.declared.Profile.{Profile}
 use Rattle.model.specs.declared.Monitor.{Monitor}
 use Rattle.model.specs.declared.Mode.{Mode}
 use Rattle.model.specs.declared.Request.TheVariants.{Get}
-use Rattle.model.specs.declared.Decoded.TheVariants.{Says}
 use Rattle.model.specs.Properties.{Star, Wall}
 use Rattle.model.specs.Requests.{decode}
 use Rattle.model.specs.Runs.{reply}
@@ -13,7 +12,7 @@ use Rattle.invariants.specs.Access.{with_access}
 
 -- "every list of gets": each element is bytes that say a get to a monitor of the profile
 abbrev pub IsGet : Profile → List ℕ → Type 0
-IsGet k b = (s : ℕ) × (o : ℕ) × (x : Mode) × (decode k b ≡ Says (Get s o x))
+IsGet k b = (s : ℕ) × (o : ℕ) × (x : Mode) × (decode k b ≡ Some (Get s o x))
 
 -- what two gets must not break: "star or wall" (change request §10)
 abbrev pub StarAndWall : Monitor → Type 0
@@ -28,8 +27,8 @@ pub record Clash (Property : Monitor → Type 0) (m : Monitor) (b c : List ℕ) 
   pub t : ℕ
   pub q : ℕ
   pub y : Mode
-  pub first : decode m.profile b ≡ Says (Get s p x)
-  pub second : decode m.profile c ≡ Says (Get t q y)
+  pub first : decode m.profile b ≡ Some (Get s p x)
+  pub second : decode m.profile c ≡ Some (Get t q y)
   pub first_alone : reply b m < 2
   pub second_alone : reply c m < 2
   pub together : Property (with_access (with_access m s p x) t q y) → ⊥

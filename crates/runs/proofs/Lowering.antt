@@ -10,12 +10,11 @@ use lib.ListN.{get_or, take}
 use lib.Dec.{leb}
 use borrow.Author.Tests.{le-leb}
 use Rattle.bits.specs.Bits.{odd, to_bits, from_bits, bytes_to_bits, bits_to_bytes, field, cut, join, all_zero}
-use Rattle.model.specs.declared.Label.TheVariants.{Absent, Present}
+use Rattle.std.specs.Prelude.{Some, None}
 use Rattle.model.specs.declared.Monitor.{Monitor}
 use Rattle.model.specs.declared.Mode.TheVariants.{Read}
 use Rattle.model.specs.declared.Request.{Request}
 use Rattle.model.specs.declared.Request.TheVariants.{Get, Give, Create, Delete, ChangeLevel}
-use Rattle.model.specs.declared.Decoded.TheVariants.{Says}
 use Rattle.model.specs.Tests.{all_below, implies, unless}
 use Rattle.model.specs.Levels.{compare, level_dominates, dominates, present, same_label}
 use Rattle.model.specs.Modes.{has, add, remove}
@@ -92,17 +91,17 @@ live-within = refl
 pub lives-met : (k : ℕ) → 2 ≤ k → k ≤ 13 → (object (state_after k) 0).live ≡ true
 lives-met k a b = implies-out _ _ (below_out 14 (λ k. implies (leb 2 k) (object (state_after k) 0).live) live-within k (omega (arith, b))) (le-leb 2 k a)
 
-pub raised-met : ((object (state_after 2) 0).label ≡ Present (level 3 0x0001)) × ((object (state_after 13) 0).label ≡ Present (level 3 0x0003))
+pub raised-met : ((object (state_after 2) 0).label ≡ Some (level 3 0x0001)) × ((object (state_after 13) 0).label ≡ Some (level 3 0x0003))
     × (has Read (held_by (object (state_after 13) 0) 1) ≡ true)
 unfolding steps bytes table_w join bits_to_bytes pack table_from table_form label_form label_from table_checks profile_fits absent_beyond levels_inside label_inside begin read_table all_zero bytes_to_bits to_bits odd cut from_bits field decode decode_fields fields well_formed fields_formed within mode_allowed unused_zero request respond step acted ask checks already changed star_all star_for star_from star_pair wall_all wall_for wall_from wall_pair compatible confined company implies unless answer simple_all has add remove not_lowered same_label dominates level_dominates compare parent_within parent_live label_under labels_rise meets without
 raised-met = (refl, refl, refl)
 
-pub labelled-met : (object (state_after 2) 0).label ≢ Absent
+pub labelled-met : (object (state_after 2) 0).label ≢ None
 labelled-met e = clash (ap present (sym raised-met.0 ∙ e))
 
 -- and of the owner's changes of level: the second request asks for a first label, of an object under none, the third for the same one
-pub owner-asks-met : (decode (state_after 1).profile (get_or bytes 1 []) ≡ Says (ChangeLevel (object (state_after 1) 0).owner 0 (level 3 0x0001)))
-    × (decode (state_after 2).profile (get_or bytes 2 []) ≡ Says (ChangeLevel (object (state_after 2) 0).owner 0 (level 3 0x0001)))
-    × ((object (state_after 1) 0).live ≡ true) × ((object (state_after 1) 0).label ≡ Absent) × ((object (state_after 1) 0).parent ≡ 0)
+pub owner-asks-met : (decode (state_after 1).profile (get_or bytes 1 []) ≡ Some (ChangeLevel (object (state_after 1) 0).owner 0 (level 3 0x0001)))
+    × (decode (state_after 2).profile (get_or bytes 2 []) ≡ Some (ChangeLevel (object (state_after 2) 0).owner 0 (level 3 0x0001)))
+    × ((object (state_after 1) 0).live ≡ true) × ((object (state_after 1) 0).label ≡ None) × ((object (state_after 1) 0).parent ≡ 0)
 unfolding steps bytes table_w join bits_to_bytes pack table_from table_form label_form label_from table_checks profile_fits absent_beyond levels_inside label_inside begin read_table all_zero bytes_to_bits to_bits odd cut from_bits field decode decode_fields fields well_formed fields_formed within mode_allowed unused_zero request respond step acted ask checks already changed star_all star_for star_from star_pair wall_all wall_for wall_from wall_pair compatible confined company implies unless answer simple_all has add remove not_lowered same_label dominates level_dominates compare parent_within parent_live label_under labels_rise meets without
 owner-asks-met = (refl, refl, refl, refl, refl)

@@ -6,7 +6,7 @@ use mathlib.Core.Bool.{true, false}
 use mathlib.Core.List.{List, [], ◌∷◌, ◌++◌, map}
 use lib.ListN.{replicate}
 use Rattle.bits.specs.Bits.{odd, to_bits, from_bits, bytes_to_bits, bits_to_bytes, field, cut, all_zero}
-use Rattle.model.specs.declared.Label.TheVariants.{Present}
+use Rattle.std.specs.Prelude.{Some}
 use Rattle.model.specs.declared.Mode.TheVariants.{Read, Append}
 use Rattle.model.specs.declared.Request.{Request}
 use Rattle.model.specs.declared.Request.TheVariants.{Get, Give, Create, Delete, ChangeLevel}
@@ -47,7 +47,7 @@ mistaken = of (Delete 1 3 ∷ Get 0 3 Read ∷ Give 1 0 3 Read ∷ []) ++ (takes
 pub mistaken-delete : (answers (of commissioned ++ mistaken) W ≡ 0 ∷ 0 ∷ 0 ∷ 0 ∷ 0 ∷ 0 ∷ 4 ∷ 4 ∷ 0 ∷ [])
     × (rights_of (object (left (table widest table_w) (of commissioned ++ mistaken)) 3) 0 ≡ 10)
     × (held_by (object (left (table widest table_w) (of commissioned ++ mistaken)) 3) 0 ≡ 8)
-    × ((object (left (table widest table_w) (of commissioned ++ mistaken)) 3).label ≡ Present (level 1 0x0001))
+    × ((object (left (table widest table_w) (of commissioned ++ mistaken)) 3).label ≡ Some (level 1 0x0001))
     × (left (table widest table_w) (of commissioned ++ mistaken) ≡ left (table widest table_w) (of commissioned))
 unfolding table_w bits_to_bytes pack table_from table_form label_form label_from table_checks profile_fits absent_beyond levels_inside label_inside begin read_table all_zero bytes_to_bits to_bits odd cut from_bits field decode decode_fields fields well_formed fields_formed within mode_allowed unused_zero request respond step acted answers ask entered take_back taking_back restored checks already changed star_all star_for star_from star_pair wall_all wall_for wall_from wall_pair compatible confined company implies unless answer simple_all has add not_lowered same_label dominates level_dominates compare parent_within parent_live label_under labels_rise meets without has_child
 mistaken-delete = (refl, refl, refl, refl, refl)

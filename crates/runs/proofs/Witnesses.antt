@@ -13,7 +13,7 @@ use Rattle.model.specs.declared.Profile.{Profile}
 use Rattle.model.specs.declared.Monitor.{Monitor}
 use Rattle.model.specs.declared.Mode.TheVariants.{Read, Append}
 use Rattle.model.specs.declared.Request.TheVariants.{Get, Create, ChangeLevel}
-use Rattle.model.specs.declared.Decoded.TheVariants.{Says}
+use Rattle.std.specs.Prelude.{Some}
 use Rattle.model.specs.declared.Decision.TheVariants.{Granted, NotEnrolled}
 use Rattle.model.specs.Tests.{implies, unless}
 use Rattle.model.specs.Levels.{compare, level_dominates, dominates, same_label}
@@ -87,7 +87,7 @@ state_at k = left (table widest table_w) (map asks (take k marked_bytes))
 -- what the run shows of itself, computed once
 pub record Shown : Type 0 where
   -- bytes that say a request, its actor enrolled, its object live, the object live after it too: step 5
-  pub says : decode (state_at 4).profile (get_or marked_bytes 4 []) ≡ Says (Get 1 0 Read)
+  pub says : decode (state_at 4).profile (get_or marked_bytes 4 []) ≡ Some (Get 1 0 Read)
   pub enrolled_there : enrolled (state_at 4) 1 ≡ true
   pub live_there : (object (state_at 4) 0).live ≡ true
   pub live_behind : (object (step (Get 1 0 Read) (state_at 4)).monitor 0).live ≡ true
@@ -102,10 +102,10 @@ pub record Shown : Type 0 where
   pub absent_there : enrolled (state_at 5) 15 ≡ false
   -- gets of a by a subject that holds r on another object: granted at step 8, refused at step 13
   pub first-held : has Read (held_by (object (state_at 7) 0) 1) ≡ true
-  pub above_says : decode (state_at 7).profile (get_or marked_bytes 7 []) ≡ Says (Get 1 1 Append)
+  pub above_says : decode (state_at 7).profile (get_or marked_bytes 7 []) ≡ Some (Get 1 1 Append)
   pub above_granted : reply (get_or marked_bytes 7 []) (state_at 7) ≡ 0
   pub second_held : has Read (held_by (object (state_at 12) 1) 1) ≡ true
-  pub below_says : decode (state_at 12).profile (get_or marked_bytes 12 []) ≡ Says (Get 1 0 Append)
+  pub below_says : decode (state_at 12).profile (get_or marked_bytes 12 []) ≡ Some (Get 1 0 Append)
   pub below_refused : reply (get_or marked_bytes 12 []) (state_at 12) ≡ 9
   pub not_above : dominates (object (state_at 12) 0).label (object (state_at 12) 1).label ≡ false
 

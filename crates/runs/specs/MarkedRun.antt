@@ -1,8 +1,7 @@
 -- "Marked run": table W, and its sixteen rows with the request in words, its bytes and its reply.
 -- Assumes nothing.
-use Rattle.std.specs.Prelude.{ℕ, true, false, List, [], ◌∷◌, replicate}
+use Rattle.std.specs.Prelude.{ℕ, true, false, List, [], ◌∷◌, replicate, Some}
 use Rattle.model.specs.declared.Level.{Level}
-use Rattle.model.specs.declared.Label.TheVariants.{Present}
 use Rattle.model.specs.declared.Subject.{Subject}
 use Rattle.model.specs.declared.Mode.TheVariants.{Read, Append, Execute}
 use Rattle.model.specs.declared.Request.{Request}
@@ -16,9 +15,9 @@ level class needs = record { class = class; needs = needs }
 -- "subject 0 has (1, 0001), subject 1 (3, 0003), subject 2 (0, 0000)"
 unfoldable pub subjects_w : List Subject
 subjects_w =
-    record { clearance = Present (level 1 0x0001) }
-    ∷ record { clearance = Present (level 3 0x0003) }
-    ∷ record { clearance = Present (level 0 0x0000) }
+    record { clearance = Some (level 1 0x0001) }
+    ∷ record { clearance = Some (level 3 0x0003) }
+    ∷ record { clearance = Some (level 0 0x0000) }
     ∷ replicate 13 nobody
 
 -- "it is 88 00 0C C0 00 E0 and 36 zero bytes"

@@ -1,10 +1,9 @@
 -- A list of at most four requests on which two states reply differently, empty where they are the same state.
 -- Assumes nothing.
-use Rattle.std.specs.Prelude.{ℕ, zero, suc, Bool, true, false, cond, not, ◌&&◌, ◌||◌, List, [], ◌∷◌, eqb, leb}
+use Rattle.std.specs.Prelude.{ℕ, zero, suc, Bool, true, false, cond, not, ◌&&◌, ◌||◌, List, [], ◌∷◌, eqb, leb, Some, None}
 use Rattle.std.specs.Bool.{beq}
 use Rattle.model.specs.declared.Level.{Level}
-use Rattle.model.specs.declared.Label.{Label}
-use Rattle.model.specs.declared.Label.TheVariants.{Absent, Present}
+use Rattle.model.specs.Levels.{Label, compare, same_label}
 use Rattle.model.specs.declared.Comparison.{Comparison}
 use Rattle.model.specs.declared.Comparison.TheVariants.{Equal, Above, Below, Apart}
 use Rattle.model.specs.declared.Monitor.{Monitor}
@@ -12,7 +11,6 @@ use Rattle.model.specs.declared.Mode.{Mode}
 use Rattle.model.specs.declared.Mode.TheVariants.{Read, Write, Append, Execute}
 use Rattle.model.specs.declared.Request.{Request}
 use Rattle.model.specs.declared.Request.TheVariants.{Get, Release, Create, Delete, ChangeLevel, SetCompanies}
-use Rattle.model.specs.Levels.{compare, same_label}
 use Rattle.model.specs.Modes.{has}
 use Rattle.model.specs.State.{subject_count, object_count, clearance, enrolled, object, rights_of, held_by}
 use Rattle.model.specs.Hierarchy.{below}
@@ -42,9 +40,9 @@ differ a b = not (beq a b)
 
 -- another label: the owner, s, changes the level to one of them, 1 or not
 unfoldable pub to_label : ℕ → ℕ → Label → Label → List Request
-to_label s o Absent Absent = []
-to_label s o Absent (Present b) = ChangeLevel s o b ∷ []
-to_label s o (Present a) b = when (not (same_label (Present a) b)) (ChangeLevel s o a)
+to_label s o None None = []
+to_label s o None (Some b) = ChangeLevel s o b ∷ []
+to_label s o (Some a) b = when (not (same_label (Some a) b)) (ChangeLevel s o a)
 
 module _ (m n : Monitor) where
   -- enrolled in one only: any request by that subject, 3 or not
@@ -124,9 +122,9 @@ by_comparison Apart first second = first
 
 -- another clearance: s reads at a level that one of the two does not dominate, 8 or not
 unfoldable pub to_clearance : Monitor → ℕ → Label → Label → List Request
-to_clearance m s Absent b = []
-to_clearance m s (Present a) Absent = []
-to_clearance m s (Present a) (Present b) =
+to_clearance m s None b = []
+to_clearance m s (Some a) None = []
+to_clearance m s (Some a) (Some b) =
     by_comparison (compare a b) (read_at m (free_below object_count m) s a) (read_at m (free_below object_count m) s b)
 
 unfoldable pub by_clearance : Monitor → Monitor → ℕ → List Request
