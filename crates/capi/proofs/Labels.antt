@@ -8,12 +8,11 @@ use mathlib.Core.Logic.{◌≢◌}
 use mathlib.Core.Bool.{true}
 use mathlib.Core.List.{List, [], map}
 use lib.ListN.{get_or, take}
-use Rattle.model.specs.declared.Label.{Label}
-use Rattle.model.specs.declared.Label.TheVariants.{Absent}
+use Rattle.model.specs.Levels.{Label, Dominates}
+use Rattle.std.specs.Prelude.{None}
 use Rattle.model.specs.declared.Mode.{Mode}
 use Rattle.model.specs.declared.Mode.TheVariants.{Read}
 use Rattle.model.specs.declared.Monitor.{Monitor}
-use Rattle.model.specs.Levels.{Dominates}
 use Rattle.model.specs.Modes.{observes}
 use Rattle.model.specs.State.{widest, clearance, object}
 use Rattle.model.specs.Properties.{Holds}
@@ -33,7 +32,7 @@ use Rattle.capi.proofs.UnitRuns.{after-says, asked-says}
 -- asked the requests of a list after anything else: takings-back may stand before them, and not among them
 module _ (b : Beginning) (l : List Act) (bs : List (List ℕ)) (o i j : ℕ) (h : i ≤ j)
     (live : (k : ℕ) → i ≤ k → k ≤ j → (object (state_in (unit_asked (take k bs) (unit_after b l))) o).live ≡ true)
-    (there : (object (state_in (unit_asked (take i bs) (unit_after b l))) o).label ≢ Absent) where
+    (there : (object (state_in (unit_asked (take i bs) (unit_after b l))) o).label ≢ None) where
   label_said : ℕ → Label
   label_said k = (object (state_in (unit_asked (take k bs) (unit_after b l))) o).label
 
@@ -67,7 +66,7 @@ said_after k = after-says (table widest table_w) (map asks (take k bytes))
 lives-there : (k : ℕ) → 2 ≤ k → k ≤ 13 → (object (state_in (unit_asked (take k bytes) (unit_after (table widest table_w) []))) 0).live ≡ true
 lives-there k p q = ap (λ (m : Monitor). (object m 0).live) (said_after k) ∙ lives-met k p q
 
-labelled-there : (object (state_in (unit_asked (take 2 bytes) (unit_after (table widest table_w) []))) 0).label ≢ Absent
+labelled-there : (object (state_in (unit_asked (take 2 bytes) (unit_after (table widest table_w) []))) 0).label ≢ None
 labelled-there e = labelled-met (sym (ap (λ (m : Monitor). (object m 0).label) (said_after 2)) ∙ e)
 
 pub raised-there : Dominates (object (state_in (unit_asked (take 13 bytes) (unit_after (table widest table_w) []))) 0).label (object (state_in (unit_asked (take 2 bytes) (unit_after (table widest table_w) []))) 0).label

@@ -1,4 +1,5 @@
 -- The answers at the boundary, and what rows of calls give.
+pub mod Told
 pub mod Boundary
 pub mod Numbers
 pub mod Calls

@@ -47,19 +47,19 @@ turned p = (sym p.0, sym p.1)
 -- a refused table: its number, and every byte left
 pub begin-table-refused : (t buffer : List ℕ) → 2 ≤ number (read_table widest t).decision
     → (begin_number t buffer ≡ number (read_table widest t).decision) × (begin_bytes t buffer ≡ buffer)
-begin-table-refused t buffer h = turned (begin-refused t buffer (read_table widest t).decision refl (refusing (read_table widest t).decision h) _ refl)
+begin-table-refused t buffer h = turned (begin-refused t buffer (refusing (read_table widest t).decision h) _ refl)
 
 -- an accepted one and a buffer under 1,458 bytes: 13, and every byte left
 pub begin-13 : (t buffer : List ℕ) → Accepted (table widest t) → length buffer < image_size → (begin_number t buffer ≡ 13) × (begin_bytes t buffer ≡ buffer)
 begin-13 t buffer A h =
-    let p = turned (begin-written t buffer (read_table widest t).decision refl (ap refuses A) _ (writing buffer) refl refl _ refl) in
+    let p = turned (begin-written t buffer (ap refuses A) _ refl _ refl) in
     (p.0 ∙ (write-13-exactly buffer).1 h, p.1 ∙ write-13-leaves _ buffer h)
 
 -- else 0: the image of the monitor begun from the table in the first 1,458 bytes, and any later byte left
 pub begin-0 : (t buffer : List ℕ) → Accepted (table widest t) → image_size ≤ length buffer
     → (begin_number t buffer ≡ 0) × (begin_bytes t buffer ≡ image_of (read_table widest t).monitor ++ drop image_size buffer)
 begin-0 t buffer A h =
-    let p = turned (begin-written t buffer (read_table widest t).decision refl (ap refuses A) _ (writing buffer) refl refl _ refl) in
+    let p = turned (begin-written t buffer (ap refuses A) _ refl _ refl) in
     (p.0 ∙ (write-0-exactly buffer).1 h, p.1 ∙ write-0-fills _ buffer h)
 
 -- ---- circmon_request
@@ -67,7 +67,7 @@ begin-0 t buffer A h =
 -- an image that is refused with n: 128 + n, and every byte left
 pub request-128 : (buffer bytes : List ℕ) → 2 ≤ number (read_image widest buffer).decision
     → (request_number buffer bytes ≡ 128 + number (read_image widest buffer).decision) × (request_bytes buffer bytes ≡ buffer)
-request-128 buffer bytes h = turned (request-refused buffer bytes (read_image widest buffer).decision refl (refusing (read_image widest buffer).decision h) _ refl)
+request-128 buffer bytes h = turned (request-refused buffer bytes (refusing (read_image widest buffer).decision h) _ refl)
 
 -- ---- circmon_replay
 
@@ -129,11 +129,11 @@ replay-0-short t qs short out A h some less room =
 -- image a is refused with n: 128 + n; then image b with n: 192 + n; every byte left
 pub distinguish-128 : (p : Profile) (a b buffer : List ℕ) → 2 ≤ number (read_image p a).decision
     → (distinguish_number p a b buffer ≡ 128 + number (read_image p a).decision) × (distinguish_bytes p a b buffer ≡ buffer)
-distinguish-128 p a b buffer h = turned (first-refused p a b buffer (read_image p a).decision refl (refusing (read_image p a).decision h) _ refl)
+distinguish-128 p a b buffer h = turned (first-refused p a b buffer (refusing (read_image p a).decision h) _ refl)
 
 pub distinguish-192 : (p : Profile) (a b buffer : List ℕ) → Accepted (image p a) → 2 ≤ number (read_image p b).decision
     → (distinguish_number p a b buffer ≡ 192 + number (read_image p b).decision) × (distinguish_bytes p a b buffer ≡ buffer)
-distinguish-192 p a b buffer A h = turned (second-refused p a b buffer (read_image p a).decision refl (ap refuses A) (read_image p b).decision refl (refusing (read_image p b).decision h) _ refl)
+distinguish-192 p a b buffer A h = turned (second-refused p a b buffer (ap refuses A) (refusing (read_image p b).decision h) _ refl)
 
 -- both are accepted, and the buffer has under 24 bytes: 13, and every byte left
 pub distinguish-13 : (p : Profile) (a b buffer : List ℕ) → Accepted (image p a) → Accepted (image p b) → length buffer < 24
@@ -141,7 +141,7 @@ pub distinguish-13 : (p : Profile) (a b buffer : List ℕ) → Accepted (image p
 unfolding told_number told_bytes
 distinguish-13 p a b buffer A B h =
     let qs = distinguish (read_image p a).monitor (read_image p b).monitor in
-    let r = turned (told-apart p a b buffer (read_image p a).decision refl (ap refuses A) (read_image p b).decision refl (ap refuses B) _ _ refl refl _ refl _ refl) in
+    let r = turned (told-apart p a b buffer (ap refuses A) (ap refuses B) _ _ refl refl _ refl _ refl) in
     (r.0 ∙ cond-true (too_short room_of_four buffer) _ _ (short-is room_of_four buffer h), r.1 ∙ filled-short room_of_four (request_size * length qs) (bytes_of qs) buffer h)
 
 -- else the number of requests, which stand in the first bytes, six for each, and any later byte left
@@ -151,5 +151,5 @@ pub distinguish-requests : (p : Profile) (a b buffer : List ℕ) → Accepted (i
 unfolding told_number told_bytes bytes_of
 distinguish-requests p a b buffer A B h =
     let qs = distinguish (read_image p a).monitor (read_image p b).monitor in
-    let r = turned (told-apart p a b buffer (read_image p a).decision refl (ap refuses A) (read_image p b).decision refl (ap refuses B) _ _ refl refl _ refl _ refl) in
+    let r = turned (told-apart p a b buffer (ap refuses A) (ap refuses B) _ _ refl refl _ refl _ refl) in
     (r.0 ∙ cond-false (too_short room_of_four buffer) _ _ (room-is room_of_four buffer h), r.1 ∙ filled-front room_of_four (request_size * length qs) (bytes_of qs) buffer h)

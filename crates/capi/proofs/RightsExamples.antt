@@ -12,7 +12,7 @@ use Rattle.model.specs.declared.Monitor.{Monitor}
 use Rattle.model.specs.declared.Mode.{Mode}
 use Rattle.model.specs.declared.Mode.TheVariants.{Read, Write, Execute}
 use Rattle.model.specs.declared.Request.TheVariants.{Get, Release, Give, Rescind}
-use Rattle.model.specs.declared.Decoded.TheVariants.{Says}
+use Rattle.std.specs.Prelude.{Some}
 use Rattle.model.specs.Tests.{implies, unless}
 use Rattle.model.specs.Levels.{compare, level_dominates, dominates, same_label}
 use Rattle.model.specs.Modes.{has, add, remove}
@@ -84,8 +84,8 @@ unfolding there give-w rescind-w give-e give-e-itself give-a-on release-r replie
 computed = (refl, refl, refl, refl, refl, refl, refl, refl, refl)
 
 -- what the bytes say
-says : (decode widest give-w ≡ Says (Give 1 2 0 Write)) × (decode widest give-e ≡ Says (Give 1 2 0 Execute)) × (decode widest rescind-w ≡ Says (Rescind 1 2 0 Write))
-    × (decode widest release-r ≡ Says (Release 1 1 Read)) × (decode widest read-1 ≡ Says (Get 1 1 Read))
+says : (decode widest give-w ≡ Some (Give 1 2 0 Write)) × (decode widest give-e ≡ Some (Give 1 2 0 Execute)) × (decode widest rescind-w ≡ Some (Rescind 1 2 0 Write))
+    × (decode widest release-r ≡ Some (Release 1 1 Read)) × (decode widest read-1 ≡ Some (Get 1 1 Read))
 unfolding give-w give-e rescind-w release-r read-1 bytes_to_bits to_bits odd from_bits field decode decode_fields fields well_formed fields_formed within mode_allowed unused_zero request parent_within implies
 says = (refl, refl, refl, refl, refl)
 

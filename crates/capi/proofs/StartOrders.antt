@@ -32,7 +32,7 @@ use Rattle.unit.specs.Rows.{Rows, state_in}
 use Rattle.start_order.specs.declared.StartOrder.{StartOrder}
 use Rattle.start_order.specs.declared.StartOrder.TheVariants.{Agree, Clash, NoGet, TooMany}
 use Rattle.start_order.specs.First.{first_below}
-use Rattle.start_order.specs.Answers.{wanted, is_access, alone, breaks, clashes, first_clash, start_order}
+use Rattle.start_order.specs.Answers.{wanted, alone, breaks, clashes, first_clash, start_order}
 use Rattle.start_order.specs.Meaning.{FirstClash, Means, PlacesFit}
 use Rattle.start_order.proofs.Meaning.{answer-exactly}
 use Rattle.start_order.proofs.AnyMonitor.{places-fit}
@@ -108,7 +108,7 @@ unfolding there
 reached-there = reached-left (table widest table_w) table-met (map asks made)
 
 answers-there : (start_order (read-1 ∷ read-1 ∷ append-0 ∷ []) there ≡ Clash 0 2) × (start_order (read-1 ∷ read-1 ∷ []) there ≡ Agree)
-unfolding there table_w table_from table_form label_form label_from table_checks profile_fits absent_beyond levels_inside label_inside begin read_table all_zero cut made read-1 append-0 first_below wanted is_access alone breaks clashes first_clash start_order kept wall_kept bytes_to_bits to_bits odd from_bits field decode decode_fields fields well_formed fields_formed within mode_allowed unused_zero request respond step acted ask checks already changed star_all star_for star_from star_pair wall_all wall_for wall_from wall_pair compatible confined company implies unless answer simple_all not_lowered has add remove same_label dominates level_dominates compare parent_within parent_live label_under labels_rise meets without
+unfolding there table_w table_from table_form label_form label_from table_checks profile_fits absent_beyond levels_inside label_inside begin read_table all_zero cut made read-1 append-0 first_below wanted alone breaks clashes first_clash start_order kept wall_kept bytes_to_bits to_bits odd from_bits field decode decode_fields fields well_formed fields_formed within mode_allowed unused_zero request respond step acted ask checks already changed star_all star_for star_from star_pair wall_all wall_for wall_from wall_pair compatible confined company implies unless answer simple_all not_lowered has add remove same_label dominates level_dominates compare parent_within parent_live label_under labels_rise meets without
 answers-there = (refl, refl)
 
 -- the order of these three gets matters: those at 0 and 2 clash, and not all orders leave equal states

@@ -21,7 +21,7 @@ use asking::ask;
 use beginning::{check_table, write_begun};
 use image::open_widest;
 use images_apart::tell;
-use labels::{number, refuses};
+use labels::number;
 use model::widest;
 use replay::replay;
 use unit::ROWS;
@@ -32,12 +32,10 @@ use writing::save;
 pub extern "C" fn circmon_begin(table: &[u8], image: &mut [u8]) -> u8
     ensures { (result ≡ begin_number table.now image.old) × (image.new ≡ begin_bytes table.now image.old) }
 {
-    let checked = check_table(table);
-    if refuses(checked) {
-        return number(checked);
+    if let Err(refusal) = check_table(table) {
+        return u8::from(refusal);
     }
-    let answer = write_begun(table, image);
-    number(answer)
+    number(write_begun(table, image))
 }
 
 // The number of reading an image.
@@ -46,8 +44,7 @@ pub extern "C" fn circmon_read(image: &[u8]) -> u8
     ensures { result ≡ number (read_image widest image.now).decision }
 {
     let mut unit = [[0u8; 16]; ROWS];
-    let opened = open_widest(&mut unit, image);
-    number(opened)
+    number(open_widest(&mut unit, image))
 }
 
 // One request on the state that the buffer holds as an image; the state after it is written in place.
@@ -56,12 +53,11 @@ pub extern "C" fn circmon_request(image: &mut [u8], bytes: &[u8]) -> u8
     ensures { (result ≡ request_number image.old bytes.now) × (image.new ≡ request_bytes image.old bytes.now) }
 {
     let mut unit = [[0u8; 16]; ROWS];
-    let opened = open_widest(&mut unit, image);
-    if refuses(opened) {
-        return 128 + number(opened);
+    if let Err(refusal) = open_widest(&mut unit, image) {
+        return 128 + u8::from(refusal);
     }
-    let reply = ask(&mut unit, bytes);
-    save(&unit, image);
+    let reply = u8::from(ask(&mut unit, bytes));
+    let _ = save(&unit, image);
     reply
 }
 
@@ -70,8 +66,7 @@ pub extern "C" fn circmon_request(image: &mut [u8], bytes: &[u8]) -> u8
 pub extern "C" fn circmon_replay(table: &[u8], requests: &[u8], replies: &mut [u8]) -> u8
     ensures { (result ≡ number (replay_answer table.now requests.now (length replies.old))) × (replies.new ≡ replayed table.now requests.now replies.old) }
 {
-    let answer = replay(table, requests, replies);
-    number(answer)
+    number(replay(table, requests, replies))
 }
 
 // The requests on which the states of two images reply differently, into the buffer.

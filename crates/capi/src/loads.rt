@@ -4,7 +4,6 @@ ghost use Rattle.model.specs.Decisions.{number};
 ghost use Rattle.test_load.specs.Load.{loading, load_count, loaded};
 ghost use Rattle.numbers.specs.Counts.{with_count};
 
-use labels::number;
 use numbers::with_count;
 use test_load::fill;
 
@@ -13,7 +12,8 @@ use test_load::fill;
 pub extern "C" fn circmon_load(seed: u32, requests: &mut [u8]) -> u64
     ensures { (result ≡ with_count (number (loading seed)) (load_count seed requests.old)) × (requests.new ≡ loaded seed requests.old) }
 {
-    let load = fill(seed, requests);
-    let decision = load.decision;
-    with_count(number(decision), load.count)
+    match fill(seed, requests) {
+        Ok(count) => with_count(0, count),
+        Err(refusal) => with_count(u8::from(refusal), 0),
+    }
 }

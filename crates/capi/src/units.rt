@@ -8,65 +8,58 @@ ghost use Rattle.model.specs.Journal.{taking_back};
 ghost use Rattle.model.specs.Reading.{read_table, read_image};
 ghost use Rattle.model.specs.Writing.{writing, written};
 ghost use Rattle.unit.specs.Rows.{state_in};
-ghost use Rattle.journaled.specs.Units.{said_by, begun_rows, asked_unit, taken_unit};
+ghost use Rattle.journaled.specs.Units.{rows_of, said_by, begun_rows, asked_unit, taken_unit};
 ghost use Rattle.page.specs.Page.{paging, paged};
 
-use journaled::{ROWS, ask, open, start, take_back};
+use journaled::{Unit, ask, open, start, take_back};
 use labels::number;
 use model::widest;
 use writing::save;
 
 // Begins from an image; a refused one leaves the empty monitor in the unit.
 #[unsafe(no_mangle)]
-pub extern "C" fn circmon_open(unit: &mut [[u8; 16]; ROWS], image: &[u8]) -> u8
-    ensures { (result ≡ number (read_image widest image.now).decision) × (unit.new ≡ begun_rows (read_image widest image.now).monitor) }
+pub extern "C" fn circmon_open(unit: &mut Unit, image: &[u8]) -> u8
+    ensures { (result ≡ number (read_image widest image.now).decision) × (rows_of unit.new ≡ begun_rows (read_image widest image.now).monitor) }
 {
-    let opened = open(unit, widest(), image);
-    number(opened)
+    number(open(unit, widest(), image))
 }
 
 // Begins from a table; a refused one leaves the empty monitor in the unit.
 #[unsafe(no_mangle)]
-pub extern "C" fn circmon_start(unit: &mut [[u8; 16]; ROWS], table: &[u8]) -> u8
-    ensures { (result ≡ number (read_table widest table.now).decision) × (unit.new ≡ begun_rows (read_table widest table.now).monitor) }
+pub extern "C" fn circmon_start(unit: &mut Unit, table: &[u8]) -> u8
+    ensures { (result ≡ number (read_table widest table.now).decision) × (rows_of unit.new ≡ begun_rows (read_table widest table.now).monitor) }
 {
-    let started = start(unit, widest(), table);
-    number(started)
+    number(start(unit, widest(), table))
 }
 
 // The reply to a request; the unit is the state after it, and with reply 0 the journal has the record as it was.
 #[unsafe(no_mangle)]
-pub extern "C" fn circmon_ask(unit: &mut [[u8; 16]; ROWS], request: &[u8]) -> u8
-    ensures { (result ≡ reply request.now (state_in unit.old)) × (unit.new ≡ asked_unit request.now unit.old) }
+pub extern "C" fn circmon_ask(unit: &mut Unit, request: &[u8]) -> u8
+    ensures { (result ≡ reply request.now (state_in (rows_of unit.old))) × (rows_of unit.new ≡ asked_unit request.now (rows_of unit.old)) }
 {
     ask(unit, request)
 }
 
 // Takes back the latest request that is still in the journal; an empty journal leaves every byte.
 #[unsafe(no_mangle)]
-pub extern "C" fn circmon_take_back(unit: &mut [[u8; 16]; ROWS]) -> u8
-    ensures { (result ≡ number (taking_back (said_by unit.old).journal)) × (unit.new ≡ taken_unit unit.old) }
+pub extern "C" fn circmon_take_back(unit: &mut Unit) -> u8
+    ensures { (result ≡ number (taking_back (said_by (rows_of unit.old)).journal)) × (rows_of unit.new ≡ taken_unit (rows_of unit.old)) }
 {
-    let taken = take_back(unit);
-    number(taken)
+    number(take_back(unit))
 }
 
 // The image of the state into the buffer.
 #[unsafe(no_mangle)]
-pub extern "C" fn circmon_save(unit: &[[u8; 16]; ROWS], image: &mut [u8]) -> u8
-    ensures { (result ≡ number (writing image.old)) × (image.new ≡ written (state_in unit.now) image.old) }
+pub extern "C" fn circmon_save(unit: &Unit, image: &mut [u8]) -> u8
+    ensures { (result ≡ number (writing image.old)) × (image.new ≡ written (state_in (rows_of unit.now)) image.old) }
 {
-    let rows = &unit[..];
-    let saved = save(&rows[0..unit::ROWS], image);
-    number(saved)
+    number(save(&unit.monitor, image))
 }
 
 // The access page of an object into the buffer.
 #[unsafe(no_mangle)]
-pub extern "C" fn circmon_page(unit: &[[u8; 16]; ROWS], object: u8, page: &mut [u8]) -> u8
-    ensures { (result ≡ number (paging (state_in unit.now) object page.old)) × (page.new ≡ paged (state_in unit.now) object page.old) }
+pub extern "C" fn circmon_page(unit: &Unit, object: u8, page: &mut [u8]) -> u8
+    ensures { (result ≡ number (paging (state_in (rows_of unit.now)) object page.old)) × (page.new ≡ paged (state_in (rows_of unit.now)) object page.old) }
 {
-    let rows = &unit[..];
-    let answer = page::page(&rows[0..unit::ROWS], object, page);
-    number(answer)
+    number(page::page(&unit.monitor, object, page))
 }

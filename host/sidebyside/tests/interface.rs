@@ -148,7 +148,7 @@ fn in_rattle(parameter: &str) -> Vec<Parameter> {
             self::parameter(name, Passed::Bytes { mutable }),
             self::parameter(&format!("{name}_len"), Passed::Length),
         ],
-        Some("[[u8; 16]; ROWS]") => vec![self::parameter(name, Passed::Unit { mutable })],
+        Some("Unit") => vec![self::parameter(name, Passed::Unit { mutable })],
         _ => panic!("crates/capi/src: {parameter}"),
     }
 }

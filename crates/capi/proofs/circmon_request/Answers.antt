@@ -1,13 +1,16 @@
 -- `capi::circmon_request` meets its contract.
 -- Assumes nothing.
-use mathlib.Core.Path.{sym, ◌∙◌}
+use mathlib.Core.Path.{sym, ap, ◌∙◌}
+use Rattle.model.specs.Decisions.{number}
+use Rattle.model.proofs.Checked.{refusal, passes}
 use Rattle.capi.proofs.Boundary.{request-refused, request-carried}
 use Rattle.capi.proofs.circmon_request.Goals as goal
 
-pub returns-then-refuses : goal.returns-then-refuses
-returns-then-refuses c = let opened = c.open_widest-opened in
-    request-refused _ _ opened.result opened.ensures.0 (sym c.refuses.ensures ∙ c.if-refuses.true) _ c.number.ensures
+pub returns-in-Err : goal.returns-in-Err
+returns-in-Err c =
+    let r = refusal _ _ (sym c.open_widest.ensures.0 ∙ c.in-Err.is) in
+    request-refused _ _ r.0 _ (c.from.ensures ∙ ap number r.1)
 
 pub returns : goal.returns
-returns c = let opened = c.open_widest-opened in
-    request-carried _ _ opened.result opened.ensures.0 (sym c.refuses.ensures ∙ c.if-refuses.false) _ opened.ensures.1 _ c.ask-reply.ensures.0 _ c.ask-reply.ensures.1 _ c.save.ensures.1
+returns c =
+    request-carried _ _ (passes _ (sym c.open_widest.ensures.0 ∙ c.in_default.is)) _ c.open_widest.ensures.1 _ (c.from-reply.ensures ∙ c.ask.ensures.0) _ c.ask.ensures.1 _ c.save.ensures.1

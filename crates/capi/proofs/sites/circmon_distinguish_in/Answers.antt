@@ -11,7 +11,7 @@ use Rattle.capi.proofs.sites.circmon_distinguish_in.Goals as goal
 pub returns-then-not-fits : goal.returns-then-not-fits
 unfolding apart_number apart_bytes
 returns-then-not-fits c = let off = ap profile_fits (sym c.site-profile.ensures) ∙ sym c.fits.ensures ∙ c.if-not-fits.true in
-    (c.number.ensures ∙ sym (cond-false _ _ _ off), sym (cond-false _ _ _ off))
+    (c.from.ensures ∙ sym (cond-false _ _ _ off), sym (cond-false _ _ _ off))
 
 pub returns : goal.returns
 unfolding apart_number apart_bytes
