@@ -15,6 +15,6 @@ use start_order::start_order;
 pub extern "C" fn circmon_clash(unit: &Unit, requests: &[u8]) -> u64
     ensures { result ≡ order_number (start_order (pieces requests.now) (state_in (rows_of unit.now))) }
 {
-    let found = start_order(&unit.monitor, requests);
+    let found = start_order(unit.monitor(), requests);
     order_number(found)
 }

@@ -53,7 +53,7 @@ pub extern "C" fn circmon_take_back(unit: &mut Unit) -> u8
 pub extern "C" fn circmon_save(unit: &Unit, image: &mut [u8]) -> u8
     ensures { (result ≡ number (writing image.old)) × (image.new ≡ written (state_in (rows_of unit.now)) image.old) }
 {
-    number(save(&unit.monitor, image))
+    number(save(unit.monitor(), image))
 }
 
 // The access page of an object into the buffer.
@@ -61,5 +61,5 @@ pub extern "C" fn circmon_save(unit: &Unit, image: &mut [u8]) -> u8
 pub extern "C" fn circmon_page(unit: &Unit, object: u8, page: &mut [u8]) -> u8
     ensures { (result ≡ number (paging (state_in (rows_of unit.now)) object page.old)) × (page.new ≡ paged (state_in (rows_of unit.now)) object page.old) }
 {
-    number(page::page(&unit.monitor, object, page))
+    number(page::page(unit.monitor(), object, page))
 }

@@ -20,7 +20,7 @@ unit_rows = row_count + journal_rows
 
 -- the rows of a unit, one behind the other
 abbrev pub rows_of : Unit → Rows
-rows_of u = u.monitor ++ u.journal
+rows_of u = u.rows
 
 abbrev pub monitor_part : Rows → Rows
 monitor_part u = take row_count u

@@ -12,8 +12,9 @@ use model::{Decision, Profile};
 pub fn open(unit: &mut Unit, profile: Profile, image: &[u8]) -> Result<(), Decision>
     ensures { (result ≡ checked (read_image profile image.now).decision) × (rows_of unit.new ≡ begun_rows (read_image profile image.now).monitor) }
 {
-    let opened = image::open(&mut unit.monitor, profile, image);
-    clear(&mut unit.journal);
+    let (monitor, rest) = unit.rows.split_first_chunk_mut().unwrap();
+    let opened = image::open(monitor, profile, image);
+    clear(rest.as_mut_array().unwrap());
     opened
 }
 
@@ -21,7 +22,8 @@ pub fn open(unit: &mut Unit, profile: Profile, image: &[u8]) -> Result<(), Decis
 pub fn start(unit: &mut Unit, profile: Profile, table: &[u8]) -> Result<(), Decision>
     ensures { (result ≡ checked (read_table profile table.now).decision) × (rows_of unit.new ≡ begun_rows (read_table profile table.now).monitor) }
 {
-    let started = image::start(&mut unit.monitor, profile, table);
-    clear(&mut unit.journal);
+    let (monitor, rest) = unit.rows.split_first_chunk_mut().unwrap();
+    let started = image::start(monitor, profile, table);
+    clear(rest.as_mut_array().unwrap());
     started
 }

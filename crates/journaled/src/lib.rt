@@ -4,7 +4,7 @@
 
 mod beginning;
 
-ghost use Rattle.std.specs.Prelude.{◌≡◌, cond, ◌&&◌, ◌<◌};
+ghost use Rattle.std.specs.Prelude.{◌≡◌, cond, ◌&&◌, ◌<◌, ◌++◌};
 ghost use Rattle.model.specs.Decisions.{checked};
 ghost use Rattle.model.specs.Runs.{reply};
 ghost use Rattle.model.specs.Journal.{taking_back};
@@ -13,7 +13,7 @@ ghost use Rattle.model.specs.Hierarchy.{has_child};
 ghost use Rattle.unit.specs.Rows.{objects_in, state_in};
 ghost use Rattle.journal.specs.Ring.{entry_count};
 ghost use Rattle.journal.specs.Stored.{entered_rows, no_entries};
-ghost use Rattle.journaled.specs.Units.{rows_of, said_by, named, deletes, asked_unit, restored_unit, taken_unit};
+ghost use Rattle.journaled.specs.Units.{rows_of, monitor_part, journal_part, said_by, named, deletes, asked_unit, restored_unit, taken_unit};
 
 pub use beginning::{open, start};
 use bits::read_word;
@@ -23,12 +23,30 @@ use journal::{Journal, clear, enter, entry_count, latest_slot, leave, place_in, 
 use model::Decision;
 use unit::{HELD, REST, Rows, set_object};
 
+// Rows of a unit: those of the monitor, and behind them those of its journal.
+pub const ROWS: usize = unit::ROWS + journal::ROWS;
+
 // A unit as it lies in memory that the caller owns, C too. Every content of it is a monitor and a journal.
 #[repr(C)]
 #[derive(Clone, Copy)]
 pub struct Unit {
-    pub monitor: Rows,
-    pub journal: Journal,
+    pub rows: [[u8; 16]; ROWS],
+}
+
+impl Unit {
+    // The rows of the monitor, which stand first.
+    pub fn monitor(&self) -> &Rows
+        ensures { result.now ≡ monitor_part (rows_of self.now) }
+    {
+        self.rows.first_chunk().unwrap()
+    }
+
+    // The rows of the journal, which stand behind them.
+    pub fn journal(&self) -> &Journal
+        ensures { result.now ≡ journal_part (rows_of self.now) }
+    {
+        self.rows.last_chunk().unwrap()
+    }
 }
 
 // The object that a request names. Of bytes that are no request it is some number below 64, and nothing is entered.
@@ -83,42 +101,51 @@ fn enter_request(
     }
 }
 
-// The reply to a byte string of any length and content; the unit is the state after it.
-pub fn ask(unit: &mut Unit, bytes: &[u8]) -> u8
-    ensures { (result ≡ reply bytes.now (state_in (rows_of unit.old))) × (rows_of unit.new ≡ asked_unit bytes.now (rows_of unit.old)) }
+// The reply to a byte string, on the two parts of a unit.
+fn ask_parts(monitor: &mut Rows, journal: &mut Journal, bytes: &[u8]) -> u8
+    ensures { (result ≡ reply bytes.now (state_in (monitor.old ++ journal.old))) × (monitor.new ++ journal.new ≡ asked_unit bytes.now (monitor.old ++ journal.old)) }
 {
     let o = named(bytes);
     let i = o as usize;
-    let rights = unit.monitor[i];
-    let held = unit.monitor[HELD + i];
-    let rest = unit.monitor[REST + i];
-    let took = takes_children(&unit.monitor, bytes, o);
-    let reply = u8::from(asking::ask(&mut unit.monitor, bytes));
+    let rights = monitor[i];
+    let held = monitor[HELD + i];
+    let rest = monitor[REST + i];
+    let took = takes_children(monitor, bytes, o);
+    let reply = u8::from(asking::ask(monitor, bytes));
     if reply == 0 {
-        enter_request(&mut unit.journal, took, o, rights, held, rest);
+        enter_request(journal, took, o, rights, held, rest);
     }
     reply
 }
 
-// The record of the latest entry is restored, and the entry goes; there is one.
-fn restore(unit: &mut Unit)
-    requires nonzero { 0 < entry_count unit.old.journal }
-    ensures { rows_of unit.new ≡ restored_unit (rows_of unit.old) }
+// The reply to a byte string of any length and content; the unit is the state after it.
+pub fn ask(unit: &mut Unit, bytes: &[u8]) -> u8
+    ensures { (result ≡ reply bytes.now (state_in (rows_of unit.old))) × (rows_of unit.new ≡ asked_unit bytes.now (rows_of unit.old)) }
 {
-    let k = latest_slot(&unit.journal);
-    let o = place_in(&unit.journal, k);
-    let was = record_in(&unit.journal, k);
-    set_object(&mut unit.monitor, o, was);
-    leave(&mut unit.journal);
+    let (monitor, rest) = unit.rows.split_first_chunk_mut().unwrap();
+    ask_parts(monitor, rest.as_mut_array().unwrap(), bytes)
+}
+
+// The record of the latest entry is restored, and the entry goes; there is one.
+fn restore(monitor: &mut Rows, journal: &mut Journal)
+    requires nonzero { 0 < entry_count journal.old }
+    ensures { monitor.new ++ journal.new ≡ restored_unit (monitor.old ++ journal.old) }
+{
+    let k = latest_slot(journal);
+    let o = place_in(journal, k);
+    let was = record_in(journal, k);
+    set_object(monitor, o, was);
+    leave(journal);
 }
 
 // Takes back the latest request that is still in the journal; an empty journal leaves every byte.
 pub fn take_back(unit: &mut Unit) -> Result<(), Decision>
     ensures { (result ≡ checked (taking_back (said_by (rows_of unit.old)).journal)) × (rows_of unit.new ≡ taken_unit (rows_of unit.old)) }
 {
-    if entry_count(&unit.journal) == 0 {
+    if entry_count(unit.journal()) == 0 {
         return Err(Decision::EmptyJournal);
     }
-    restore(unit);
+    let (monitor, behind) = unit.rows.split_first_chunk_mut().unwrap();
+    restore(monitor, behind.as_mut_array().unwrap());
     Ok(())
 }

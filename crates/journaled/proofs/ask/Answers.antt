@@ -1,27 +1,16 @@
 -- `journaled::ask` meets its contract.
 -- Assumes nothing.
-use Prim.Native.Nat.{ℕ}
 use mathlib.Core.Path.{ap, ◌∙◌}
-use mathlib.Core.Bool.{cond, ◌&&◌}
-use borrow.Author.Rules.{rules}
-use Rattle.model.specs.Hierarchy.{has_child}
-use Rattle.unit.specs.Rows.{held_row, rest_row, row_at, objects_in}
-use Rattle.journal.specs.Stored.{entered_rows, no_entries}
-use Rattle.journaled.specs.Units.{deletes}
-use Rattle.journaled.proofs.Stored.{asked-0, asked-else}
+use Rattle.std.proofs.lemmas.Option.{MatchOption-at_some}
+use Rattle.model.specs.Runs.{reply}
+use Rattle.unit.specs.Rows.{Rows, state_in}
+use Rattle.journaled.specs.Units.{asked_unit}
+use Rattle.journaled.proofs.Parts.{put-together}
 use Rattle.journaled.proofs.ask.Goals as goal
 
-pub returns-then-reply-eq0 : goal.returns-then-reply-eq0
-returns-then-reply-eq0 c =
-    let m = c.args.unit.now.monitor in
-    let j = c.args.unit.now.journal in
-    let name = c.named-o.ensures.object in
-    let took = c.takes_children-took.result in
-    asked-0 m j (search rules) c.args.bytes.now c.ask.new.unit c.from-reply.result (c.from-reply.ensures ∙ c.ask.ensures.0) c.ask.ensures.1 took c.enter_request.new.journal
-    (c.takes_children-took.ensures ∙ ap (λ (o : ℕ). deletes c.args.bytes.now && has_child (objects_in m) o) name) c.if-reply-eq0.true
-    (c.enter_request.ensures ∙ ap (λ (o : ℕ). cond took no_entries (entered_rows j o (row_at m o) (row_at m (held_row o)) (row_at m (rest_row o)))) name)
-
-pub returns-else-reply-eq0 : goal.returns-else-reply-eq0
-returns-else-reply-eq0 c =
-    let u = c.args.unit.now in
-    asked-else u.monitor u.journal (search rules) c.args.bytes.now _ _ (c.from-reply.ensures ∙ c.ask.ensures.0) c.ask.ensures.1 c.if-reply-eq0.false
+pub returns : goal.returns
+returns c =
+    let first = MatchOption-at_some _ _ _ c.unwrap.ensures c.split_first_chunk_mut.ensures.cases in
+    let behind = MatchOption-at_some _ _ _ c.unwrap-2.ensures c.as_mut_array.ensures.cases in
+    let whole = put-together c.args.unit.now.rows _ _ _ first.0 first.1 behind.same in
+    (c.ask_parts.ensures.0 ∙ ap (λ (u : Rows). reply c.args.bytes.now (state_in u)) whole, c.ask_parts.ensures.1 ∙ ap (asked_unit c.args.bytes.now) whole)

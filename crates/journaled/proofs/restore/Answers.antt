@@ -6,5 +6,4 @@ use Rattle.journaled.proofs.restore.Goals as goal
 
 pub returns : goal.returns
 returns c =
-    let u = c.args.unit.now in
-    restored_by u.monitor u.journal (search rules) _ _ _ c.latest_slot-k.ensures c.place_in-o.ensures c.record_in-was.ensures _ _ c.set_object.ensures c.leave.ensures
+    restored_by c.args.monitor.now c.args.journal.now (search rules) _ _ _ c.latest_slot-k.ensures c.place_in-o.ensures c.record_in-was.ensures _ _ c.set_object.ensures c.leave.ensures
