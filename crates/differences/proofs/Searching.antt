@@ -2,6 +2,7 @@
 -- Assumes nothing.
 use Prim.Native.Nat.{ℕ, zero, suc, ◌+◌, ◌-◌, ◌<◌, ◌≤◌}
 use native.Mathlib.Nat.{not-suc-le-zero, le_of_suc-le-suc, eq-or-lt_of_le}
+use native.Mathlib.Numerals.{add-one}
 use native.Mathlib.Omega.{arith}
 use mathlib.Core.Path.{◌≡◌, refl, sym, subst, ap, ap₂, ◌∙◌}
 use mathlib.Core.Logic.{⊎_elim}
@@ -9,7 +10,7 @@ use mathlib.Core.Bool.{Bool, true, false}
 use mathlib.Core.List.{List, [], ◌∷◌}
 use denote.Param.Members.{Mut}
 use Rattle.std.specs.Prelude.{Option, Some, None}
-use Rattle.std.specs.Option.{MatchOption, option_map, IfSome, IsSomeAnd}
+use Rattle.std.specs.Option.{MatchOption, is_some, option_map, IfSome, IsSomeAnd}
 use Rattle.std.specs.Bool.{IsTrue, then_some}
 use Rattle.std.specs.Fn.{Called}
 use Rattle.std.specs.Iterator.Runs.{Run, SomeRun, AllItemsGive, IsFirstToGive, CallKeepsClosure}
@@ -18,6 +19,7 @@ use Rattle.std.proofs.iter.runs.Sources.{range_runs}
 use Rattle.std.specs.declared.ops.Range.{Range}
 use Rattle.model.specs.declared.Level.{Level}
 use Rattle.model.specs.declared.Request.{Request}
+use Rattle.model.proofs.Tests.{clash}
 use Rattle.telling.specs.Distinguish.{or_else, search, when}
 use Rattle.differences.specs.declared.sequence.Sequence.{Sequence}
 use Rattle.differences.specs.declared.sequence.Sequence.TheVariants.{One, Remaking, Reading}
@@ -58,7 +60,31 @@ or-assoc (q ∷ qs) b c = refl
 
 pub ruleset joined = (or-later, or-assoc)
 
--- ---- along the numbers
+-- ---- along the numbers, for a loop that goes up and stops at the first that has a request
+
+-- one number more has nothing
+pub search-more : (k : ℕ) (f : ℕ → List Request) (q : Option Sequence) → search k f ≡ [] → requests_of q ≡ f k → is_some q ≡ false → search (k + 1) f ≡ []
+unfolding search or_else
+search-more k f None e g w = ap (λ (n : ℕ). search n f) (add-one k) ∙ ap₂ or_else e (sym g)
+search-more k f (Some q) e g w = clash w
+
+-- the first number that has a request
+pub search-first : (n k : ℕ) (f : ℕ → List Request) (q : Option Sequence) → search k f ≡ [] → requests_of q ≡ f k → is_some q ≡ true → k < n
+    → requests_of q ≡ search n f
+unfolding search or_else
+search-first n k f None e g w h = clash (sym w)
+search-first zero k f (Some q) e g w h = absurd (not-suc-le-zero h)
+search-first (suc n) k f (Some q) e g w h =
+    ⊎_elim
+    (λ (p : k ≡ n). g ∙ ap f p ∙ sym (ap (λ (l : List Request). or_else l (f n)) (ap (λ (i : ℕ). search i f) (sym p) ∙ e)))
+    (λ (p : k < n). sym (or-found q (f n)) ∙ ap (λ (l : List Request). or_else l (f n)) (search-first n k f (Some q) e g w p))
+    (eq-or-lt_of_le (le_of_suc-le-suc h))
+
+-- no number has a request
+pub search-end : (n k : ℕ) (f : ℕ → List Request) → search k f ≡ [] → k ≡ n → [] ≡ search n f
+search-end n k f e p = sym e ∙ ap (λ (i : ℕ). search i f) p
+
+-- ---- along the numbers, for a search of the library
 
 module _ (h : ℕ → List Request) where
   none-below : (k : ℕ) → ((j : ℕ) → j < k → [] ≡ h j) → search k h ≡ []

@@ -14,6 +14,7 @@ use Rattle.model.specs.Modes.{has}
 use Rattle.model.specs.State.{subject_count, object_count, clearance_at, object_at, object}
 use Rattle.telling.specs.Distinguish.{by_comparison, or_else, search, search_modes, when, differ, by_parent, to_label, free_below}
 use Rattle.differences.specs.declared.sequence.Place.{Place}
+use Rattle.differences.specs.declared.sequence.Slot.{Slot}
 use Rattle.differences.specs.declared.sequence.Sequence.TheVariants.{Reading}
 use Rattle.differences.specs.Sequences.{requests_in}
 
@@ -84,12 +85,15 @@ enrolments_apart a b = search subject_count (λ s. enrolment_apart s (clearance_
 abbrev pub owner_there : Object → Option ℕ
 owner_there o = then_some o.live o.owner
 
--- where an object is created: in the last free place that is in use, or in that of object 0
-unfoldable pub free_place : Monitor → Place
+-- where an object is created: in the last free place that is in use, or in that of object 0; and the owner in its record
+unfoldable pub free_place : Monitor → Slot
 free_place m =
     record {
-      object = free_below object_count m;
-      owner = owner_there (object m (free_below object_count m));
+      place = record {
+        object = free_below object_count m;
+        owner = owner_there (object m (free_below object_count m));
+      };
+      recorded = (object m (free_below object_count m)).owner;
     }
 
 -- two levels: s reads at the one that the other does not dominate

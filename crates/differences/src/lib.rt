@@ -11,5 +11,5 @@ mod subjects;
 
 pub use objects::{objects_apart, standings_apart};
 pub use parents::parents_apart;
-pub use sequence::{Place, Sequence};
+pub use sequence::{Place, Sequence, Slot};
 pub use subjects::{clearances_apart, enrolments_apart, free_place};

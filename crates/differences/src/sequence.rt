@@ -8,6 +8,14 @@ pub struct Place {
     pub owner: Option<u8>,
 }
 
+// A place, and the owner that the record of its object says, live or not. It stands beside the place, since the requests of a sequence do not
+// show it (`requests-determine`).
+#[derive(Clone, Copy)]
+pub struct Slot {
+    pub place: Place,
+    pub recorded: u8,
+}
+
 // Remaking: the owner of an object deletes it and creates another. Reading: the subject creates the object of the place, gives it the level
 // and asks to read it.
 #[derive(Clone, Copy)]

@@ -4,7 +4,7 @@ ghost use Rattle.unit.specs.Rows.{subjects_in, state_in};
 ghost use Rattle.differences.specs.Sequences.{requests_of};
 ghost use Rattle.differences.specs.Records.{enrolment_apart, enrolments_apart, free_place, level_apart, clearance_apart, clearances_apart};
 
-use crate::sequence::{Place, Sequence};
+use crate::sequence::{Place, Sequence, Slot};
 use labels::{compare, is_present};
 use model::{Comparison, Label, Level, Monitor, Request};
 use unit::{Rows, clearance_of, is_live, owner_of, profile_of};
@@ -27,16 +27,18 @@ pub fn enrolments_apart(a: &Rows, b: &Rows) -> Option<Sequence>
 }
 
 // The last object that is in use and not live; where there is none, object 0, which its owner can delete.
-pub fn free_place(unit: &Rows) -> Place
+pub fn free_place(unit: &Rows) -> Slot
     ensures { result ≡ free_place (state_in unit.now) }
 {
     let in_use = profile_of(unit).objects;
     let free = (0..Monitor::OBJECTS as u8).rfind(|o| !is_live(unit, *o) & (*o < in_use));
     let object = free.unwrap_or(0);
-    Place {
+    let place = Place {
         object,
         owner: is_live(unit, object).then_some(owner_of(unit, object)),
-    }
+    };
+    let recorded = owner_of(unit, object);
+    Slot { place, recorded }
 }
 
 // s reads at a level that the other one does not dominate, if there is one.

@@ -35,11 +35,11 @@ room-part : (live : Bool) (owner o : ℕ) (l : List Request) → cond live (Dele
 room-part true owner o l = refl
 room-part false owner o l = refl
 
-reading-part : (m : Monitor) (s : ℕ) (l : Level) → read_at m (free_below 64 m) s l ≡ requests_in (Reading (free_place m) s l)
+reading-part : (m : Monitor) (s : ℕ) (l : Level) → read_at m (free_below 64 m) s l ≡ requests_in (Reading (free_place m).place s l)
 unfolding read_at free_place
 reading-part m s l = room-part (object m (free_below 64 m)).live (object m (free_below 64 m)).owner (free_below 64 m) (reading_of s (free_below 64 m) l)
 
-clearance-part : (m : Monitor) (s : ℕ) (a b : Label) → to_clearance m s a b ≡ clearance_apart (free_place m) s a b
+clearance-part : (m : Monitor) (s : ℕ) (a b : Label) → to_clearance m s a b ≡ clearance_apart (free_place m).place s a b
 unfolding to_clearance clearance_apart level_apart
 clearance-part m s None b = refl
 clearance-part m s (Some a) None = refl
@@ -59,9 +59,9 @@ standing_parts m n = refl
 
 -- then the rest of the objects, then the clearances
 pub distinguish_parts : (m n : Monitor)
-    → distinguish m n ≡ or_else (by_standing m n) (or_else (objects_apart m.objects n.objects) (clearances_apart (free_place m) m.subjects n.subjects))
+    → distinguish m n ≡ or_else (by_standing m n) (or_else (objects_apart m.objects n.objects) (clearances_apart (free_place m).place m.subjects n.subjects))
 unfolding distinguish objects_apart clearances_apart by_clearance
 distinguish_parts m n =
     ap₂ (λ (a b : List Request). or_else (by_standing m n) (or_else a b))
     (search-same 64 (by_object m n) (λ o. object_apart o (object m o) (object n o)) (object-part m n))
-    (search-same 16 (by_clearance m n) (λ s. clearance_apart (free_place m) s (clearance m s) (clearance n s)) (λ s. clearance-part m s (clearance m s) (clearance n s)))
+    (search-same 16 (by_clearance m n) (λ s. clearance_apart (free_place m).place s (clearance m s) (clearance n s)) (λ s. clearance-part m s (clearance m s) (clearance n s)))

@@ -44,7 +44,7 @@ fn sequence_of(a: &Rows, b: &Rows) -> Option<Sequence>
 {
     standing_of(a, b)
         .or_else(|| objects_apart(a, b))
-        .or_else(|| clearances_apart(free_place(a), a, b))
+        .or_else(|| clearances_apart(free_place(a).place, a, b))
 }
 
 // ---- the requests, written one behind the other

@@ -28,12 +28,13 @@ fn label_word(label: Label) -> u32
     }
 }
 
-// Where a stream of bits stands in a lent buffer, and the bits that wait there for their byte to be full.
+// Where a stream of bits stands in a lent buffer, and the bits that wait there for their byte to be full. The caller may set each of these, and
+// read what is left of them: so a record can be written at any bit, behind bits that wait.
 #[derive(Drop)]
 pub struct BitWriter<'a> {
-    out: &'a mut [u8],
-    at: usize,
-    waiting: u32,
+    pub out: &'a mut [u8],
+    pub at: usize,
+    pub waiting: u32,
 }
 
 impl<'a> BitWriter<'a> {

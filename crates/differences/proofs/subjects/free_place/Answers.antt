@@ -25,9 +25,14 @@ pub owner_of-requires : goal.owner_of-requires
 owner_of-requires c = let o = is-last (goal.at.owner_of-requires c).After-unwrap_or-object in
     record { o_lt_object_count = omega (arith, o, free-within (state_in c.args.unit.now) 63) }
 
+pub owner_of-recorded-requires : goal.owner_of-recorded-requires
+owner_of-recorded-requires c = let o = is-last (goal.at.owner_of-recorded-requires c).After-unwrap_or-object in
+    record { o_lt_object_count = omega (arith, o, free-within (state_in c.args.unit.now) 63) }
+
 pub returns : goal.returns
 unfolding free_place
 returns c = let m = state_in c.args.unit.now in
     let o = is-last (goal.at.returns c).After-unwrap_or-object in
     let owner = c.then_some.ensures ∙ ap₂ then_some c.is_live.ensures c.owner_of.ensures ∙ ap (λ (k : ℕ). owner_there (object m k)) o in
-    λ i. record { object = o i; owner = owner i }
+    let recorded = c.owner_of-recorded.ensures ∙ ap (λ (k : ℕ). (object m k).owner) o in
+    λ i. record { place = record { object = o i; owner = owner i }; recorded = recorded i }
