@@ -107,14 +107,22 @@ pub fn set_rights(unit: &mut Rows, o: u8, s: u8, n: u8)
     requires o_lt_object_count { (o < object_count) × (s < subject_count) }
     ensures { unit.new ≡ set_rights unit.old o s n }
 {
-    unit[o as usize][s as usize] = n;
+    // Kept: the row is taken out, changed and stored back, the form that is asked for.
+    let i = o as usize;
+    let mut rights = unit[i];
+    rights[s as usize] = n;
+    unit[i] = rights;
 }
 
 pub fn set_held(unit: &mut Rows, o: u8, s: u8, n: u8)
     requires o_lt_object_count { (o < object_count) × (s < subject_count) }
     ensures { unit.new ≡ set_held unit.old o s n }
 {
-    unit[HELD + o as usize][s as usize] = n;
+    // Kept: the row is taken out, changed and stored back, the form that is asked for.
+    let i = HELD + o as usize;
+    let mut held = unit[i];
+    held[s as usize] = n;
+    unit[i] = held;
 }
 
 // The row of an object that has all but its sets, as it stands; a refused change of its label or of its company numbers puts it back.
