@@ -62,14 +62,17 @@ pub fn pair_offends(unit: &Rows, read: &[u8], altered: &[u8]) -> bool
     requires numbers { Numbers read.now × Numbers altered.now }
     ensures { result ≡ not (pairs_kept (object_at (objects_in unit.now)) read.now altered.now) }
 {
-    for &p in read {
+    // Kept: nested loops, left from inside by a label, the form that is asked for.
+    let mut offends = false;
+    'pairs: for &p in read {
         let below = label_of(unit, p);
         for &q in altered {
             let above = label_of(unit, q);
             if !dominates(above, below) {
-                return true;
+                offends = true;
+                break 'pairs;
             }
         }
     }
-    false
+    offends
 }
