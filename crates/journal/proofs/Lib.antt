@@ -2,3 +2,4 @@
 pub mod Entries
 pub mod Journals
 pub mod RingExamples
+pub mod Steps
