@@ -1,6 +1,7 @@
 // Tables under a profile of 4 subjects, 10 objects, class 3 and the needs 0 and 1. The comment behind each has the number that the text
 // gives it, and why.
 ghost use Rattle.std.specs.Prelude.{◌≡◌};
+ghost use Rattle.model.specs.Profiles.{site};
 ghost use Rattle.edges_profile.specs.Tables.{with_bytes};
 
 use model::Profile;
@@ -9,7 +10,9 @@ use saying::{Output, answer};
 use unit::ROWS;
 
 // The profile of these edges.
-pub fn narrow() -> Profile {
+pub fn narrow() -> Profile
+    ensures { result ≡ site 4 10 3 3 }
+{
     site(4, 10, 3, 3)
 }
 
