@@ -100,6 +100,16 @@ module _ (b : List ℕ) (accepted : checked (read_table widest b).decision ≡ O
       writing-done (read_table widest b).monitor buffer last h (f ∙ put-front buffer image ∙ ap₂ (λ (x y : List ℕ). x ++ y) first behind)
 
 -- checks 10 and 11, of what was read of the table
+decided : (b : Bool) (x y : TableRead) → unless b WrongLength (unless (cond b x y).formed StrayBits Granted) ≡ unless b WrongLength (unless x.formed StrayBits Granted)
+unfolding unless
+decided true x y = refl
+decided false x y = refl
+
+pub checks-decision : (s : List ℕ) → unless (eqb (length s) table_size) WrongLength (unless (subjects_read s).formed StrayBits Granted) ≡ (read_table widest s).decision
+unfolding base_table subjects_read
+checks-decision s = decided (eqb (length s) table_size) _ _ ∙ sym (answer s)
+
+-- and as what the code answers
 either : (b : Bool) (x y : TableRead) → cond b (cond (cond b x y).formed (Ok tt) (Err StrayBits)) (Err WrongLength) ≡ checked (unless b WrongLength (unless x.formed StrayBits Granted))
 unfolding checked unless
 either true x y = split x.formed (λ t. rw t) (λ f. rw f)

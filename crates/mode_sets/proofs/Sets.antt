@@ -28,6 +28,10 @@ pub remove-and : (x : Mode) (n : ℕ) → n < 256 → bit_and n (255 - weight x)
 unfolding has remove
 remove-and x n h = eqb-true _ _ (bytes (λ x n. eqb (bit_and n (255 - weight x)) (remove x n)) refl x n h)
 
+pub remove-minus : (x : Mode) (n : ℕ) → n < 256 → n - bit_and n (weight x) ≡ remove x n
+unfolding has remove
+remove-minus x n h = eqb-true _ _ (bytes (λ x n. eqb (n - bit_and n (weight x)) (remove x n)) refl x n h)
+
 -- a test at each byte that some modes are in the set
 pub some-and : (k : ℕ) (f : ℕ → Bool) → all_below 256 (λ n. beq (not (eqb (bit_and n k) 0)) (f n)) ≡ true
     → (n : ℕ) → n < 256 → not (eqb (bit_and n k) 0) ≡ f n

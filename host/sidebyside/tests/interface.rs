@@ -193,6 +193,14 @@ fn header_and_bindings_declare_what_the_library_has() {
     assert_eq!(passed(&header), passed(&library), "include/circmon.h beside crates/capi/src");
 }
 
+/// A reference to a unit passes as one pointer to the rows, as the header has it: the struct is one array of them, laid out as C does.
+#[test]
+fn a_unit_of_the_library_is_one_array_of_rows() {
+    let text = plain(&read("crates/journaled/src/lib.rt"), &[("//", "\n")]);
+    let unit = "#[repr(C)] #[derive(Clone, Copy)] pub struct Unit { pub rows: [[u8; 16]; ROWS], }";
+    assert_eq!(text.matches(unit).count(), 1);
+}
+
 #[test]
 fn the_archive_defines_these_functions_and_no_others() {
     let output = Command::new("nm").args(["--extern-only", "--defined-only", circmon::ARCHIVE]).output().unwrap();
