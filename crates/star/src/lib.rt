@@ -11,7 +11,7 @@ ghost use Rattle.star.specs.Idle.{nothing_held, idle};
 ghost use Rattle.model.specs.State.{subject_count, object_count, object, object_at};
 ghost use Rattle.model.specs.Rules.{star_for};
 ghost use Rattle.unit.specs.Rows.{subjects_in, objects_in, state_in};
-ghost use Rattle.star.specs.Lists.{Covers, busy_for, Listed, itself};
+ghost use Rattle.star.specs.Lists.{Covers};
 
 use crate::lists::{list_held, pair_offends};
 use labels::{dominates, implies};
@@ -56,27 +56,13 @@ fn subject_breaks_star(unit: &Rows, s: u8, busy: &[u8]) -> bool
     pair_offends(unit, held.read, held.altered)
 }
 
-// The objects that are not idle for the subjects from low to below end. Kept apart from what looks at the list: in one function the compiler has
-// the sixteen sets of a row tested in twice as many steps.
-#[inline(never)]
-fn list_busy<'a>(
-    unit: &Rows,
-    low: usize,
-    end: usize,
-    room: &'a mut [u8; Monitor::OBJECTS],
-) -> &'a [u8]
-    ensures { Listed (busy_for low end (object_at (objects_in unit.now))) itself result.now object_count }
-{
-    list_where(room, |o| !idle(unit, o, low, end))
-}
-
 // Whether a subject from low to below high breaks the star property. The objects that are not idle are listed once for all of them.
 pub fn breaks_star(unit: &Rows, low: usize, high: usize) -> bool
     requires high_le_subject_count { high ≤ subject_count }
     ensures { result ≡ not (star_between low high (objects_in unit.now)) }
 {
     let mut room = [0u8; Monitor::OBJECTS];
-    let busy = list_busy(unit, low, high, &mut room);
+    let busy = list_where(&mut room, |o| !idle(unit, o, low, high));
     (low..high).any(|s| subject_breaks_star(unit, s as u8, busy))
 }
 

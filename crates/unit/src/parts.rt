@@ -103,6 +103,8 @@ pub fn held_row(unit: &Rows, o: u8) -> [u8; 16]
     unit[HELD + o as usize]
 }
 
+// Not inlined: its row would stand on the stack of the whole of `asking::ask`.
+#[inline(never)]
 pub fn set_rights(unit: &mut Rows, o: u8, s: u8, n: u8)
     requires o_lt_object_count { (o < object_count) × (s < subject_count) }
     ensures { unit.new ≡ set_rights unit.old o s n }

@@ -14,7 +14,7 @@ use Rattle.star.proofs.breaks_star.Goals as goal
 pub any-requires-clause-callable : goal.any-requires-clause-callable
 any-requires-clause-callable c = let a = c.args in
     let few = c.requires.high_le_subject_count in
-    let busy = c.list_busy-busy.ensures in
+    let busy = c.list_where-busy.ensures (busy_for a.low a.high (object_at (objects_in a.unit.now))) (λ o h r p. search (rules, tests)) in
     serves_from_Range (λ s q k. search (rules, tests))
     (λ s g h. (λ _ _ _ _ _. omega (arith, h, few), λ _ _ _ _ _ _ _ _. (omega (arith, h, few), busy-covers a.low a.high s g h few _ _ busy)))
 

@@ -1,8 +1,8 @@
 -- `star::lists::list_where` meets its contract.
 -- Assumes nothing.
-use Rattle.std.proofs.Common.{arith, ap, ◌∙◌, ◌≡◌, subst}
+use Rattle.std.proofs.Common.{arith, ap, sym, ◌∙◌, ◌≡◌, subst, take}
 use Rattle.bits.specs.Bits.{bit}
-use Rattle.star.specs.Lists.{itself}
+use Rattle.star.specs.Lists.{itself, Listed}
 use Rattle.star.proofs.Listed.{Counted, counted-none, counted_more, listed-front, from-bit, bit-small}
 use Rattle.star.proofs.lists.list_where.Goals as goal
 
@@ -19,4 +19,6 @@ loop-o-preserved g c = let inv = c.loop-o.invariant in
 pub returns : goal.returns
 returns g c = let inv = c.loop-o.invariant in
     let end : c.loop-o.o ≡ 64 = omega (arith, c.loop-o-test.false, c.loop-o.auto.o-end) in
-    λ f h. listed-front f itself c.loop-o.room c.loop-o.count 64 (omega arith) (subst (Counted f itself c.loop-o.room c.loop-o.count) end (inv.1 f h))
+    let same : c.min.result ≡ c.loop-o.count = c.min.ensures ∙ omega (arith, inv.0, end) in
+    λ f h. subst (λ k. Listed f itself (take k c.loop-o.room) 64) (sym same)
+    (listed-front f itself c.loop-o.room c.loop-o.count 64 (omega arith) (subst (Counted f itself c.loop-o.room c.loop-o.count) end (inv.1 f h)))
